@@ -1,0 +1,94 @@
+-- The tokens of a text (PDDL 2.1, Fox and Long 2003, appendix A), and its first bad byte.
+
+use Rattle.std.specs.Prelude.{◌≡◌, ℕ, ◌+◌, ◌^◌, ◌<◌, List, [], ◌∷◌, ◌++◌, Option, Some, None, Result, Ok, Err, take}
+use Rattle.std.specs.List.{prefix_len}
+use Rattle.pddl_tokens.specs.declared.bytes.ByteClass.{ByteClass}
+use Rattle.pddl_tokens.specs.declared.bytes.ByteClass.TheVariants as c
+use Rattle.pddl_tokens.specs.declared.spans.Span.{Span}
+use Rattle.pddl_tokens.specs.declared.spans.Token.{Token}
+use Rattle.pddl_tokens.specs.declared.spans.TokenKind.{TokenKind}
+use Rattle.pddl_tokens.specs.declared.spans.TokenKind.TheVariants.{Left, Right, Word}
+use Rattle.pddl_tokens.specs.declared.spans.TextFault.{TextFault}
+use Rattle.pddl_tokens.specs.declared.spans.TextFault.TheVariants.{TooLong, BadByte}
+use Rattle.pddl_tokens.specs.Bytes.{class_of, is_word_byte}
+
+-- what stands in a text: a token with its bytes, or the first bad byte, behind which nothing is read
+pub data Piece : Type 0 where
+  token : TokenKind → Span → List ℕ → Piece
+  bad : ℕ → Piece
+
+-- where one is in a text: between tokens, in a word, in a comment, or behind the first bad byte
+pub data Place : Type 0 where
+  between : Place
+  in_word : Place
+  in_comment : Place
+  stopped : Place
+
+-- the half-open range from `start` to `end`
+abbrev pub span : ℕ → ℕ → Span
+span start end = record { start = start; end = end }
+
+-- where one is behind a byte outside comments
+abbrev pub place_behind : ByteClass → Place
+place_behind c.WordByte = in_word
+place_behind c.Semicolon = in_comment
+place_behind c.Bad = stopped
+place_behind _ = between
+
+-- a comment ends behind its line's LF
+abbrev pub comment_behind : ByteClass → Place
+comment_behind c.LineEnd = between
+comment_behind _ = in_comment
+
+-- where one is behind a byte
+abbrev pub place_after : Place → ByteClass → Place
+place_after between class = place_behind class
+place_after in_word class = place_behind class
+place_after in_comment class = comment_behind class
+place_after stopped class = stopped
+
+-- the word at the front of the bytes, which are not behind a byte of a word: the longest run of bytes of words
+abbrev pub word_at : ℕ → List ℕ → Piece
+word_at at bytes =
+    let n = prefix_len is_word_byte bytes in
+    token Word (span at (at + n)) (take n bytes)
+
+-- the piece other than a word that the first byte makes outside comments, if it makes one
+abbrev pub mark_at : ByteClass → ℕ → List ℕ → List Piece
+mark_at c.Left at bytes = token Left (span at (at + 1)) (take 1 bytes) ∷ []
+mark_at c.Right at bytes = token Right (span at (at + 1)) (take 1 bytes) ∷ []
+mark_at c.Bad at bytes = bad at ∷ []
+mark_at _ at bytes = []
+
+-- the piece that the first byte begins between tokens, if it begins one
+abbrev pub piece_at : ByteClass → ℕ → List ℕ → List Piece
+piece_at c.WordByte at bytes = word_at at bytes ∷ []
+piece_at class at bytes = mark_at class at bytes
+
+-- the piece that begins with the first byte at a place, if one does
+abbrev pub begins : Place → ByteClass → ℕ → List ℕ → List Piece
+begins between class at bytes = piece_at class at bytes
+begins in_word class at bytes = mark_at class at bytes
+begins in_comment class at bytes = []
+begins stopped class at bytes = []
+
+-- the pieces of the bytes, which stand at `at` in their text, at that place
+unfoldable pub pieces_from : Place → ℕ → List ℕ → List Piece
+pieces_from place at [] = []
+pieces_from place at (b ∷ bytes) =
+    begins place (class_of b) at (b ∷ bytes) ++ pieces_from (place_after place (class_of b)) (at + 1) bytes
+
+-- the tokens of a text in order, and behind them its first bad byte outside comments where there is one
+unfoldable pub pieces : List ℕ → List Piece
+pieces text = pieces_from between 0 text
+
+-- a token as a piece
+abbrev pub piece_of : Token → Piece
+piece_of t = token t.kind t.span t.text.now
+
+-- what one step of a cursor answers, where `old` and `new` are the pieces still to come before and after it
+abbrev pub Takes : Result (Option Token) TextFault → List Piece → List Piece → Type 0
+Takes (Ok (Some t)) old new = old ≡ piece_of t ∷ new
+Takes (Ok None) old new = (old ≡ []) × (new ≡ [])
+Takes (Err (BadByte at)) old new = (old ≡ bad at ∷ []) × (new ≡ old) × (at < 2 ^ 31)
+Takes (Err TooLong) old new = ⊥

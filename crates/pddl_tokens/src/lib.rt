@@ -1,0 +1,19 @@
+//! The tokens of PDDL texts: bytes come in, and words and parentheses go out as slices of the text, with their places.
+//!
+//! A `Cursor` walks over the text once and takes no memory. What a word stands for is asked of `word_kind`, and the line of a
+//! place of `line_of`.
+#![tactic(auto)]
+
+mod bytes;
+pub mod laws;
+mod lines;
+mod scan;
+mod spans;
+
+pub use lines::line_of;
+pub use pddl_words::{WordKind, same_folded, word_kind};
+pub use scan::Cursor;
+pub use spans::{Span, TextFault, Token, TokenKind};
+
+#[cfg(test)]
+mod tests;

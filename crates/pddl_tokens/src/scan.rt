@@ -1,0 +1,158 @@
+//! The cursor over the tokens of a text.
+
+ghost use Rattle.std.specs.Prelude.{◌≡◌, ◌+◌, ◌<◌, ◌≤◌, ◌^◌, length, drop, IfOk, IfErr};
+ghost use Rattle.std.specs.List.{prefix_len};
+ghost use Rattle.pddl_tokens.specs.Bytes.{is_word_byte, is_comment_byte};
+ghost use Rattle.pddl_tokens.specs.Front.{IsFront};
+
+use crate::bytes::{ByteClass, class_of, is_comment_byte, is_word_byte};
+use crate::spans::{Span, TextFault, Token, TokenKind};
+use std::marker::Model;
+
+/// A walk over the tokens of a text, one pass over its bytes. A contract sees it as the pieces that are still to come.
+#[derive(Debug, Drop)]
+pub struct Cursor<'a> {
+    text: &'a [u8],
+    at: usize,
+}
+
+impl<'a> Model for Cursor<'a> {
+    ghost use Rattle.std.specs.Prelude.{List, ◌≤◌, ◌<◌, ◌^◌, length, drop};
+    ghost use Rattle.pddl_tokens.specs.Tokens.{Piece, pieces_from, between};
+
+    ghost Value = { List Piece };
+
+    ghost view = { λ c. pieces_from between c.at (drop c.at c.text.now) };
+
+    ghost invariant = { λ c. (c.at ≤ length c.text.now) × (length c.text.now < 2 ^ 31) };
+}
+
+impl<'a> Cursor<'a> {
+    ghost use Rattle.pddl_tokens.specs.Tokens.{pieces, Takes};
+
+    /// A cursor at the start of a text.
+    #[tactic(auto, unfolding(crate::specs::Tokens::pieces))]
+    pub fn new(text: &'a [u8]) -> Result<Self, TextFault>
+        ensures ok { IfOk result (λ c. (length text.now < 2 ^ 31) × (c ≡ pieces text.now)) }
+        ensures err { IfErr result (λ e. (2 ^ 31 ≤ length text.now) × (e ≡ TextFault.TooLong)) }
+    {
+        if text.len() < 1 << 31 {
+            Ok(Cursor { text, at: 0 })
+        } else {
+            Err(TextFault::TooLong)
+        }
+    }
+
+    /// The next token, or `None` where none follows.
+    ///
+    /// At a bad byte the same fault comes at each further call, and at the end `None` does.
+    pub fn next(&mut self) -> Result<Option<Token<'a>>, TextFault>
+        ensures { Takes result self.old self.new }
+    {
+        match first_from(self.text, self.at) {
+            Front::End => Ok(None),
+            Front::Bad { at } => Err(TextFault::BadByte { at: at as u32 }),
+            Front::Token { kind, start, end } => {
+                self.at = end;
+                Ok(Some(Token {
+                    kind,
+                    span: Span {
+                        start: start as u32,
+                        end: end as u32,
+                    },
+                    text: &self.text[start..end],
+                }))
+            }
+        }
+    }
+}
+
+/// What comes first in the rest of a text.
+#[derive(Clone, Copy)]
+enum Front {
+    End,
+    Bad {
+        at: usize,
+    },
+    Token {
+        kind: TokenKind,
+        start: usize,
+        end: usize,
+    },
+}
+
+/// What comes first in a text from `at` on, blanks and comments aside.
+fn first_from(text: &[u8], mut at: usize) -> Front
+    requires { at ≤ length text.now }
+    ensures { IsFront result text.now at }
+{
+    'skipping: loop {
+        if at == text.len() {
+            return Front::End;
+        }
+        match class_of(text[at]) {
+            ByteClass::LineEnd => at += 1,
+            ByteClass::Blank => at += 1,
+            ByteClass::Semicolon => at += comment_len(text, at),
+            ByteClass::Left => {
+                return Front::Token {
+                    kind: TokenKind::Left,
+                    start: at,
+                    end: at + 1,
+                };
+            }
+            ByteClass::Right => {
+                return Front::Token {
+                    kind: TokenKind::Right,
+                    start: at,
+                    end: at + 1,
+                };
+            }
+            ByteClass::WordByte => {
+                let end = at + word_len(text, at);
+                return Front::Token {
+                    kind: TokenKind::Word,
+                    start: at,
+                    end,
+                };
+            }
+            ByteClass::Bad => return Front::Bad { at },
+        }
+    }
+}
+
+/// How many bytes from `start` on belong to words, up to the first that does not.
+#[tactic(auto, using(crate::proofs::Steps::rest_whole))]
+fn word_len(text: &[u8], start: usize) -> usize
+    requires { start ≤ length text.now }
+    ensures run { result ≡ prefix_len is_word_byte (drop start text.now) }
+    ensures within { start + result ≤ length text.now }
+{
+    word_run(&text[start..])
+}
+
+/// How many bytes from `start` on stand before the next LF, or before the end.
+#[tactic(auto, using(crate::proofs::Steps::rest_whole))]
+fn comment_len(text: &[u8], start: usize) -> usize
+    requires { start ≤ length text.now }
+    ensures run { result ≡ prefix_len is_comment_byte (drop start text.now) }
+    ensures within { start + result ≤ length text.now }
+{
+    comment_run(&text[start..])
+}
+
+/// How many bytes at the front belong to words.
+fn word_run(bytes: &[u8]) -> usize
+    ensures run { result ≡ prefix_len is_word_byte bytes.now }
+    ensures within { result ≤ length bytes.now }
+{
+    bytes.iter().take_while(|b| is_word_byte(**b)).count()
+}
+
+/// How many bytes at the front stand before the first LF.
+fn comment_run(bytes: &[u8]) -> usize
+    ensures run { result ≡ prefix_len is_comment_byte bytes.now }
+    ensures within { result ≤ length bytes.now }
+{
+    bytes.iter().take_while(|b| is_comment_byte(**b)).count()
+}

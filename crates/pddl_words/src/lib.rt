@@ -1,0 +1,86 @@
+//! The words of PDDL: what kind of word a run of bytes is, and when two words are the same.
+//!
+//! A word comes as the bytes that stand in the text, unfolded. Nothing here takes memory.
+#![tactic(auto)]
+
+ghost use Rattle.std.specs.Prelude.{◌≡◌};
+ghost use Rattle.pddl_words.specs.Words.{is_name, is_name_byte};
+ghost use Rattle.pddl_words.specs.Kinds.{kind_of_word, is_marked_name, is_same_word};
+ghost use Rattle.std.specs.List.{list_all};
+
+/// What a word may stand for, judged by its spelling alone.
+#[derive(Clone, Copy, Debug, PartialEq, Eq)]
+pub enum WordKind {
+    /// A letter, then letters, digits, `-` and `_`.
+    Name,
+    /// `?` and a name.
+    Variable,
+    /// `:` and a name.
+    Keyword,
+    /// The word `-`, which stands before a type.
+    Dash,
+    /// Any other word, as a number or `=`.
+    Other,
+}
+
+/// The kind of a word, in one pass over its bytes. Upper and lower case are alike.
+///
+/// Names are those of PDDL 2.1 (Fox and Long 2003, appendix A).
+#[tactic(auto, unfolding(crate::specs::Kinds::kind_of_word))]
+pub fn word_kind(word: &[u8]) -> WordKind
+    ensures { result ≡ kind_of_word word.now }
+{
+    if is_name(word) {
+        WordKind::Name
+    } else if is_marked_name(b'?', word) {
+        WordKind::Variable
+    } else if is_marked_name(b':', word) {
+        WordKind::Keyword
+    } else if word == b"-".as_slice() {
+        WordKind::Dash
+    } else {
+        WordKind::Other
+    }
+}
+
+/// Whether two words are the same when case is not told apart, as in all of PDDL.
+pub fn same_folded(a: &[u8], b: &[u8]) -> bool
+    ensures { result ≡ is_same_word a.now b.now }
+{
+    a.eq_ignore_ascii_case(b)
+}
+
+/// Whether the bytes are a mark and then a name.
+fn is_marked_name(mark: u8, bytes: &[u8]) -> bool
+    ensures { result ≡ is_marked_name mark bytes.now }
+{
+    match bytes.split_first() {
+        Some((first, name)) if *first == mark => is_name(name),
+        _ => false,
+    }
+}
+
+#[tactic(auto, unfolding(crate::specs::Words::is_name))]
+fn is_name(bytes: &[u8]) -> bool
+    ensures { result ≡ is_name bytes.now }
+{
+    match bytes.split_first() {
+        Some((first, others)) if first.is_ascii_alphabetic() => are_name_bytes(others),
+        _ => false,
+    }
+}
+
+fn are_name_bytes(bytes: &[u8]) -> bool
+    ensures { result ≡ list_all is_name_byte bytes.now }
+{
+    bytes.iter().all(|b| is_name_byte(*b))
+}
+
+fn is_name_byte(b: u8) -> bool
+    ensures { result ≡ is_name_byte b }
+{
+    b.is_ascii_alphanumeric() || b == b'-' || b == b'_'
+}
+
+#[cfg(test)]
+mod tests;
