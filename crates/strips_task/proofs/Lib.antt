@@ -1,0 +1,10 @@
+pub mod FirstPlaces
+pub mod Numbered
+pub mod AtomEquality
+pub mod NameNumbers
+pub mod TypeTrees
+pub mod TypeWalks
+pub mod PartLemmas
+pub mod FoldedWords
+pub mod StepWords
+pub mod WellFormedParts

@@ -1,0 +1,116 @@
+-- What the tests of well-formedness say of each part.
+
+use Rattle.std.proofs.Common.{◌≡◌, ℕ, ◌<◌, ◌≤◌, zero, suc, Bool, true, false, ◌&&◌, nat_eq, nat_lt, nat_le, List, [], ◌∷◌, length, map, All, refl, ap, sym, ◌∙◌, subst, arith, slice_get, Option, None, Some, true≢false, ◌↔◌, IsTrue}
+use Rattle.std.proofs.lemmas.Bool.{ltb-true, leb-true, eqb-true}
+use Rattle.std.proofs.lemmas.List.Sums.{AllPass-from_list_all}
+use Rattle.std.proofs.lemmas.Option.{slice_get_within}
+use Rattle.std.specs.List.{list_all, zip}
+use Rattle.std.specs.Option.{option_map}
+use Rattle.std.specs.Map.{values_of}
+use Rattle.strips_task.specs.declared.actions.Term.{Term}
+use Rattle.strips_task.specs.declared.actions.Term.TheVariants.{Param, Object}
+use Rattle.strips_task.specs.declared.actions.Pattern.{Pattern}
+use Rattle.strips_task.specs.declared.actions.Action.{Action}
+use Rattle.strips_task.specs.declared.tasks.TaskParts.{TaskParts}
+use Rattle.strips_task.specs.Types.{IsBelow, IsTypeTree, is_below}
+use Rattle.strips_task.specs.WellFormed.{IsWellFormed, are_alternatives, are_variables, term_types, is_fitting, are_fitting, is_pattern, is_action}
+use Rattle.strips_task.specs.Within.{IsTermWithin, IsPatternWithin, IsActionWithin}
+use Rattle.strips_task.proofs.AtomEquality.{both_hold}
+use Rattle.strips_task.proofs.TypeTrees.{below_from_within, within_from_below}
+
+module _ {A : Type 0} (p : A → Bool) where
+  -- the item at a place passes the test that all pass
+  pub passes_at : (xs : List A) (k : ℕ) (x : A) → list_all p xs ≡ true → slice_get xs k ≡ Some x → p x ≡ true
+  passes_at [] k x h e = cc
+  passes_at (y ∷ ys) zero x h e = let same : y ≡ x = cc in ap p (sym same) ∙ (both_hold (p y) (list_all p ys) h).0
+  passes_at (y ∷ ys) (suc k) x h e = passes_at ys k x (both_hold (p y) (list_all p ys) h).1 e
+
+-- the value of the entry at a place
+pub value_at : {K V : Type 0} (entries : List (K × V)) (n : ℕ) (name : K) (value : V) → slice_get entries n ≡ Some (name, value)
+  → slice_get (values_of entries) n ≡ Some value
+value_at [] n name value e = cc
+value_at (entry ∷ entries) zero name value e =
+    ap (λ o. option_map (λ p. p.1) o) e
+value_at (entry ∷ entries) (suc n) name value e = value_at entries n name value e
+
+-- what holds of the first item and of the others holds of all
+pub all_cons : {A : Type 0} (P : A → Type 0) (x : A) (xs : List A) → P x → All P xs → All P (x ∷ xs)
+all_cons P x xs here rest = by
+  where
+    by : All P (x ∷ xs)
+    by zero d lt = here
+    by (suc k) d lt = rest k d (let n : suc k < suc (length xs) = lt in omega arith)
+
+-- what each item's test says holds of each
+pub all_from_tests : {A : Type 0} (p : A → Bool) (P : A → Type 0) → ((x : A) → p x ≡ true → P x) → (xs : List A) → list_all p xs ≡ true → All P xs
+all_from_tests p P says xs h = λ k d lt. says _ (AllPass-from_list_all p xs h k d lt)
+
+-- the alternatives of variables are types
+pub variables_known : (parents : List ℕ) (variables : List (List ℕ)) → are_variables parents variables ≡ true
+  → (length variables ≤ 32) × All (All (λ type. type < length parents)) variables
+unfolding are_variables are_alternatives
+variables_known parents variables h =
+    let parts = both_hold (nat_le (length variables) 32) (list_all (are_alternatives parents) variables) h in
+    (leb-true (length variables) 32 parts.0,
+      all_from_tests (are_alternatives parents) (All (λ type. type < length parents))
+        (λ types e.
+          all_from_tests (λ type. nat_lt type (length parents)) (λ type. type < length parents) (λ type t. ltb-true type (length parents) t) types
+            (both_hold (nat_le (length types) 32) (list_all (λ type. nat_lt type (length parents)) types) e).1)
+        variables parts.1)
+
+module _ (task : TaskParts) (params : List (List ℕ)) where
+  -- a parameter that fits is one of the action's
+  term_within : (term : Term) (places : List ℕ) → is_fitting task.parents (term_types task params term) places ≡ true → IsTermWithin (length params) term
+  unfolding term_types is_fitting
+  term_within (Object object) places h = tt
+  term_within (Param place) places h = by (slice_get params place) refl
+    where
+      by : (r : Option (List ℕ)) → slice_get params place ≡ r → place < length params
+      by None e = absurd (true≢false (sym h ∙ ap (λ o. is_fitting task.parents o places) e))
+      by (Some types) e = slice_get_within params place types e
+
+  terms_within : (terms : List Term) (places : List (List ℕ)) → length (map (term_types task params) terms) ≡ length places
+    → list_all (λ p. is_fitting task.parents p.0 p.1) (zip (map (term_types task params) terms) places) ≡ true
+    → All (IsTermWithin (length params)) terms
+  terms_within [] places e h = λ k d lt. absurd (omega arith)
+  terms_within (term ∷ terms) [] e h = absurd (omega (arith, e))
+  terms_within (term ∷ terms) (place ∷ places) e h =
+      let parts = both_hold (is_fitting task.parents (term_types task params term) place) (list_all (λ p. is_fitting task.parents p.0 p.1) (zip (map (term_types task params) terms) places)) h in
+      all_cons (IsTermWithin (length params)) term terms (term_within term place parts.0)
+        (terms_within terms places (let n : suc (length (map (term_types task params) terms)) ≡ suc (length places) = e in omega arith) parts.1)
+
+  pattern_within : (pattern : Pattern) → is_pattern task params pattern ≡ true → IsPatternWithin (length params) pattern
+  unfolding is_pattern are_fitting
+  pattern_within pattern h = by (slice_get (values_of task.preds) pattern.pred) refl
+    where
+      by : (r : Option (List (List ℕ))) → slice_get (values_of task.preds) pattern.pred ≡ r → IsPatternWithin (length params) pattern
+      by None e = absurd (true≢false (sym h ∙ ap (are_fitting task.parents (map (term_types task params) pattern.terms)) e))
+      by (Some places) e =
+          let fit = sym (ap (are_fitting task.parents (map (term_types task params) pattern.terms)) e) ∙ h in
+          let parts = both_hold (nat_eq (length (map (term_types task params) pattern.terms)) (length places)) (list_all (λ p. is_fitting task.parents p.0 p.1) (zip (map (term_types task params) pattern.terms) places)) fit in
+          terms_within pattern.terms places (eqb-true (length (map (term_types task params) pattern.terms)) (length places) parts.0) parts.1
+
+-- an action that passes the test speaks of its own parameters
+pub action_within : (task : TaskParts) (action : Action) → is_action task action ≡ true → IsActionWithin (length task.parents) action
+unfolding is_action
+action_within task action h =
+    let params = both_hold (are_variables task.parents action.params) _ h in
+    let pre = both_hold (list_all (λ cond. is_pattern task action.params cond.pattern) action.pre) _ params.1 in
+    let effects = both_hold (list_all (is_pattern task action.params) action.add) (list_all (is_pattern task action.params) action.del) pre.1 in
+    let known = variables_known task.parents action.params params.0 in
+    record {
+      few_params = known.0;
+      params_known = known.1;
+      pre_within = all_from_tests (λ cond. is_pattern task action.params cond.pattern) (λ cond. IsPatternWithin (length action.params) cond.pattern)
+        (λ cond. pattern_within task action.params cond.pattern) action.pre pre.0;
+      add_within = all_from_tests (is_pattern task action.params) (IsPatternWithin (length action.params)) (pattern_within task action.params) action.add effects.0;
+      del_within = all_from_tests (is_pattern task action.params) (IsPatternWithin (length action.params)) (pattern_within task action.params) action.del effects.1
+    }
+
+-- in a tree of types the test decides the order
+pub is_below_decides : (parents : List ℕ) → IsTypeTree parents → (sub sup : ℕ) → sub < length parents
+  → IsTrue (is_below parents sub sup) ↔ IsBelow parents sub sup
+unfolding is_below
+is_below_decides parents tree sub sup lt =
+    (below_from_within parents (length parents) sub sup,
+      within_from_below parents tree.has_object tree.object_on_top (λ i known. tree.parents_known i 0 known) sub sup lt (tree.below_object sub lt))

@@ -1,0 +1,39 @@
+use Rattle.std.proofs.Common.{◌≡◌, ◌++◌, ◌∷◌, [], ap, ◌∙◌, sym, subst, Some, slice_get, All, length, ◌<◌}
+use Rattle.std.specs.List.{filter_map}
+use Rattle.indexmap.specs.IndexSet.{insert_key}
+use Rattle.strips_task.specs.Atom.{atom_eq}
+use Rattle.strips_task.specs.FirstPlaces.{first_places}
+use Rattle.strips_task.proofs.AtomEquality.{atom_equiv, atom_same}
+use Rattle.strips_task.proofs.FirstPlaces.{first_places-push}
+use Rattle.strips_task.proofs.Numbered.{shown-insert, all_within-insert}
+use Rattle.strips_task.proofs.initial.InitialAtoms.push.Goals as goal
+
+-- the number goes last, behind those that were there
+numbers : (c : goal.After-push_reserved) → c.push_reserved.new.self.items ≡ c.self.inside.numbers.items ++ c.in_ok-number.number ∷ []
+numbers c = c.push_reserved.ensures.items ∙ ap (λ l. l ++ c.in_ok-number.number ∷ []) c.reserve.ensures.items
+
+-- at that number stands the atom
+at_number : (c : goal.After-push_reserved) → slice_get c.insert_full.new.self.keys c.in_ok-number.number ≡ Some c.args.atom
+at_number c =
+    let stored = c.in_ok-number.ensures.stored in
+    stored.1 ∙ ap Some (sym (atom_same c.args.atom stored.0 stored.2))
+
+pub invariant_of-self-2 : goal.invariant_of-self-2
+invariant_of-self-2 c =
+    let within = all_within-insert atom_eq c.self.inside.distinct.keys c.self.inside.numbers.items c.args.atom c.insert_full.new.self.keys
+        c.in_ok-number.number c.self.invariant.0 c.in_ok-number.ensures.keys c.in_ok-number.ensures.within in
+    let shown = shown-insert atom_eq c.self.inside.distinct.keys c.self.inside.numbers.items c.args.atom c.insert_full.new.self.keys
+        c.in_ok-number.number c.self.invariant.0 c.in_ok-number.ensures.keys (at_number c) in
+    rw (numbers c)
+      (within,
+        c.in_ok-number.ensures.keys
+        ∙ ap (λ ks. insert_key atom_eq ks c.args.atom) c.self.invariant.1
+        ∙ sym (first_places-push atom_equiv (filter_map (slice_get c.self.inside.distinct.keys) c.self.inside.numbers.items) c.args.atom)
+        ∙ ap (first_places atom_eq) (sym shown))
+
+pub returns-clause-ok : goal.returns-clause-ok
+returns-clause-ok c =
+    rw (numbers c)
+      (shown-insert atom_eq c.self.inside.distinct.keys c.self.inside.numbers.items c.args.atom c.insert_full.new.self.keys
+        c.in_ok-number.number c.self.invariant.0 c.in_ok-number.ensures.keys (at_number c)
+      ∙ ap (λ l. l ++ c.args.atom ∷ []) c.self.view_is)

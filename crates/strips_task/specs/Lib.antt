@@ -1,0 +1,11 @@
+pub mod Atom
+pub mod FirstPlaces
+pub mod Names
+pub mod OpenPlan
+pub mod Parts
+pub mod StepView
+pub mod Steps
+pub mod TypeTable
+pub mod Types
+pub mod WellFormed
+pub mod Within

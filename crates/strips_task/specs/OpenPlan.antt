@@ -1,0 +1,14 @@
+-- A plan while it is read.
+
+use Rattle.std.specs.Prelude.{◌≡◌, ℕ, List, ◌++◌}
+use Rattle.strips_task.specs.declared.steps.StepText.{StepText}
+
+-- the complete steps, and the words of the one that is open
+pub record OpenPlan : Type 0 where
+  pub steps : List StepText
+  pub words : List (List ℕ)
+
+-- the new list is the old one with some words behind it
+pub record IsExtension (old new : List (List ℕ)) : Type 0 where
+  pub more : List (List ℕ)
+  pub extends : new ≡ old ++ more

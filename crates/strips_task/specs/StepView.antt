@@ -1,0 +1,10 @@
+-- What a look at a step shows.
+
+use Rattle.std.specs.Prelude.{slice_range}
+use Rattle.strips_task.specs.declared.steps.StepText.{StepText}
+use Rattle.strips_task.specs.declared.step_view.StepView.{StepView}
+use Rattle.strips_task.specs.Steps.{step_of}
+
+-- the step whose words are looked at
+abbrev pub step_shown : StepView → StepText
+step_shown view = step_of (slice_range view.words.now view.first view.end)

@@ -1,0 +1,92 @@
+-- What makes the parts of a task well formed.
+
+use Rattle.std.specs.Prelude.{ℕ, ◌≤◌, Bool, false, ◌&&◌, nat_eq, nat_lt, nat_le, IsTrue, List, [], ◌∷◌, length, slice_get, map, Option, None, Some}
+use Rattle.std.specs.List.{list_all, list_any, zip}
+use Rattle.std.specs.Option.{option_map}
+use Rattle.std.specs.Map.{keys_of, values_of}
+use Rattle.strips_task.specs.declared.actions.Term.{Term}
+use Rattle.strips_task.specs.declared.actions.Term.TheVariants.{Param, Object}
+use Rattle.strips_task.specs.declared.actions.Pattern.{Pattern}
+use Rattle.strips_task.specs.declared.actions.Action.{Action}
+use Rattle.strips_task.specs.declared.atoms.Atom.{Atom}
+use Rattle.strips_task.specs.declared.tasks.TaskParts.{TaskParts}
+use Rattle.strips_task.specs.Names.{are_distinct}
+use Rattle.strips_task.specs.Types.{IsTypeTree, is_below}
+
+-- the limits of a task
+abbrev pub most_types : ℕ
+most_types = 1025
+abbrev pub most_objects : ℕ
+most_objects = 65535
+abbrev pub most_predicates : ℕ
+most_predicates = 4096
+abbrev pub most_actions : ℕ
+most_actions = 4096
+abbrev pub most_variables : ℕ
+most_variables = 32
+abbrev pub most_alternatives : ℕ
+most_alternatives = 32
+
+-- whether a term whose type is one of the first fits a place for the second: each of the first is below some of the second
+-- (this validator's choice)
+unfoldable pub fits : List ℕ → List ℕ → List ℕ → Bool
+fits parents types places = list_all (λ type. list_any (is_below parents type) places) types
+
+-- whether the alternatives of a variable are types, and not too many
+unfoldable pub are_alternatives : List ℕ → List ℕ → Bool
+are_alternatives parents types = nat_le (length types) most_alternatives && list_all (λ type. nat_lt type (length parents)) types
+
+-- whether the variables of a predicate or an action are not too many, and each has alternatives
+unfoldable pub are_variables : List ℕ → List (List ℕ) → Bool
+are_variables parents variables = nat_le (length variables) most_variables && list_all (are_alternatives parents) variables
+
+-- the types of a term, where there is such a parameter or object
+unfoldable pub term_types : TaskParts → List (List ℕ) → Term → Option (List ℕ)
+term_types task params (Param place) = slice_get params place
+term_types task params (Object object) = option_map (λ type. type ∷ []) (slice_get (values_of task.objects) object)
+
+-- whether a term with these types, if it has any, fits a place for those
+unfoldable pub is_fitting : List ℕ → Option (List ℕ) → List ℕ → Bool
+is_fitting parents None places = false
+is_fitting parents (Some types) places = fits parents types places
+
+-- whether as many terms as the predicate has places fit them one by one
+unfoldable pub are_fitting : List ℕ → List (Option (List ℕ)) → Option (List (List ℕ)) → Bool
+are_fitting parents terms None = false
+are_fitting parents terms (Some places) =
+    nat_eq (length terms) (length places) && list_all (λ p. is_fitting parents p.0 p.1) (zip terms places)
+
+-- whether a pattern has a declared predicate, and terms that fit its places
+unfoldable pub is_pattern : TaskParts → List (List ℕ) → Pattern → Bool
+is_pattern task params pattern =
+    are_fitting task.parents (map (term_types task params) pattern.terms) (slice_get (values_of task.preds) pattern.pred)
+
+-- whether an atom has a declared predicate, and objects that fit its places
+unfoldable pub is_atom : TaskParts → Atom → Bool
+is_atom task atom =
+    are_fitting task.parents (map (λ object. term_types task [] (Object object)) atom.args) (slice_get (values_of task.preds) atom.pred)
+
+-- whether an action's parameters have types, and its patterns fit
+unfoldable pub is_action : TaskParts → Action → Bool
+is_action task action =
+    are_variables task.parents action.params
+    && (list_all (λ cond. is_pattern task action.params cond.pattern) action.pre
+    && (list_all (is_pattern task action.params) action.add
+    && list_all (is_pattern task action.params) action.del))
+
+-- the parts of a task are well formed: every number is in range, every arity right, every atom and pattern fits by the
+-- order of types, from every type the chain of parents reaches `object`, names are distinct, and the limits hold
+pub record IsWellFormed (task : TaskParts) : Type 0 where
+  pub types_form_a_tree : IsTypeTree task.parents
+  pub few_types : length task.parents ≤ most_types
+  pub few_objects : length task.objects ≤ most_objects
+  pub few_predicates : length task.preds ≤ most_predicates
+  pub few_actions : length task.actions ≤ most_actions
+  pub objects_distinct : IsTrue (are_distinct (keys_of task.objects))
+  pub predicates_distinct : IsTrue (are_distinct (keys_of task.preds))
+  pub actions_distinct : IsTrue (are_distinct (keys_of task.actions))
+  pub objects_typed : IsTrue (list_all (λ type. nat_lt type (length task.parents)) (values_of task.objects))
+  pub predicates_typed : IsTrue (list_all (are_variables task.parents) (values_of task.preds))
+  pub actions_fit : IsTrue (list_all (is_action task) (values_of task.actions))
+  pub initial_atoms_fit : IsTrue (list_all (is_atom task) task.init)
+  pub goal_fits : IsTrue (list_all (λ cond. is_atom task cond.atom) task.goal)

@@ -1,0 +1,92 @@
+//! The initial atoms of a task, numbered once.
+//!
+//! Many plans are judged against one task, and a task may have hundreds of thousands of initial atoms. So the distinct ones are numbered
+//! when the task is made, and judging a plan costs one bit for each, not one hash.
+ghost use Rattle.std.specs.Prelude.{◌≡◌, ◌+◌, ◌<◌, ℕ, List, [], ◌∷◌, ◌++◌, length, map, slice_get, All, IfSome, OnOk, OnErr, IfErr, Some};
+ghost use Rattle.std.specs.List.{position_from};
+ghost use Rattle.strips_task.specs.FirstPlaces.{first_places};
+ghost use Rattle.strips_task.specs.Atom.{atom_eq};
+
+use crate::Atom;
+use indexmap::IndexSet;
+use std::alloc::{AllocFailed, Global};
+use std::marker::Model;
+
+/// The initial atoms in the order of the text, repeats kept. Contracts see the list of them.
+#[derive(Debug, Drop)]
+pub struct InitialAtoms {
+    distinct: IndexSet<Atom>,
+    numbers: Vec<usize>,
+}
+
+impl Model for InitialAtoms {
+    ghost use Rattle.std.specs.Prelude.{◌≡◌, ◌<◌, List, All, length, slice_get};
+    ghost use Rattle.std.specs.List.{filter_map};
+    ghost use Rattle.strips_task.specs.Atom.{atom_eq};
+    ghost use Rattle.strips_task.specs.FirstPlaces.{first_places};
+    ghost use Rattle.strips_task.specs.declared.atoms.Atom.{Atom};
+
+    ghost Value = { List Atom };
+
+    ghost view = { λ s. filter_map (slice_get s.distinct.keys) s.numbers.items };
+
+    // Each number is that of an atom, and the distinct atoms stand in the order in which they came first.
+    ghost invariant = { λ s. (All (λ n. n < length s.distinct.keys) s.numbers.items)
+        × (s.distinct.keys ≡ first_places atom_eq (filter_map (slice_get s.distinct.keys) s.numbers.items)) };
+}
+
+impl InitialAtoms {
+    /// The empty list. Takes no memory.
+    pub fn new(alloc: Global) -> Self
+        ensures { result ≡ [] }
+    {
+        InitialAtoms {
+            distinct: IndexSet::new(alloc),
+            numbers: Vec::new(alloc),
+        }
+    }
+
+    /// Adds an atom at the end, with one hash. Where memory runs out the atom comes back.
+    pub fn push(&mut self, atom: Atom) -> Result<(), AllocFailed<Atom>>
+        ensures ok { OnOk result (self.new ≡ self.old ++ atom ∷ []) }
+        ensures err { OnErr result (self.new ≡ self.old) }
+        ensures value_returned { IfErr result (λ failed. failed.value ≡ atom) }
+    {
+        if self.numbers.reserve(1).is_err() {
+            return Err(AllocFailed { value: atom });
+        }
+        let (number, _) = self.distinct.insert_full(atom)?;
+        self.numbers.push_reserved(number);
+        Ok(())
+    }
+
+    /// How many atoms the list holds, repeats counted.
+    pub fn len(&self) -> usize
+        ensures { result ≡ length self.now }
+    {
+        self.numbers.len()
+    }
+
+    /// The atom at a place of the text's order, counted from 0.
+    pub fn get(&self, place: usize) -> &Atom
+        requires { place < length self.now }
+        ensures { slice_get self.now place ≡ Some result.now }
+    {
+        self.distinct.get_index(self.numbers[place]).unwrap()
+    }
+
+    /// How many distinct atoms the list holds.
+    pub fn distinct_len(&self) -> usize
+        ensures { result ≡ length (first_places atom_eq self.now) }
+    {
+        self.distinct.len()
+    }
+
+    /// The number of an atom among the distinct ones, in the order of their first places, with one hash and no memory.
+    pub fn number_of(&self, atom: &Atom) -> Option<usize>
+        ensures number { result ≡ position_from (atom_eq atom.now) 0 (first_places atom_eq self.now) }
+        ensures within { IfSome result (λ number. number < length (first_places atom_eq self.now)) }
+    {
+        self.distinct.get_index_of(atom)
+    }
+}

@@ -1,0 +1,71 @@
+//! Tables of things that have names: objects, predicates and actions.
+//!
+//! An entry is numbered by its place, and found by its number or by the bytes of its name. A look-up hashes the bytes once and takes
+//! no memory.
+ghost use Rattle.std.specs.Prelude.{◌≡◌, ◌+◌, ◌<◌, ℕ, List, [], ◌∷◌, ◌++◌, length, slice_get, IsNone, IfSome, OnOk, OnErr, IfErr, Some, None};
+ghost use Rattle.strips_task.specs.Names.{number_named};
+
+use crate::{Name, Word};
+use indexmap::IndexMap;
+use std::alloc::{AllocFailed, Global};
+use std::marker::Model;
+
+/// A table from distinct names to values, in the order in which they were inserted. Contracts see the list of its entries.
+#[derive(Debug, Drop)]
+pub struct NameTable<V> {
+    entries: IndexMap<Name, V>,
+}
+
+impl<V> Model for NameTable<V> {
+    ghost Value = { List (List ℕ × V) };
+
+    ghost view = { λ t. t.entries.entries };
+}
+
+impl<V> NameTable<V> {
+    /// The empty table. Takes no memory.
+    pub fn new(alloc: Global) -> Self
+        ensures { result ≡ [] }
+    {
+        NameTable {
+            entries: IndexMap::new(alloc),
+        }
+    }
+
+    /// How many entries the table has.
+    pub fn len(&self) -> usize
+        ensures { result ≡ length self.now }
+    {
+        self.entries.len()
+    }
+
+    /// The number of the entry with a name, by the bytes as they are: a word that is not in lower case has none.
+    /// Takes one hash of the bytes, and no memory.
+    pub fn number_of(&self, word: &[u8]) -> Option<usize>
+        ensures number { result ≡ number_named self.now word.now }
+        ensures within { IfSome result (λ number. number < length self.now) }
+    {
+        self.entries.get_index_of(Word { bytes: word })
+    }
+
+    /// The name and the value of the entry with a number.
+    pub fn get(&self, number: usize) -> (&Name, &V)
+        requires { number < length self.now }
+        ensures { slice_get self.now number ≡ Some (result.0.now, result.1.now) }
+    {
+        self.entries.get_index(number).unwrap()
+    }
+}
+
+impl<V: Drop> NameTable<V> {
+    /// Adds an entry at the end. `number_of` tells whether a name is new. Where memory runs out the name and the value come back.
+    pub fn push(&mut self, name: Name, value: V) -> Result<(), AllocFailed<(Name, V)>>
+        requires new_name { number_named self.old name ≡ None }
+        ensures ok { OnOk result (self.new ≡ self.old ++ (name, value) ∷ []) }
+        ensures err { OnErr result (self.new ≡ self.old) }
+        ensures value_returned { IfErr result (λ failed. failed.value ≡ (name, value)) }
+    {
+        self.entries.insert(name, value)?;
+        Ok(())
+    }
+}

@@ -1,0 +1,156 @@
+//! A planning task: what a domain and a problem say together (PDDL 2.1, Fox and Long 2003, level 1).
+//!
+//! A reader fills [`TaskParts`] and makes a [`Task`] of them, whose type keeps that they are well formed; judges then only read it.
+ghost use Rattle.std.specs.Prelude.{◌≡◌, ◌<◌, ◌≤◌, ◌^◌, ℕ, ◌↔◌, IsTrue, length, slice_get, slice_index, IfSome, Some};
+ghost use Rattle.strips_task.specs.Names.{number_named};
+ghost use Rattle.strips_task.specs.Types.{IsBelow, is_below};
+ghost use Rattle.strips_task.specs.WellFormed.{IsWellFormed};
+ghost use Rattle.strips_task.specs.Within.{IsActionWithin};
+ghost use Rattle.std.specs.Map.{keys_of, values_of};
+ghost use Rattle.std.specs.Option.{option_map};
+
+use crate::{Action, Alternatives, CondList, InitialAtoms, Name, NameTable, Seq, TypeList};
+use std::marker::Model;
+
+/// The parts of a task. Names are distinct in each table; numbers are places in the tables.
+#[derive(Debug, Drop)]
+pub struct TaskParts {
+    /// The name of the domain.
+    pub domain: Name,
+    /// The name of the problem.
+    pub problem: Name,
+    /// For each type the number of its parent; number 0 is `object`.
+    pub parents: TypeList,
+    /// For each object, constants first, its name and the number of its type.
+    pub objects: NameTable<u16>,
+    /// For each predicate its name and, for each argument, the types of which it may be.
+    pub preds: NameTable<Seq<Alternatives>>,
+    /// For each action its name and what it asks and does.
+    pub actions: NameTable<Action>,
+    /// The atoms that are true at the start.
+    pub init: InitialAtoms,
+    /// What has to hold at the end.
+    pub goal: CondList,
+}
+
+/// A well-formed task. Contracts see the record of its parts.
+#[derive(Debug, Drop)]
+pub struct Task {
+    parts: TaskParts,
+}
+
+impl Model for Task {
+    ghost use Rattle.strips_task.specs.declared.tasks.TaskParts.{TaskParts};
+    ghost use Rattle.strips_task.specs.WellFormed.{IsWellFormed};
+
+    ghost Value = { TaskParts };
+
+    ghost view = { λ t. t.parts };
+
+    ghost invariant = { λ t. IsWellFormed t.parts };
+}
+
+impl Task {
+    /// The task of well-formed parts. It refuses nothing, takes no memory and copies nothing.
+    pub fn make(parts: TaskParts) -> Task
+        requires { IsWellFormed parts }
+        ensures { result ≡ parts }
+    {
+        Task { parts }
+    }
+
+    /// The name of the domain.
+    pub fn domain_name(&self) -> &Name
+        ensures { result.now ≡ self.now.domain }
+    {
+        &self.parts.domain
+    }
+
+    /// The name of the problem.
+    pub fn problem_name(&self) -> &Name
+        ensures { result.now ≡ self.now.problem }
+    {
+        &self.parts.problem
+    }
+
+    /// The initial atoms, numbered.
+    pub fn initial_atoms(&self) -> &InitialAtoms
+        ensures { result.now ≡ self.now.init }
+    {
+        &self.parts.init
+    }
+
+    /// What has to hold at the end.
+    pub fn goal(&self) -> &CondList
+        ensures { result.now ≡ self.now.goal }
+    {
+        &self.parts.goal
+    }
+
+    /// The name of the object with a number.
+    pub fn object_name(&self, number: u16) -> &Name
+        requires { number < length self.now.objects }
+        ensures { slice_get (keys_of self.now.objects) number ≡ Some result.now }
+    {
+        self.parts.objects.get(usize::from(number)).0
+    }
+
+    /// The number of the type of the object with a number.
+    pub fn object_type(&self, number: u16) -> u16
+        requires { number < length self.now.objects }
+        ensures type_number { slice_get (values_of self.now.objects) number ≡ Some result }
+        ensures known { result < length self.now.parents }
+    {
+        *self.parts.objects.get(usize::from(number)).1
+    }
+
+    /// The name of the predicate with a number.
+    pub fn pred_name(&self, number: u16) -> &Name
+        requires { number < length self.now.preds }
+        ensures { slice_get (keys_of self.now.preds) number ≡ Some result.now }
+    {
+        self.parts.preds.get(usize::from(number)).0
+    }
+
+    /// The action with a number.
+    pub fn action(&self, number: u16) -> &Action
+        requires { number < length self.now.actions }
+        ensures action { slice_get (values_of self.now.actions) number ≡ Some result.now }
+        ensures within { IsActionWithin (length self.now.parents) result.now }
+    {
+        self.parts.actions.get(usize::from(number)).1
+    }
+
+    /// The number of the action with a name, by the bytes as they are: a word that is not in lower case has none. One hash, no memory.
+    pub fn action_named(&self, word: &[u8]) -> Option<u16>
+        ensures number { result ≡ number_named self.now.actions word.now }
+        ensures within { IfSome result (λ number. number < length self.now.actions) }
+    {
+        match self.parts.actions.number_of(word) {
+            Some(number) => Some(number as u16),
+            None => None,
+        }
+    }
+
+    /// The number of the object with a name, by the bytes as they are: a word that is not in lower case has none. One hash, no memory.
+    pub fn object_named(&self, word: &[u8]) -> Option<u16>
+        ensures number { result ≡ number_named self.now.objects word.now }
+        ensures within { IfSome result (λ number. number < length self.now.objects) }
+    {
+        match self.parts.objects.number_of(word) {
+            Some(number) => Some(number as u16),
+            None => None,
+        }
+    }
+
+    /// Whether the first type is below the second: they are the same, or the second stands some parents up
+    /// (PDDL 2.1, Fox and Long 2003, section 2). One look at a table.
+    pub fn is_subtype(&self, sub: u16, sup: u16) -> bool
+        requires sub_known { sub < length self.now.parents }
+        requires sup_known { sup < length self.now.parents }
+        ensures test { result ≡ is_below self.now.parents sub sup }
+        ensures order { IsTrue result ↔ IsBelow self.now.parents sub sup }
+    {
+        self.parts.parents.is_below(sub, sup)
+    }
+}

@@ -1,0 +1,93 @@
+//! Many words kept in one piece.
+//!
+//! Planners' files are the bulk of all memory, so the words of a plan stand in one buffer of folded bytes, each known by where it ends.
+ghost use Rattle.std.specs.Prelude.{◌≡◌, ◌+◌, ◌<◌, ℕ, List, [], ◌∷◌, ◌++◌, length, slice_get, OnOk, OnErr, Some, ◌≤◌, vec_len, vec_capacity, slice_index, ◌-◌, take, drop};
+ghost use Rattle.pddl_words.specs.Words.{folded};
+
+use std::alloc::{AllocError, Global};
+use std::marker::Model;
+
+/// Words in lower case, in the order in which they were pushed. Contracts see the list of them.
+#[derive(Debug, Drop)]
+pub struct WordList {
+    bytes: Vec<u8>,
+    ends: Vec<usize>,
+}
+
+impl Model for WordList {
+    ghost use Rattle.std.specs.Prelude.{List, ℕ, length};
+    ghost use Rattle.strips_task.specs.Parts.{parts_from, AreEnds};
+
+    ghost Value = { List (List ℕ) };
+
+    ghost view = { λ s. parts_from s.bytes.items 0 s.ends.items };
+
+    ghost invariant = { λ s. AreEnds 0 s.ends.items (length s.bytes.items) };
+}
+
+impl WordList {
+    /// The empty list. Takes no memory.
+    pub fn new(alloc: Global) -> Self
+        ensures { result ≡ [] }
+    {
+        WordList {
+            bytes: Vec::new(alloc),
+            ends: Vec::new(alloc),
+        }
+    }
+
+    /// Adds a word at the end, in lower case (PDDL 2.1, Fox and Long 2003: case is not significant). Where memory runs out the list stays as it was.
+    pub fn push_folded(&mut self, word: &[u8]) -> Result<(), AllocError>
+        ensures ok { OnOk result (self.new ≡ self.old ++ folded word.now ∷ []) }
+        ensures err { OnErr result (self.new ≡ self.old) }
+    {
+        self.bytes.reserve(word.len())?;
+        self.ends.reserve(1)?;
+        append_folded(&mut self.bytes, word);
+        self.ends.push_reserved(self.bytes.len());
+        Ok(())
+    }
+
+    /// How many words the list holds.
+    pub fn len(&self) -> usize
+        ensures { result ≡ length self.now }
+    {
+        self.ends.len()
+    }
+
+    /// The word at a place, counted from 0.
+    pub fn get(&self, place: usize) -> &[u8]
+        requires { place < length self.now }
+        ensures { slice_get self.now place ≡ Some result.now }
+    {
+        let start = start_of(self.ends.as_slice(), place);
+        part_of(self.bytes.as_slice(), start, self.ends[place])
+    }
+}
+
+/// Adds a word's bytes in lower case to a buffer that has room for them.
+fn append_folded(bytes: &mut Vec<u8>, word: &[u8])
+    requires { vec_len bytes.old + length word.now ≤ vec_capacity bytes.old }
+    ensures { bytes.new.items ≡ bytes.old.items ++ folded word.now }
+{
+    for byte in word {
+        bytes.push_reserved(byte.to_ascii_lowercase());
+    }
+}
+
+/// Where a part starts: at the end of the one before it.
+fn start_of(ends: &[usize], place: usize) -> usize
+    requires { place < length ends.now }
+    ensures { result ≡ slice_index (0 ∷ ends.now) place }
+{
+    if place == 0 { 0 } else { ends[place - 1] }
+}
+
+/// The bytes between two places.
+fn part_of(bytes: &[u8], start: usize, end: usize) -> &[u8]
+    requires in_order { start ≤ end }
+    requires within { end ≤ length bytes.now }
+    ensures { result.now ≡ take (end - start) (drop start bytes.now) }
+{
+    &bytes[start..end]
+}
