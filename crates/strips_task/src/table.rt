@@ -2,8 +2,9 @@
 //!
 //! An entry is numbered by its place, and found by its number or by the bytes of its name. A look-up hashes the bytes once and takes
 //! no memory.
-ghost use Rattle.std.specs.Prelude.{◌≡◌, ◌+◌, ◌<◌, ℕ, List, [], ◌∷◌, ◌++◌, length, slice_get, IsNone, IfSome, OnOk, OnErr, IfErr, Some, None};
-ghost use Rattle.strips_task.specs.Names.{number_named};
+ghost use Rattle.std.specs.Prelude.{◌≡◌, ◌+◌, ◌<◌, ℕ, List, [], ◌∷◌, ◌++◌, length, slice_get, IsTrue, IfSome, OnOk, OnErr, IfErr, Some, None};
+ghost use Rattle.std.specs.Map.{keys_of};
+ghost use Rattle.strips_task.specs.Names.{number_named, are_distinct};
 
 use crate::{Name, Word};
 use indexmap::IndexMap;
@@ -17,9 +18,15 @@ pub struct NameTable<V> {
 }
 
 impl<V> Model for NameTable<V> {
+    ghost use Rattle.std.specs.Prelude.{List, ℕ, IsTrue};
+    ghost use Rattle.std.specs.Map.{keys_of};
+    ghost use Rattle.strips_task.specs.Names.{are_distinct};
+
     ghost Value = { List (List ℕ × V) };
 
     ghost view = { λ t. t.entries.entries };
+
+    ghost invariant = { λ t. IsTrue (are_distinct (keys_of t.entries.entries)) };
 }
 
 impl<V> NameTable<V> {
@@ -34,7 +41,8 @@ impl<V> NameTable<V> {
 
     /// How many entries the table has.
     pub fn len(&self) -> usize
-        ensures { result ≡ length self.now }
+        ensures len { result ≡ length self.now }
+        ensures distinct { IsTrue (are_distinct (keys_of self.now)) }
     {
         self.entries.len()
     }

@@ -1,0 +1,8 @@
+use Rattle.std.proofs.Common.{ap, refl}
+use Rattle.std.specs.Map.{keys_of}
+use Rattle.strips_task.specs.Names.{are_distinct}
+use Rattle.strips_task.proofs.table.NameTable.new.Goals as goal
+
+pub invariant_of-result : goal.invariant_of-result
+unfolding are_distinct
+invariant_of-result g c = ap (λ es. are_distinct (keys_of es)) c.new.ensures.empty
