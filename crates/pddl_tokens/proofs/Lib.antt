@@ -1,3 +1,4 @@
 pub mod Steps
 mod Classes
-mod CutLaws
+pub mod CutLaws
+pub mod Places

@@ -87,6 +87,20 @@ impl Task {
         &self.parts.goal
     }
 
+    /// How many objects the task has.
+    pub fn object_count(&self) -> usize
+        ensures { result ≡ length self.now.objects }
+    {
+        self.parts.objects.len()
+    }
+
+    /// How many predicates the task has.
+    pub fn pred_count(&self) -> usize
+        ensures { result ≡ length self.now.preds }
+    {
+        self.parts.preds.len()
+    }
+
     /// The name of the object with a number.
     pub fn object_name(&self, number: u16) -> &Name
         requires { number < length self.now.objects }

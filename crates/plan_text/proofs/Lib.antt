@@ -1,0 +1,5 @@
+mod Runs
+mod PlanLaws
+mod OnlyPlan
+mod Names
+mod Steps

@@ -1,0 +1,4 @@
+pub mod PlanGrammar
+pub mod PlanReading
+pub mod PlanFaults
+pub mod PlanSteps

@@ -1,0 +1,60 @@
+-- Where a text that is no plan text stops to be one, and which plan a text stands for.
+
+use Rattle.std.specs.Prelude.{◌≡◌, ℕ, ◌<◌, ◌≤◌, ◌^◌, ◌⊎◌, List, [], ◌∷◌, ◌++◌, length}
+use Rattle.pddl_tokens.specs.Tokens.{Piece, token, bad, pieces}
+use Rattle.pddl_tokens.specs.Lines.{line_of}
+use Rattle.strips_task.specs.declared.plans.Plan.{Plan}
+use Rattle.strips_task.specs.declared.plans.Plan.TheVariants.{Steps, Unreadable}
+use Rattle.strips_task.specs.declared.steps.StepText.{StepText}
+use Rattle.plan_text.specs.PlanGrammar.{Symbol, symbol_of, symbols, IsPlanText, IsViable}
+
+-- there is no bad byte among the pieces
+abbrev pub AreTokens : List Piece → Type 0
+AreTokens [] = Unit {0}
+AreTokens (bad at ∷ ps) = ⊥
+AreTokens (token kind span bytes ∷ ps) = AreTokens ps
+
+-- where a piece begins
+abbrev pub place_of : Piece → ℕ
+place_of (bad at) = at
+place_of (token kind span bytes) = span.start
+
+-- no plan text begins with these tokens and this piece: it is a bad byte, or a token that makes them no longer viable
+abbrev pub Refuses : List Symbol → Piece → Type 0
+Refuses tokens (bad at) = Unit {0}
+Refuses tokens (token kind span bytes) = IsViable (tokens ++ symbol_of kind bytes ∷ []) → ⊥
+
+-- the first piece such that no plan text begins with the tokens up to and with it stands at this place
+pub record IsFaultAt (text : List ℕ) (place : ℕ) : Type 0 where
+  pub before : List Piece
+  pub fault : Piece
+  pub behind : List Piece
+  pub split : pieces text ≡ before ++ fault ∷ behind
+  pub tokens : AreTokens before
+  pub viable : IsViable (symbols before)
+  pub refused : Refuses (symbols before) fault
+  pub begins : place ≡ place_of fault
+
+-- the text's tokens begin some plan text, and are none
+pub record EndsTooEarly (text : List ℕ) : Type 0 where
+  pub tokens : AreTokens (pieces text)
+  pub viable : IsViable (symbols (pieces text))
+  pub no_plan : (steps : List StepText) → IsPlanText (symbols (pieces text)) steps → ⊥
+
+-- the text is a plan text for these steps
+pub record IsTextOf (text : List ℕ) (steps : List StepText) : Type 0 where
+  pub short : length text < 2 ^ 31
+  pub tokens : AreTokens (pieces text)
+  pub plan : IsPlanText (symbols (pieces text)) steps
+
+-- the text is no plan text, and the fault stands in this line: at the first fault, or at the length of a text that ends too early
+pub record IsFaultLine (text : List ℕ) (line : ℕ) : Type 0 where
+  pub short : length text < 2 ^ 31
+  pub place : ℕ
+  pub fault : IsFaultAt text place ⊎ (EndsTooEarly text × (place ≡ length text))
+  pub in_line : line ≡ line_of text place
+
+-- the text stands for this plan; one of 2^31 bytes or more is unreadable in its first line
+abbrev pub IsPlanOf : List ℕ → Plan → Type 0
+IsPlanOf text (Steps steps) = IsTextOf text steps
+IsPlanOf text (Unreadable line) = ((2 ^ 31 ≤ length text) × (line ≡ 1)) ⊎ IsFaultLine text line

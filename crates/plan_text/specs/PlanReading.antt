@@ -1,0 +1,78 @@
+-- How a plan text is read, token by token.
+
+use Rattle.std.specs.Prelude.{ℕ, ◌^◌, nat_lt, List, [], ◌∷◌, ◌++◌, length, Option, Some, None, if◌then◌else◌}
+use Rattle.pddl_words.specs.Words.{is_name, folded}
+use Rattle.pddl_tokens.specs.Tokens.{Piece, token, bad, pieces}
+use Rattle.pddl_tokens.specs.Lines.{line_of}
+use Rattle.strips_task.specs.declared.plans.Plan.{Plan}
+use Rattle.strips_task.specs.declared.plans.Plan.TheVariants.{Steps, Unreadable}
+use Rattle.strips_task.specs.declared.steps.StepText.{StepText}
+use Rattle.strips_task.specs.Steps.{step_of}
+use Rattle.plan_text.specs.declared.want.Want.{Want}
+use Rattle.plan_text.specs.declared.want.Want.TheVariants.{Step, Action, Argument}
+use Rattle.plan_text.specs.PlanGrammar.{Symbol, left, right, word, symbol_of}
+
+-- what was read: what may come next, the finished steps, and the words of the open step
+pub record Reading : Type 0 where
+  pub want : Want
+  pub steps : List StepText
+  pub words : List (List ℕ)
+
+-- nothing was read
+abbrev pub nothing_read : Reading
+nothing_read = record { want = Step; steps = []; words = [] }
+
+-- behind a `(` where a step may begin
+abbrev pub opened : Reading → Option Reading
+opened r = if nat_lt (length r.steps) 1000000 then Some (record { want = Action; steps = r.steps; words = r.words }) else None
+
+-- behind a word inside a step
+abbrev pub named : Reading → List ℕ → Option Reading
+named r text =
+    if is_name text then Some (record { want = Argument; steps = r.steps; words = r.words ++ folded text ∷ [] }) else None
+
+-- behind a `)` that ends a step
+abbrev pub closed : Reading → Reading
+closed r = record { want = Step; steps = r.steps ++ step_of r.words ∷ []; words = [] }
+
+-- behind a token, by what may come; `None` where it may not
+abbrev pub by_want : Want → Reading → Symbol → Option Reading
+by_want Step r left = opened r
+by_want Step r right = None
+by_want Step r (word text) = None
+by_want Action r left = None
+by_want Action r right = None
+by_want Action r (word text) = named r text
+by_want Argument r left = None
+by_want Argument r right = Some (closed r)
+by_want Argument r (word text) = named r text
+
+-- behind one more token
+unfoldable pub read_on : Reading → Symbol → Option Reading
+read_on r symbol = by_want r.want r symbol
+
+-- the line of a place at which the text cannot be read on
+abbrev pub unreadable : List ℕ → ℕ → Plan
+unreadable text place = Unreadable (line_of text place)
+
+-- at the end of a text no step may be open
+abbrev pub at_end : Want → List ℕ → List StepText → Plan
+at_end Step text steps = Steps steps
+at_end Action text steps = unreadable text (length text)
+at_end Argument text steps = unreadable text (length text)
+
+-- behind a token at a place, where it may be read on
+abbrev pub behind : List ℕ → ℕ → (Reading → Plan) → Option Reading → Plan
+behind text place rest None = unreadable text place
+behind text place rest (Some r) = rest r
+
+-- the plan of the rest of a text
+unfoldable pub plan_from : List ℕ → Reading → List Piece → Plan
+plan_from text r [] = at_end r.want text r.steps
+plan_from text r (bad at ∷ pieces) = unreadable text at
+plan_from text r (token kind span bytes ∷ pieces) =
+    behind text span.start (λ next. plan_from text next pieces) (read_on r (symbol_of kind bytes))
+
+-- the plan of a text; one of 2^31 bytes or more is unreadable in its first line
+unfoldable pub plan_of : List ℕ → Plan
+plan_of text = if nat_lt (length text) (2 ^ 31) then plan_from text nothing_read (pieces text) else Unreadable 1

@@ -1,0 +1,35 @@
+-- What is known of the arguments of a step that were looked at so far.
+
+use Rattle.std.proofs.Common.{◌≡◌, ℕ, ◌+◌, ◌<◌, true, false, List, [], ◌∷◌, ◌++◌, Option, Some, None, All, is_none, length, take, drop, get_or, ap, sym, ◌∙◌, arith, length-append, subst}
+use Rattle.std.specs.List.{position_from, filter_map, cons_option}
+use Rattle.std.proofs.lemmas.List.Elements.{filter_map-append, All-push}
+use Rattle.strips_task.specs.declared.tasks.TaskParts.{TaskParts}
+use Rattle.strips_task.specs.Names.{number_named}
+use Rattle.strips_judge.specs.Step.{is_unknown, objects_named}
+use Rattle.strips_judge.proofs.Searches.{place_here, place_later}
+use Rattle.strips_judge.proofs.StepLaws.{taken_more}
+
+-- the first so many arguments are known, and these are their objects
+pub record Bound (parts : TaskParts) (args : List (List ℕ)) (objects : List ℕ) (place : ℕ) : Type 0 where
+  pub unknown : position_from (is_unknown parts) 1 args ≡ position_from (is_unknown parts) (place + 1) (drop place args)
+  pub named : objects ≡ objects_named parts (take place args)
+  pub count : length objects ≡ place
+  pub known : All (λ object. object < length parts.objects) objects
+
+module _ (parts : TaskParts) (args : List (List ℕ)) (objects : List ℕ) (place : ℕ) (word : List ℕ) (lt : place < length args) (is : word ≡ get_or args place word) (bound : Bound parts args objects place) where
+  -- an argument that names no object ends the search
+  pub unknown_here : number_named parts.objects word ≡ None → position_from (is_unknown parts) 1 args ≡ Some (place + 1)
+  unknown_here h = bound.unknown ∙ place_here (is_unknown parts) args place word lt is (place + 1) (ap is_none h)
+
+  -- one that names an object binds one parameter more
+  pub bound_more : (object : ℕ) (new : List ℕ) → number_named parts.objects word ≡ Some object → object < length parts.objects → new ≡ objects ++ object ∷ [] → Bound parts args new (place + 1)
+  bound_more object new h within pushed =
+      record {
+        unknown = bound.unknown ∙ place_later (is_unknown parts) args place word lt is (place + 1) (ap is_none h);
+        named = pushed
+          ∙ (λ j. bound.named j ++ cons_option (sym h j) [])
+          ∙ sym (filter_map-append (number_named parts.objects) (take place args) (word ∷ []))
+          ∙ ap (objects_named parts) (sym (taken_more args place word lt is));
+        count = ap length pushed ∙ length-append objects (object ∷ []) ∙ ap (λ n. n + 1) bound.count;
+        known = subst (All (λ o. o < length parts.objects)) (sym pushed) (All-push (λ o. o < length parts.objects) objects object bound.known within)
+      }

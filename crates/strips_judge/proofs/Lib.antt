@@ -1,0 +1,10 @@
+pub mod Applicable
+pub mod Bound
+pub mod VerdictMeanings
+pub mod NumberedLaws
+pub mod Numbering
+pub mod RowLaws
+pub mod Runs
+pub mod Searches
+pub mod StepLaws
+pub mod VerdictLaws

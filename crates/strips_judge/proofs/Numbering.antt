@@ -1,0 +1,97 @@
+-- The numbers of atoms in a list: two atoms with one number are the same, and an atom more changes no other number.
+
+use Rattle.std.proofs.Common.{◌≡◌, ◌≢◌, ℕ, ◌+◌, ◌≤◌, suc, Bool, true, false, cond, not, ◌&&◌, ◌||◌, List, [], ◌∷◌, ◌++◌, Option, Some, None, is_some, refl, ap, sym, ◌∙◌, true≢false, length, arith, if◌then◌else◌}
+use Rattle.std.specs.List.{position_from, list_any}
+use Rattle.indexmap.specs.IndexSet.{insert_key}
+use Rattle.strips_task.specs.declared.atoms.Atom.{Atom}
+use Rattle.strips_task.specs.Atom.{atom_eq}
+use Rattle.strips_task.proofs.AtomEquality.{atom_equiv, atom_same}
+use Rattle.strips_judge.specs.Numbers.{number_in}
+
+module _ {A : Type 0} where
+  -- numbers count up from the first
+  place-le : (p : A → Bool) (i n : ℕ) (xs : List A) → position_from p i xs ≡ Some n → i ≤ n
+  place-le p i n [] e = cc
+  place-le p i n (x ∷ xs) e = by (p x) refl (place-le p (i + 1) n xs)
+    where
+      by : (b : Bool) → p x ≡ b → (position_from p (i + 1) xs ≡ Some n → i + 1 ≤ n) → i ≤ n
+      by true is rest = let same : Some i ≡ Some n = sym (ap (λ c. cond c (Some i) (position_from p (i + 1) xs)) is) ∙ e in let at : i ≡ n = cc in omega arith
+      by false is rest = omega (arith, rest (sym (ap (λ c. cond c (Some i) (position_from p (i + 1) xs)) is) ∙ e))
+
+  -- at one place stands one item, which passes both tests
+  pub one_item : (p q : A → Bool) (i n : ℕ) (xs : List A) → position_from p i xs ≡ Some n → position_from q i xs ≡ Some n → (x : A) × (p x ≡ true) × (q x ≡ true)
+  one_item p q i n [] e f = cc
+  one_item p q i n (x ∷ xs) e f = by (p x) (q x) refl refl (one_item p q (i + 1) n xs)
+    where
+      by : (b c : Bool) → p x ≡ b → q x ≡ c
+        → (position_from p (i + 1) xs ≡ Some n → position_from q (i + 1) xs ≡ Some n → (y : A) × (p y ≡ true) × (q y ≡ true))
+        → (y : A) × (p y ≡ true) × (q y ≡ true)
+      by true true is was rest = (x, is, was)
+      by true false is was rest =
+          let same : Some i ≡ Some n = sym (ap (λ c. cond c (Some i) (position_from p (i + 1) xs)) is) ∙ e in
+          let at : i ≡ n = cc in
+          absurd (omega (arith, place-le q (i + 1) n xs (sym (ap (λ c. cond c (Some i) (position_from q (i + 1) xs)) was) ∙ f)))
+      by false true is was rest =
+          let same : Some i ≡ Some n = sym (ap (λ c. cond c (Some i) (position_from q (i + 1) xs)) was) ∙ f in
+          let at : i ≡ n = cc in
+          absurd (omega (arith, place-le p (i + 1) n xs (sym (ap (λ c. cond c (Some i) (position_from p (i + 1) xs)) is) ∙ e)))
+      by false false is was rest =
+          rest (sym (ap (λ c. cond c (Some i) (position_from p (i + 1) xs)) is) ∙ e) (sym (ap (λ c. cond c (Some i) (position_from q (i + 1) xs)) was) ∙ f)
+
+  -- an item has a place exactly where some item passes
+  pub is_some-place : (p : A → Bool) (i : ℕ) (xs : List A) → is_some (position_from p i xs) ≡ list_any p xs
+  is_some-place p i [] = refl
+  is_some-place p i (x ∷ xs) = by (p x) (is_some-place p (i + 1) xs)
+    where
+      by : (b : Bool) → is_some (position_from p (i + 1) xs) ≡ list_any p xs → is_some (cond b (Some i) (position_from p (i + 1) xs)) ≡ (b || list_any p xs)
+      by true rest = refl
+      by false rest = rest
+
+  -- a place is within the list
+  pub place-lt : (p : A → Bool) (i n : ℕ) (xs : List A) → position_from p i xs ≡ Some n → n + 1 ≤ i + length xs
+  place-lt p i n [] e = cc
+  place-lt p i n (x ∷ xs) e = by (p x) refl (place-lt p (i + 1) n xs)
+    where
+      by : (b : Bool) → p x ≡ b → (position_from p (i + 1) xs ≡ Some n → n + 1 ≤ i + 1 + length xs) → n + 1 ≤ i + length (x ∷ xs)
+      by true is rest = let same : Some i ≡ Some n = sym (ap (λ c. cond c (Some i) (position_from p (i + 1) xs)) is) ∙ e in let at : i ≡ n = cc in omega arith
+      by false is rest = omega (arith, rest (sym (ap (λ c. cond c (Some i) (position_from p (i + 1) xs)) is) ∙ e))
+
+  -- an item at the end that does not pass changes nothing
+  pub place-push_other : (p : A → Bool) (i : ℕ) (xs : List A) (y : A) → p y ≡ false → position_from p i (xs ++ y ∷ []) ≡ position_from p i xs
+  place-push_other p i [] y e = ap (λ c. cond c (Some i) None) e
+  place-push_other p i (x ∷ xs) y e = ap (cond (p x) (Some i)) (place-push_other p (i + 1) xs y e)
+
+  -- one that passes, where none did, is at the end
+  pub place-push_new : (p : A → Bool) (i : ℕ) (xs : List A) (y : A) → position_from p i xs ≡ None → p y ≡ true → position_from p i (xs ++ y ∷ []) ≡ Some (i + length xs)
+  place-push_new p i [] y none e = ap (λ c. cond c (Some i) None) e ∙ ap Some (omega arith)
+  place-push_new p i (x ∷ xs) y none e = by (p x) refl (place-push_new p (i + 1) xs y)
+    where
+      by : (b : Bool) → p x ≡ b → (position_from p (i + 1) xs ≡ None → p y ≡ true → position_from p (i + 1) (xs ++ y ∷ []) ≡ Some (i + 1 + length xs))
+        → position_from p i ((x ∷ xs) ++ y ∷ []) ≡ Some (i + length (x ∷ xs))
+      by true is rest = let apart : Some i ≡ None = sym (ap (λ c. cond c (Some i) (position_from p (i + 1) xs)) is) ∙ none in cc
+      by false is rest =
+          ap (λ c. cond c (Some i) (position_from p (i + 1) (xs ++ y ∷ []))) is
+            ∙ rest (sym (ap (λ c. cond c (Some i) (position_from p (i + 1) xs)) is) ∙ none) e
+            ∙ ap Some (omega arith)
+
+-- two atoms with one number are the same
+pub same_number : (atoms : List Atom) (a b : Atom) (n : ℕ) → number_in atoms a ≡ Some n → number_in atoms b ≡ Some n → a ≡ b
+same_number atoms a b n e f =
+    let at = one_item (atom_eq a) (atom_eq b) 0 n atoms e f in
+    atom_same a at.0 at.1 ∙ sym (atom_same b at.0 at.2)
+
+-- an atom that had no number gets the next
+pub number_in-push_new : (atoms : List Atom) (a copy : Atom) → copy ≡ a → number_in atoms a ≡ None → number_in (atoms ++ copy ∷ []) a ≡ Some (length atoms)
+number_in-push_new atoms a copy same none =
+    place-push_new (atom_eq a) 0 atoms copy none (ap (atom_eq a) same ∙ atom_equiv.refl a) ∙ ap Some (omega arith)
+
+-- and the others keep theirs
+pub number_in-push_other : (atoms : List Atom) (a copy other : Atom) → copy ≡ a → atom_eq a other ≡ false → number_in (atoms ++ copy ∷ []) other ≡ number_in atoms other
+number_in-push_other atoms a copy other same apart =
+    place-push_other (atom_eq other) 0 atoms copy (ap (atom_eq other) same ∙ atom_equiv.symm other a ∙ apart)
+
+-- an insertion of an atom without a number puts it at the end
+pub insert_key-new : (atoms : List Atom) (a copy : Atom) → copy ≡ a → number_in atoms a ≡ None → insert_key atom_eq atoms copy ≡ atoms ++ copy ∷ []
+insert_key-new atoms a copy same none =
+    let absent : list_any (atom_eq copy) atoms ≡ false = ap (λ x. list_any (atom_eq x) atoms) same ∙ sym (is_some-place (atom_eq a) 0 atoms) ∙ ap is_some none in
+    ap (λ c. if c then atoms else atoms ++ copy ∷ []) absent

@@ -1,0 +1,8 @@
+use Rattle.std.proofs.Common.{◌≡◌, map, take}
+use Rattle.strips_judge.specs.Grounding.{ground_condition}
+use Rattle.strips_judge.specs.Numbered.{state_of}
+use Rattle.strips_judge.specs.Step.{missing}
+use Rattle.strips_judge.proofs.conditions.missing.Given as goal
+
+abbrev pub invariant-loop-cond : goal.invariant-loop-cond
+invariant-loop-cond l = l.found ≡ missing (state_of l.state) (map (ground_condition l.objects) (take l.cond-index l.conds))

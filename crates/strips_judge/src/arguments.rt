@@ -1,0 +1,85 @@
+//! The arguments of a step: which objects they name, and whether these fit the action's parameters.
+ghost use Rattle.std.specs.Prelude.{◌≡◌, ◌+◌, ◌<◌, ◌≤◌, ◌^◌, ℕ, List, All, IfOk, IfNone, IfSome, OnOk, Option, Some, None, length, option_map};
+ghost use Rattle.std.specs.List.{position_from, zip};
+ghost use Rattle.strips_task.specs.StepView.{step_shown};
+ghost use Rattle.strips_judge.specs.Step.{is_unknown, is_ill_typed, object_fits, objects_named, argument_fault};
+
+use crate::verdict::Why;
+use std::alloc::AllocError;
+use strips_task::{Action, Alternatives};
+use strips_task::{StepView, Task};
+
+/// Finds the objects that a step of an action names, or else what is wrong with its arguments.
+pub(crate) fn bind(
+    task: &Task,
+    action: &Action,
+    step: StepView<'_>,
+    objects: &mut Vec<u16>,
+) -> Result<Option<Why>, AllocError>
+    requires few { length action.now.params ≤ 32 }
+    requires types { All (λ alternatives. All (λ type. type < length task.now.parents) alternatives) action.now.params }
+    ensures fault { IfOk result (λ why. why ≡ argument_fault task.now action.now (step_shown step.entry).args) }
+    ensures bound { IfOk result (λ why. IfNone why (objects.new.items ≡ objects_named task.now (step_shown step.entry).args)) }
+    ensures all { IfOk result (λ why. IfNone why (length objects.new.items ≡ length action.now.params)) }
+{
+    if step.arg_count() != action.params.len() {
+        return Ok(Some(Why::WrongCount));
+    }
+    if let Some(arg) = find_objects(task, step, objects)? {
+        return Ok(Some(Why::UnknownObject { arg }));
+    }
+    match first_ill_typed(task, action.params.as_slice(), objects.as_slice()) {
+        Some(arg) => Ok(Some(Why::WrongType { arg })),
+        None => Ok(None),
+    }
+}
+
+/// Gathers the numbers of the objects that a step names, up to the first argument that names none, and answers which that is,
+/// counted from 1.
+fn find_objects(task: &Task, step: StepView<'_>, objects: &mut Vec<u16>) -> Result<Option<u32>, AllocError>
+    requires { length (step_shown step).args ≤ 32 }
+    ensures unknown { IfOk result (λ arg. arg ≡ position_from (is_unknown task.now) 1 (step_shown step.entry).args) }
+    ensures objects { IfOk result (λ arg. IfNone arg (objects.new.items ≡ objects_named task.now (step_shown step.entry).args)) }
+    ensures all { IfOk result (λ arg. IfNone arg (length objects.new.items ≡ length (step_shown step.entry).args)) }
+    ensures known { IfOk result (λ arg. IfNone arg (All (λ object. object < length task.now.objects) objects.new.items)) }
+{
+    objects.clear();
+    for place in 0..step.arg_count() {
+        match task.object_named(step.arg(place)) {
+            Some(object) => objects.push(object)?,
+            None => return Ok(Some(place as u32 + 1)),
+        }
+    }
+    Ok(None)
+}
+
+/// The first object that does not fit the parameter beside it, counted from 1.
+fn first_ill_typed(task: &Task, params: &[Alternatives], objects: &[u16]) -> Option<u32>
+    requires few { length params.now ≤ 32 }
+    requires beside { length objects.now ≡ length params.now }
+    requires types { All (λ alternatives. All (λ type. type < length task.now.parents) alternatives) params.now }
+    requires known { All (λ object. object < length task.now.objects) objects.now }
+    ensures { result ≡ position_from (is_ill_typed task.now) 1 (zip params.now objects.now) }
+{
+    for place in 0..params.len() {
+        if !object_fits(task, params[place].as_slice(), objects[place]) {
+            return Some(place as u32 + 1);
+        }
+    }
+    None
+}
+
+/// Whether an object is of one of these types, or of one below them.
+fn object_fits(task: &Task, alternatives: &[u16], object: u16) -> bool
+    requires types { All (λ type. type < length task.now.parents) alternatives.now }
+    requires known { object < length task.now.objects }
+    ensures { result ≡ object_fits task.now alternatives.now object }
+{
+    let object_type = task.object_type(object);
+    for alternative in alternatives {
+        if task.is_subtype(object_type, *alternative) {
+            return true;
+        }
+    }
+    false
+}

@@ -1,0 +1,128 @@
+//! The judge: it takes the steps of a plan one after the other, and stops at the first that is not applicable.
+//!
+//! A step is found by the bytes of its words, bound to objects, tested and applied, all in place: the list of objects and the one ground
+//! atom are used again for every step, and memory is taken only where an atom comes up that was never true before.
+ghost use Rattle.std.specs.Prelude.{◌≡◌, ◌+◌, ◌<◌, ◌≤◌, ℕ, List, All, IfOk, IfNone, Some, map, length};
+ghost use Rattle.std.specs.Option.{option_or};
+ghost use Rattle.strips_task.specs.StepView.{step_shown};
+ghost use Rattle.strips_task.specs.Within.{IsActionWithin};
+ghost use Rattle.strips_judge.specs.Grounding.{ground_condition};
+ghost use Rattle.strips_judge.specs.Numbered.{state_of};
+ghost use Rattle.strips_judge.specs.State.{is_in};
+ghost use Rattle.strips_judge.specs.Step.{argument_fault, objects_named, missing, missing_why, hindrance, after_by, after};
+ghost use Rattle.strips_judge.specs.Verdict.{goal_verdict, verdict_from, verdict};
+
+use crate::arguments::bind;
+use crate::conditions::{missing, missing_ground};
+use crate::effects::apply;
+use crate::state::NumberedState;
+use crate::verdict::{Verdict, Why};
+use std::alloc::{AllocError, Global};
+use strips_task::{Action, Atom, ShortSeq};
+use strips_task::{Plan, StepList, StepView, Task};
+
+/// What the steps of a plan share, so that a step takes no memory of its own.
+#[derive(Drop)]
+struct Scratch {
+    objects: Vec<u16>,
+    atom: Atom,
+}
+
+impl Scratch {
+    fn new(alloc: Global) -> Scratch {
+        Scratch {
+            objects: Vec::new(alloc),
+            atom: Atom {
+                pred: 0,
+                args: ShortSeq::new(alloc),
+            },
+        }
+    }
+}
+
+/// Whether a plan is valid for a task, and if not, why (PDDL 2.1, Fox and Long 2003, section 6).
+///
+/// Takes memory for one bit for each initial atom, for the atoms that come up later, and for what is missing at the end.
+pub fn judge(alloc: Global, task: &Task, plan: &Plan) -> Result<Verdict, AllocError>
+    ensures { IfOk result (λ answer. answer ≡ verdict task.now plan.now) }
+{
+    match plan {
+        Plan::Steps(steps) => judge_steps(alloc, task, steps),
+        Plan::Unreadable { line } => Ok(Verdict::Unreadable { line: *line }),
+    }
+}
+
+fn judge_steps(alloc: Global, task: &Task, steps: &StepList) -> Result<Verdict, AllocError>
+    ensures { IfOk result (λ answer. answer ≡ verdict_from task.now 0 (is_in task.now.init) steps.now) }
+{
+    let mut state = NumberedState::new(alloc, task.initial_atoms())?;
+    let mut scratch = Scratch::new(alloc);
+    for place in 0..steps.len() {
+        if let Some(why) = take_step(alloc, task, steps.get(place), &mut state, &mut scratch)? {
+            return Ok(Verdict::Fails {
+                step: place as u32 + 1,
+                why,
+            });
+        }
+    }
+    judge_goal(alloc, task, &state, steps.len() as u32)
+}
+
+/// The verdict of a plan whose steps were all taken and lead to this state.
+fn judge_goal(alloc: Global, task: &Task, state: &NumberedState<'_>, steps: u32) -> Result<Verdict, AllocError>
+    ensures { IfOk result (λ answer. answer ≡ goal_verdict steps (missing (state_of state.now) task.now.goal)) }
+{
+    let missing = missing_ground(alloc, state, task.goal().as_slice())?;
+    if missing.is_empty() {
+        Ok(Verdict::Valid { steps })
+    } else {
+        Ok(Verdict::Goal { missing })
+    }
+}
+
+/// Takes a step where it is applicable, or else answers why it is not.
+fn take_step(
+    alloc: Global,
+    task: &Task,
+    step: StepView<'_>,
+    state: &mut NumberedState<'_>,
+    scratch: &mut Scratch,
+) -> Result<Option<Why>, AllocError>
+    ensures why { IfOk result (λ why. why ≡ hindrance task.now (state_of state.old) (step_shown step.entry)) }
+    ensures next { IfOk result (λ why. IfNone why (state_of state.new ≡ after task.now (state_of state.old) (step_shown step.entry))) }
+{
+    match task.action_named(step.action()) {
+        Some(number) => take_action(alloc, task, task.action(number), step, state, scratch),
+        None => Ok(Some(Why::UnknownAction)),
+    }
+}
+
+/// Takes a step of an action where it is applicable, or else answers why it is not.
+fn take_action(
+    alloc: Global,
+    task: &Task,
+    action: &Action,
+    step: StepView<'_>,
+    state: &mut NumberedState<'_>,
+    scratch: &mut Scratch,
+) -> Result<Option<Why>, AllocError>
+    requires { IsActionWithin (length task.now.parents) action.now }
+    ensures why {
+        IfOk result (λ why. why ≡ option_or (argument_fault task.now action.now (step_shown step.entry).args)
+            (missing_why (missing (state_of state.old) (map (ground_condition (objects_named task.now (step_shown step.entry).args)) action.now.pre))))
+    }
+    ensures next {
+        IfOk result (λ why. IfNone why (state_of state.new ≡ after_by (objects_named task.now (step_shown step.entry).args) (state_of state.old) (Some action.now)))
+    }
+{
+    if let Some(why) = bind(task, action, step, &mut scratch.objects)? {
+        return Ok(Some(why));
+    }
+    let objects = scratch.objects.as_slice();
+    let unmet = missing(alloc, state, action.pre.as_slice(), objects, &mut scratch.atom)?;
+    if !unmet.is_empty() {
+        return Ok(Some(Why::Missing(unmet)));
+    }
+    apply(alloc, state, action, objects, &mut scratch.atom)?;
+    Ok(None)
+}
