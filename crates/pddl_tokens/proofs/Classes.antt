@@ -64,3 +64,15 @@ line_end_class b is = grind arith
 pub line_end_no_word : is_word_class (class_of 10) ≡ false
 unfolding class_of
 line_end_no_word = refl
+
+pub word_no_blank : (b : ℕ) → is_word_class (class_of b) ≡ true → is_blank b ≡ false
+unfolding class_of
+word_no_blank b is = grind arith
+
+pub word_no_parenthesis : (b : ℕ) → is_word_class (class_of b) ≡ true → (b ≢ 40) × (b ≢ 41)
+unfolding class_of
+word_no_parenthesis b is = (grind arith, grind arith)
+
+pub word_visible : (b : ℕ) → is_word_class (class_of b) ≡ true → (33 ≤ b) × (b ≤ 126)
+unfolding class_of
+word_visible b is = (grind arith, grind arith)

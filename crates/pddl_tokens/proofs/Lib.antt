@@ -2,3 +2,5 @@ pub mod Steps
 mod Classes
 pub mod CutLaws
 pub mod Places
+mod Table
+mod OnlyCut

@@ -1,7 +1,6 @@
 -- The pieces of a text lie in it, for callers that ask for the line of a piece.
 
 use Rattle.std.proofs.Common.{ℕ, ◌<◌, ◌≤◌, List, [], ◌∷◌, length, arith}
-use Rattle.pddl_tokens.specs.declared.spans.Span.{Span}
 use Rattle.pddl_tokens.specs.declared.spans.TokenKind.{TokenKind}
 use Rattle.pddl_tokens.specs.declared.spans.TokenKind.TheVariants.{Left, Right, Word}
 use Rattle.pddl_tokens.specs.Tokens.{Piece, token, bad, pieces}

@@ -15,20 +15,47 @@ pub(crate) enum ByteClass {
     Bad,
 }
 
+// The classes by one letter each, for the table.
+const N: ByteClass = ByteClass::LineEnd;
+
+const B: ByteClass = ByteClass::Blank;
+
+const L: ByteClass = ByteClass::Left;
+
+const R: ByteClass = ByteClass::Right;
+
+const S: ByteClass = ByteClass::Semicolon;
+
+const W: ByteClass = ByteClass::WordByte;
+
+const X: ByteClass = ByteClass::Bad;
+
+/// The class of each byte, sixteen bytes to a row.
+#[rattlefmt::skip]
+static CLASSES: [ByteClass; 256] = [
+    X, X, X, X, X, X, X, X, X, B, N, B, B, B, X, X,
+    X, X, X, X, X, X, X, X, X, X, X, X, X, X, X, X,
+    B, W, W, W, W, W, W, W, L, R, W, W, W, W, W, W,
+    W, W, W, W, W, W, W, W, W, W, W, S, W, W, W, W,
+    W, W, W, W, W, W, W, W, W, W, W, W, W, W, W, W,
+    W, W, W, W, W, W, W, W, W, W, W, W, W, W, W, W,
+    W, W, W, W, W, W, W, W, W, W, W, W, W, W, W, W,
+    W, W, W, W, W, W, W, W, W, W, W, W, W, W, W, X,
+    X, X, X, X, X, X, X, X, X, X, X, X, X, X, X, X,
+    X, X, X, X, X, X, X, X, X, X, X, X, X, X, X, X,
+    X, X, X, X, X, X, X, X, X, X, X, X, X, X, X, X,
+    X, X, X, X, X, X, X, X, X, X, X, X, X, X, X, X,
+    X, X, X, X, X, X, X, X, X, X, X, X, X, X, X, X,
+    X, X, X, X, X, X, X, X, X, X, X, X, X, X, X, X,
+    X, X, X, X, X, X, X, X, X, X, X, X, X, X, X, X,
+    X, X, X, X, X, X, X, X, X, X, X, X, X, X, X, X,
+];
+
 /// The class of a byte.
-#[tactic(auto, unfolding(crate::specs::Bytes::class_of))]
 pub(crate) fn class_of(b: u8) -> ByteClass
     ensures { result ≡ class_of b }
 {
-    match b {
-        b'\n' => ByteClass::LineEnd,
-        b' ' | b'\t' | b'\r' | 11 | 12 => ByteClass::Blank,
-        b'(' => ByteClass::Left,
-        b')' => ByteClass::Right,
-        b';' => ByteClass::Semicolon,
-        33..=126 => ByteClass::WordByte,
-        _ => ByteClass::Bad,
-    }
+    CLASSES[b as usize]
 }
 
 /// Whether words are made of this byte.

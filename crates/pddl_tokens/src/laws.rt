@@ -2,7 +2,8 @@
 //!
 //! Each function does nothing: its contract is the law.
 
-ghost use Rattle.pddl_tokens.specs.Tokens.{pieces};
+ghost use Rattle.std.specs.Prelude.{◌≡◌, List};
+ghost use Rattle.pddl_tokens.specs.Tokens.{Piece, pieces};
 ghost use Rattle.pddl_tokens.specs.Cut.{IsCutInto};
 
 /// A text is cut into gaps and tokens: between two tokens, before the first and behind the last lie blanks and comments alone; a
@@ -11,6 +12,10 @@ ghost use Rattle.pddl_tokens.specs.Cut.{IsCutInto};
 #[tactic(auto, using(crate::proofs::CutLaws::cut_into_pieces))]
 pub fn text_is_cut(text: &[u8])
     ensures { IsCutInto text.now 0 (pieces text.now) }
-{
-    let _length = text.len();
-}
+{}
+
+/// A text is so cut in one way only: gaps and tokens as `text_is_cut` says are those of the text.
+#[tactic(auto, using(crate::proofs::OnlyCut::only_pieces))]
+pub fn text_is_cut_in_one_way(text: &[u8])
+    ensures { (cut : List Piece) → IsCutInto text.now 0 cut → cut ≡ pieces text.now }
+{}

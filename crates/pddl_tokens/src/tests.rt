@@ -28,6 +28,7 @@ fn expect_token(
 fn tokens_of_a_list(rt: HostRuntime) -> Result<(), Fail> {
     let text = b"(A;x\n?b)";
     laws::text_is_cut(text);
+    laws::text_is_cut_in_one_way(text);
     let mut cursor = Cursor::new(text)?;
     expect_token(&rt, cursor.next()?, TokenKind::Left, 0, 1, b"(");
     expect_token(&rt, cursor.next()?, TokenKind::Word, 1, 2, b"A");

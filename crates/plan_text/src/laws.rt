@@ -12,14 +12,10 @@ ghost use Rattle.plan_text.specs.PlanFaults.{IsPlanOf};
 #[tactic(auto, using(crate::proofs::PlanLaws::plan_is_of))]
 pub fn plan_is_meant(text: &[u8])
     ensures { IsPlanOf text.now (plan_of text.now) }
-{
-    let _length = text.len();
-}
+{}
 
 /// A text stands for no other plan.
 #[tactic(auto, using(crate::proofs::OnlyPlan::only_plan))]
 pub fn no_other_plan_is_meant(text: &[u8])
     ensures { (plan : Plan) → IsPlanOf text.now plan → plan ≡ plan_of text.now }
-{
-    let _length = text.len();
-}
+{}

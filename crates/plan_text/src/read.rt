@@ -10,7 +10,7 @@ use pddl_tokens::{Cursor, TextFault, TokenKind, WordKind, line_of, word_kind};
 use std::alloc::{AllocError, Global};
 use strips_task::{MOST_STEPS, OpenSteps, Plan};
 
-/// The plan of a text, in one pass over its bytes.
+/// The plan of a text, in one pass over its tokens.
 ///
 /// A text that is no plan text is an answer like any other: `Plan::Unreadable`. The only error is that memory runs out. The steps take
 /// about as many bytes as their words, and a few more for each word and each step.

@@ -1,0 +1,122 @@
+-- What the syntax of a problem stands for, one equation for each case.
+
+use Rattle.std.proofs.Common.{◌≡◌, ℕ, ◌++◌, Bool, true, false, List, [], ◌∷◌, Option, Some, None, refl, append_assoc, if◌then◌else◌}
+use Rattle.std.proofs.lemmas.List.{append-nil}
+use Rattle.std.specs.Global.{Vec}
+use Rattle.strips_task.specs.declared.atoms.Atom.{Atom}
+use Rattle.strips_task.specs.declared.atoms.GroundCond.{GroundCond}
+use Rattle.pddl_reader.specs.declared.syntax.LiteralSyntax.{LiteralSyntax}
+use Rattle.pddl_reader.specs.declared.syntax.ProblemSyntax.{ProblemSyntax}
+use Rattle.pddl_reader.specs.Optional.{followed_by, with_front}
+use Rattle.pddl_reader.specs.Forms.{literal_form, literal_forms, given_literals, problem_syntax_form}
+use Rattle.pddl_reader.specs.Declarations.{Predicates, predicate_number}
+use Rattle.pddl_reader.specs.Domain.{DomainValue}
+use Rattle.pddl_reader.specs.Problem.{ground_condition_of, ground_conditions_of, initial_before, initial_of, task_value, task_with, problem_of}
+use Rattle.pddl_reader.specs.Syntax.{LiteralForm}
+use Rattle.pddl_reader.proofs.Items.{item_steps}
+use Rattle.pddl_reader.proofs.ListsOf.{with_item, item_none, item_some, front_none, with_front-followed_by}
+
+pub condition_none : (predicates : Predicates) (l : LiteralForm) → predicate_number predicates l.atom ≡ None → ground_condition_of predicates l ≡ None
+unfolding ground_condition_of
+condition_none predicates l h = rw h refl
+
+pub condition_some : (predicates : Predicates) (l : LiteralForm) (number : ℕ) (args : List ℕ) → predicate_number predicates l.atom ≡ Some number → args ≡ [] →
+    ground_condition_of predicates l ≡ Some (record { positive = l.positive; atom = record { pred = number; args = args } })
+unfolding ground_condition_of
+condition_some predicates l number args h e = rw (h, e) refl
+
+pub ruleset condition_steps = (condition_none, condition_some)
+
+pub conditions_item : (front : List GroundCond) (predicates : Predicates) (x : LiteralSyntax) (xs : List LiteralSyntax) →
+    with_front front (ground_conditions_of predicates (literal_forms (x ∷ xs)))
+    ≡ with_item front (ground_condition_of predicates (literal_form x)) (ground_conditions_of predicates (literal_forms xs))
+unfolding ground_conditions_of literal_forms
+conditions_item front predicates x xs =
+    with_front-followed_by front (ground_condition_of predicates (literal_form x)) (ground_conditions_of predicates (literal_forms xs))
+
+pub conditions_end : (front : List GroundCond) (predicates : Predicates) → with_front front (ground_conditions_of predicates (literal_forms [])) ≡ Some front
+unfolding ground_conditions_of literal_forms with_front
+conditions_end front predicates = rw append-nil refl
+
+pub ruleset conditions_steps = (item_steps, front_none, conditions_item, conditions_end, item_none, item_some)
+
+-- the initial atoms behind one more atom, where it is not negated
+unfoldable pub initial_as : Bool → List Atom → Atom → Option (List Atom) → Option (List Atom)
+initial_as true front atom others = with_front (front ++ atom ∷ []) others
+initial_as false front atom others = with_front front others
+
+-- the initial atoms behind one more literal
+unfoldable pub initial_after : List Atom → Option GroundCond → Option (List Atom) → Option (List Atom)
+initial_after front None others = None
+initial_after front (Some given) others = initial_as given.positive front given.atom others
+
+initial_read_as : (positive : Bool) (front : List Atom) (atom : Atom) (others : Option (List Atom)) →
+    with_front front (if positive then followed_by (Some atom) others else others) ≡ initial_as positive front atom others
+unfolding initial_as followed_by with_front
+initial_read_as true front atom None = refl
+initial_read_as true front atom (Some xs) = rw append_assoc refl
+initial_read_as false front atom others = refl
+
+initial_read : (front : List Atom) (given : Option GroundCond) (others : Option (List Atom)) →
+    with_front front (initial_before given others) ≡ initial_after front given others
+unfolding initial_before initial_after with_front
+initial_read front None others = refl
+initial_read front (Some given) others = initial_read_as given.positive front given.atom others
+
+pub initial_item : (front : List Atom) (predicates : Predicates) (x : LiteralSyntax) (xs : List LiteralSyntax) →
+    with_front front (initial_of predicates (literal_forms (x ∷ xs)))
+    ≡ initial_after front (ground_condition_of predicates (literal_form x)) (initial_of predicates (literal_forms xs))
+unfolding initial_of literal_forms
+initial_item front predicates x xs = initial_read front (ground_condition_of predicates (literal_form x)) (initial_of predicates (literal_forms xs))
+
+pub initial_end : (front : List Atom) (predicates : Predicates) → with_front front (initial_of predicates (literal_forms [])) ≡ Some front
+unfolding initial_of literal_forms with_front
+initial_end front predicates = rw append-nil refl
+
+pub after_none : (front : List Atom) (others : Option (List Atom)) → initial_after front None others ≡ None
+unfolding initial_after
+after_none front others = refl
+
+pub after_positive : (front : List Atom) (given : GroundCond) (others : Option (List Atom)) → given.positive ≡ true →
+    initial_after front (Some given) others ≡ with_front (front ++ given.atom ∷ []) others
+unfolding initial_after initial_as
+after_positive front given others h = rw h refl
+
+pub after_negated : (front : List Atom) (given : GroundCond) (others : Option (List Atom)) → given.positive ≡ false →
+    initial_after front (Some given) others ≡ with_front front others
+unfolding initial_after initial_as
+after_negated front given others h = rw h refl
+
+pub ruleset initial_steps = (item_steps, front_none, initial_item, initial_end, after_none, after_positive, after_negated)
+
+pub meant_parts : (domain : DomainValue) (syntax : ProblemSyntax) → problem_of domain (problem_syntax_form syntax)
+    ≡ task_with domain syntax.name.text.now (initial_of domain.predicates (literal_forms (given_literals syntax.init)))
+        (ground_conditions_of domain.predicates (literal_forms syntax.goal.items))
+unfolding problem_of given_literals literal_forms
+meant_parts domain syntax = by syntax.init
+  where
+  by : (init : Option (Vec LiteralSyntax)) →
+      problem_of domain (problem_syntax_form (record { name = syntax.name; domain = syntax.domain; init = init; goal = syntax.goal }))
+      ≡ task_with domain syntax.name.text.now (initial_of domain.predicates (literal_forms (given_literals init)))
+          (ground_conditions_of domain.predicates (literal_forms syntax.goal.items))
+  by None = refl
+  by (Some v) = refl
+
+pub no_initial : (domain : DomainValue) (syntax : ProblemSyntax) → initial_of domain.predicates (literal_forms (given_literals syntax.init)) ≡ None →
+    problem_of domain (problem_syntax_form syntax) ≡ None
+unfolding task_with
+no_initial domain syntax h = rw (meant_parts domain syntax, h) refl
+
+pub no_goal : (domain : DomainValue) (syntax : ProblemSyntax) (init : List Atom) → initial_of domain.predicates (literal_forms (given_literals syntax.init)) ≡ Some init →
+    ground_conditions_of domain.predicates (literal_forms syntax.goal.items) ≡ None → problem_of domain (problem_syntax_form syntax) ≡ None
+unfolding task_with
+no_goal domain syntax init h e = rw (meant_parts domain syntax, h, e) refl
+
+pub problem_meant : (domain : DomainValue) (syntax : ProblemSyntax) (init : List Atom) (goal : List GroundCond) →
+    initial_of domain.predicates (literal_forms (given_literals syntax.init)) ≡ Some init →
+    ground_conditions_of domain.predicates (literal_forms syntax.goal.items) ≡ Some goal →
+    problem_of domain (problem_syntax_form syntax) ≡ Some (task_value domain syntax.name.text.now init goal)
+unfolding task_with
+problem_meant domain syntax init goal h e = rw (meant_parts domain syntax, h, e) refl
+
+pub ruleset problem_steps = (no_initial, no_goal)

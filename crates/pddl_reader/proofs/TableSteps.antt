@@ -1,0 +1,60 @@
+-- Names declared in tables and found there, one equation for each case.
+
+use Rattle.std.proofs.Common.{◌≡◌, ℕ, ◌<◌, ◌≤◌, ◌&&◌, Bool, true, false, nat_eq, nat_lt, is_none, is_some, List, length, Option, Some, None, refl}
+use Rattle.std.proofs.lemmas.Bool.{le-ltb, lt-ltb}
+use Rattle.std.proofs.lemmas.Option.{slice_get-map}
+use Rattle.std.specs.List.{slice_get}
+use Rattle.pddl_words.specs.Words.{folded}
+use Rattle.strips_task.specs.Names.{number_named}
+use Rattle.pddl_reader.specs.Optional.{guard}
+use Rattle.pddl_reader.specs.Declarations.{Predicates, may_declare, takes_terms, predicate_taking, predicate_number}
+use Rattle.pddl_reader.specs.Syntax.{AtomForm}
+
+-- a name that an entry has may not be declared
+pub may_not_again : {V : Type 0} (most : ℕ) (table : List (List ℕ × V)) (name : List ℕ) → is_some (number_named table name) ≡ true → may_declare most table name ≡ false
+unfolding may_declare
+may_not_again most table name h = by (number_named table name) h
+  where
+  by : (found : Option ℕ) → is_some found ≡ true → (is_none found && nat_lt (length table) most) ≡ false
+  by None h = cc
+  by (Some n) h = refl
+
+pub may_not_more : {V : Type 0} (most : ℕ) (table : List (List ℕ × V)) (name : List ℕ) → most ≤ length table → may_declare most table name ≡ false
+unfolding may_declare
+may_not_more most table name h = rw (le-ltb (length table) most h) (by (is_none (number_named table name)))
+  where
+  by : (test : Bool) → (test && false) ≡ false
+  by true = refl
+  by false = refl
+
+pub may_if : {V : Type 0} (most : ℕ) (table : List (List ℕ × V)) (name : List ℕ) → is_some (number_named table name) ≡ false → length table < most → may_declare most table name ≡ true
+unfolding may_declare
+may_if most table name h lt = rw (lt-ltb (length table) most lt) (by (number_named table name) h)
+  where
+  by : (found : Option ℕ) → is_some found ≡ false → (is_none found && true) ≡ true
+  by None h = refl
+  by (Some n) h = cc
+
+pub ruleset may_steps = (may_not_again, may_not_more, may_if)
+
+pub number_unknown : (predicates : Predicates) (atom : AtomForm) → number_named predicates (folded atom.predicate) ≡ None → predicate_number predicates atom ≡ None
+unfolding predicate_number predicate_taking
+number_unknown predicates atom h = rw h refl
+
+pub number_wrong : (predicates : Predicates) (atom : AtomForm) (number : ℕ) → number_named predicates (folded atom.predicate) ≡ Some number →
+    takes_terms predicates number 0 ≡ false → predicate_number predicates atom ≡ None
+unfolding predicate_number predicate_taking guard
+number_wrong predicates atom number h e = rw (h, e) refl
+
+pub number_right : (predicates : Predicates) (atom : AtomForm) (number : ℕ) → number_named predicates (folded atom.predicate) ≡ Some number →
+    takes_terms predicates number 0 ≡ true → predicate_number predicates atom ≡ Some number
+unfolding predicate_number predicate_taking guard
+number_right predicates atom number h e = rw (h, e) refl
+
+pub ruleset number_steps = (number_unknown, number_wrong, number_right)
+
+-- the places of a predicate are those of its entry
+pub places_counted : (predicates : Predicates) (number count : ℕ) (name : List ℕ) (places : List (List ℕ)) →
+    slice_get predicates number ≡ Some (name, places) → takes_terms predicates number count ≡ nat_eq (length places) count
+unfolding takes_terms
+places_counted predicates number count name places h = rw (slice_get-map (λ (e : List ℕ × List (List ℕ)). e.1) predicates number, h) refl

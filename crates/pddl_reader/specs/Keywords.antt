@@ -1,0 +1,62 @@
+-- The words that PDDL gives a meaning (PDDL 2.1, Fox and Long 2003, appendix A).
+
+use Rattle.std.specs.Prelude.{ℕ, List, Bool, ◌||◌, codes}
+use Rattle.pddl_words.specs.Kinds.{is_same_word}
+
+abbrev pub define_word : List ℕ
+define_word = codes "define"
+
+abbrev pub domain_word : List ℕ
+domain_word = codes "domain"
+
+abbrev pub problem_word : List ℕ
+problem_word = codes "problem"
+
+abbrev pub and_word : List ℕ
+and_word = codes "and"
+
+abbrev pub not_word : List ℕ
+not_word = codes "not"
+
+abbrev pub predicates_keyword : List ℕ
+predicates_keyword = codes ":predicates"
+
+abbrev pub action_keyword : List ℕ
+action_keyword = codes ":action"
+
+abbrev pub parameters_keyword : List ℕ
+parameters_keyword = codes ":parameters"
+
+abbrev pub precondition_keyword : List ℕ
+precondition_keyword = codes ":precondition"
+
+abbrev pub effect_keyword : List ℕ
+effect_keyword = codes ":effect"
+
+abbrev pub domain_keyword : List ℕ
+domain_keyword = codes ":domain"
+
+abbrev pub init_keyword : List ℕ
+init_keyword = codes ":init"
+
+abbrev pub goal_keyword : List ℕ
+goal_keyword = codes ":goal"
+
+-- the words that join or guard formulas, besides `and` and `not`
+unfoldable pub is_connective : List ℕ → Bool
+is_connective w =
+    is_same_word w (codes "or") || is_same_word w (codes "imply") || is_same_word w (codes "when") || is_same_word w (codes "either")
+
+-- the words that bind variables in a formula
+unfoldable pub is_quantifier : List ℕ → Bool
+is_quantifier w = is_same_word w (codes "exists") || is_same_word w (codes "forall")
+
+-- the words that compare
+unfoldable pub is_comparison : List ℕ → Bool
+is_comparison w =
+    is_same_word w (codes "=") || is_same_word w (codes "<") || is_same_word w (codes ">") || is_same_word w (codes "<=") ||
+    is_same_word w (codes ">=")
+
+-- the words besides `and` and `not` that name no predicate
+unfoldable pub is_other_reserved : List ℕ → Bool
+is_other_reserved w = is_connective w || is_quantifier w || is_comparison w

@@ -1,0 +1,63 @@
+-- The task that a domain and the syntax of a problem stand for (PDDL 2.1, Fox and Long 2003, section 2).
+
+use Rattle.std.specs.Prelude.{ℕ, Bool, List, [], ◌∷◌, Option, Some, None, if◌then◌else◌}
+use Rattle.std.specs.Option.{option_map}
+use Rattle.pddl_words.specs.Words.{folded}
+use Rattle.strips_task.specs.declared.atoms.Atom.{Atom}
+use Rattle.strips_task.specs.declared.atoms.GroundCond.{GroundCond}
+use Rattle.strips_task.specs.declared.tasks.TaskParts.{TaskParts}
+use Rattle.pddl_reader.specs.Optional.{followed_by}
+use Rattle.pddl_reader.specs.Declarations.{Predicates, predicate_number}
+use Rattle.pddl_reader.specs.Domain.{DomainValue}
+use Rattle.pddl_reader.specs.Syntax.{LiteralForm, ProblemForm}
+
+-- a ground condition on an atom without arguments
+abbrev pub ground_condition : Bool → ℕ → GroundCond
+ground_condition positive number = record { positive = positive; atom = record { pred = number; args = [] } }
+
+-- the ground condition that a literal of a problem stands for
+unfoldable pub ground_condition_of : Predicates → LiteralForm → Option GroundCond
+ground_condition_of predicates literal = option_map (ground_condition literal.positive) (predicate_number predicates literal.atom)
+
+-- the ground conditions that literals stand for, in text order
+unfoldable pub ground_conditions_of : Predicates → List LiteralForm → Option (List GroundCond)
+ground_conditions_of predicates [] = Some []
+ground_conditions_of predicates (literal ∷ literals) =
+    followed_by (ground_condition_of predicates literal) (ground_conditions_of predicates literals)
+
+-- an initial atom before others; a negated one adds nothing
+unfoldable pub initial_before : Option GroundCond → Option (List Atom) → Option (List Atom)
+initial_before None others = None
+initial_before (Some given) others = (if given.positive then followed_by (Some given.atom) others else others)
+
+-- the initial atoms that literals stand for, in text order
+unfoldable pub initial_of : Predicates → List LiteralForm → Option (List Atom)
+initial_of predicates [] = Some []
+initial_of predicates (literal ∷ literals) = initial_before (ground_condition_of predicates literal) (initial_of predicates literals)
+
+-- a task of the domain, with the folded name of the problem
+abbrev pub task_named : DomainValue → List ℕ → List Atom → List GroundCond → TaskParts
+task_named domain problem init goal = record {
+  domain = domain.name;
+  problem = problem;
+  parents = domain.parents;
+  objects = domain.objects;
+  preds = domain.predicates;
+  actions = domain.actions;
+  init = init;
+  goal = goal
+}
+
+-- a task of the domain
+abbrev pub task_value : DomainValue → List ℕ → List Atom → List GroundCond → TaskParts
+task_value domain problem init goal = task_named domain (folded problem) init goal
+
+-- the task with these initial atoms and this goal
+unfoldable pub task_with : DomainValue → List ℕ → Option (List Atom) → Option (List GroundCond) → Option TaskParts
+task_with domain problem None goal = None
+task_with domain problem (Some init) goal = option_map (task_value domain problem init) goal
+
+-- the task that the syntax stands for, where the names used are declared
+unfoldable pub problem_of : DomainValue → ProblemForm → Option TaskParts
+problem_of domain problem =
+    task_with domain problem.name (initial_of domain.predicates problem.init) (ground_conditions_of domain.predicates problem.goal)

@@ -1,0 +1,58 @@
+-- What a reader's answer says of the trees that it walks over.
+
+use Rattle.std.specs.Prelude.{ℕ, Bool, true, false, ◌≡◌, ◌≢◌, List, Option, Some, None, Result, Ok, Err}
+use Rattle.pddl_reader.specs.declared.fault.FaultKind.TheVariants.{OutOfMemory}
+use Rattle.pddl_reader.specs.declared.fault.ReadFault.{ReadFault}
+use Rattle.pddl_reader.specs.ReadFault.{out_of_memory}
+use Rattle.pddl_reader.specs.Optional.{with_front}
+use Rattle.pddl_reader.specs.Trees.{Trees, list}
+use Rattle.pddl_reader.specs.Levels.{Levels, behind}
+
+-- a fault is want of memory, which has no place, or it says that the fact holds
+abbrev pub Refuses : ReadFault → Type 0 → Type 0
+Refuses e fact = (e.kind ≡ OutOfMemory → e ≡ out_of_memory) × (e.kind ≢ OutOfMemory → fact)
+
+-- the rest of the list in which the walk stands is read with its `)`
+abbrev pub ReadsList : {X Y : Type 0} → (X → Y) → Result X ReadFault → (Trees → Option Y) → Levels → Levels → Type 0
+ReadsList view (Ok x) read old new = (read old.top ≡ Some (view x)) × (new ≡ behind old.below)
+ReadsList view (Err e) read old new = Refuses e (read old.top ≡ None)
+
+-- as `ReadsList`, where the answer is put into `after`
+abbrev pub ReadsInto : {Y : Type 0} → Result (Unit {0}) ReadFault → (Trees → Option Y) → Levels → Levels → Y → Type 0
+ReadsInto (Ok _) read old new after = (read old.top ≡ Some after) × (new ≡ behind old.below)
+ReadsInto (Err e) read old new after = Refuses e (read old.top ≡ None)
+
+-- something at the front is read, and the walk goes on behind it
+abbrev pub ReadsFront : Result (Unit {0}) ReadFault → (Trees → Option Trees) → Levels → Levels → Type 0
+ReadsFront (Ok _) read old new = (read old.top ≡ Some new.top) × (new.below ≡ old.below)
+ReadsFront (Err e) read old new = Refuses e (read old.top ≡ None)
+
+-- the walk enters the list at the front
+abbrev pub Enters : Result (Unit {0}) ReadFault → (Trees → Option Trees) → Levels → Levels → Type 0
+Enters (Ok _) read old new = (old.top ≡ list new.top (behind new.below).top) × (old.below ≡ (behind new.below).below)
+Enters (Err e) read old new = Refuses e (read old.top ≡ None)
+
+-- as `ReadsList`, where what is read is put behind `front`, which makes it `all`
+abbrev pub ReadsOnto : {Y : Type 0} → Result (Unit {0}) ReadFault → (Trees → Option (List Y)) → Levels → Levels → List Y → List Y → Type 0
+ReadsOnto (Ok _) read old new front all = (with_front front (read old.top) ≡ Some all) × (new ≡ behind old.below)
+ReadsOnto (Err e) read old new front all = Refuses e (with_front front (read old.top) ≡ None)
+
+-- the name is read, or memory ran out
+abbrev pub ReadsName : Result (List ℕ) ReadFault → List ℕ → Type 0
+ReadsName (Ok name) expected = name ≡ expected
+ReadsName (Err e) expected = e ≡ out_of_memory
+
+-- the test passes, or it is refused
+abbrev pub Allows : Result (Unit {0}) ReadFault → Bool → Type 0
+Allows (Ok _) test = test ≡ true
+Allows (Err e) test = Refuses e (test ≡ false)
+
+-- what is defined is given
+abbrev pub Gives : {X Y : Type 0} → (X → Y) → Result X ReadFault → Option Y → Type 0
+Gives view (Ok x) defined = defined ≡ Some (view x)
+Gives view (Err e) defined = Refuses e (defined ≡ None)
+
+-- as `Gives`, where what is defined is put into `after`
+abbrev pub Puts : {Y : Type 0} → Result (Unit {0}) ReadFault → Option Y → Y → Type 0
+Puts (Ok _) defined after = defined ≡ Some after
+Puts (Err e) defined after = Refuses e (defined ≡ None)

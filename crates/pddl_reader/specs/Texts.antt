@@ -1,0 +1,24 @@
+-- The domain and the task that texts stand for.
+
+use Rattle.std.specs.Prelude.{ℕ, List, Option, Some, None}
+use Rattle.std.specs.Option.{option_and_then}
+use Rattle.strips_task.specs.declared.tasks.TaskParts.{TaskParts}
+use Rattle.pddl_reader.specs.declared.fault.ReadFault.{ReadFault}
+use Rattle.pddl_reader.specs.Domain.{DomainValue, domain_of}
+use Rattle.pddl_reader.specs.Levels.{trees}
+use Rattle.pddl_reader.specs.Problem.{problem_of}
+use Rattle.pddl_reader.specs.Syntax.{domain_syntax, problem_syntax}
+use Rattle.pddl_reader.specs.Trees.{text_fault}
+
+-- the value of a text that has no text fault
+unfoldable pub unless_fault : {A : Type 0} → Option ReadFault → Option A → Option A
+unless_fault None value = value
+unless_fault (Some fault) value = None
+
+-- the domain that a text stands for
+unfoldable pub domain_of_text : List ℕ → Option DomainValue
+domain_of_text text = unless_fault (text_fault text) (option_and_then domain_of (domain_syntax (trees text)))
+
+-- the task that a text stands for beside a domain
+unfoldable pub problem_of_text : DomainValue → List ℕ → Option TaskParts
+problem_of_text domain text = unless_fault (text_fault text) (option_and_then (problem_of domain) (problem_syntax (trees text)))

@@ -1,0 +1,161 @@
+//! What the first word of a list says of it.
+
+ghost use Rattle.std.specs.Prelude.{◌≡◌};
+ghost use Rattle.pddl_words.specs.Words.{is_name};
+ghost use Rattle.pddl_reader.specs.Keywords.{is_connective, is_quantifier, is_comparison, is_other_reserved};
+ghost use Rattle.pddl_reader.specs.Heads.{is_and, formula_head, domain_section, action_part, problem_section};
+
+use pddl_tokens::{WordKind, same_folded, word_kind};
+
+/// What a word heads where a formula, an effect, an initial atom or the declaration of a predicate is due.
+#[derive(Clone, Copy, Debug)]
+pub(crate) enum FormulaHead {
+    And,
+    Not,
+    /// Another word that names no predicate.
+    Reserved,
+    Name,
+    Other,
+}
+
+/// The sections of a domain.
+#[derive(Clone, Copy, Debug)]
+pub(crate) enum DomainSection {
+    Predicates,
+    Action,
+}
+
+/// The parts of an action.
+#[derive(Clone, Copy, Debug)]
+pub(crate) enum ActionPart {
+    Parameters,
+    Precondition,
+    Effect,
+}
+
+/// The sections of a problem.
+#[derive(Clone, Copy, Debug)]
+pub(crate) enum ProblemSection {
+    Domain,
+    Init,
+    Goal,
+}
+
+/// Whether a word heads a conjunction.
+#[tactic(auto, unfolding(crate::specs::Heads::is_and))]
+pub(crate) fn is_and(word: &[u8]) -> bool
+    ensures { result ≡ is_and word.now }
+{
+    same_folded(word, b"and")
+}
+
+/// What the word heads.
+#[tactic(auto, unfolding(crate::specs::Heads::formula_head))]
+pub(crate) fn formula_head(word: &[u8]) -> FormulaHead
+    ensures { result ≡ formula_head word.now }
+{
+    if same_folded(word, b"and") {
+        FormulaHead::And
+    } else if same_folded(word, b"not") {
+        FormulaHead::Not
+    } else if is_other_reserved(word) {
+        FormulaHead::Reserved
+    } else if is_name(word) {
+        FormulaHead::Name
+    } else {
+        FormulaHead::Other
+    }
+}
+
+/// The section of a domain that the word heads, if any.
+#[tactic(auto, unfolding(crate::specs::Heads::domain_section))]
+pub(crate) fn domain_section(word: &[u8]) -> Option<DomainSection>
+    ensures { result ≡ domain_section word.now }
+{
+    if same_folded(word, b":predicates") {
+        Some(DomainSection::Predicates)
+    } else if same_folded(word, b":action") {
+        Some(DomainSection::Action)
+    } else {
+        None
+    }
+}
+
+/// The part of an action that the word names, if any.
+#[tactic(auto, unfolding(crate::specs::Heads::action_part))]
+pub(crate) fn action_part(word: &[u8]) -> Option<ActionPart>
+    ensures { result ≡ action_part word.now }
+{
+    if same_folded(word, b":parameters") {
+        Some(ActionPart::Parameters)
+    } else if same_folded(word, b":precondition") {
+        Some(ActionPart::Precondition)
+    } else if same_folded(word, b":effect") {
+        Some(ActionPart::Effect)
+    } else {
+        None
+    }
+}
+
+/// The section of a problem that the word heads, if any.
+#[tactic(auto, unfolding(crate::specs::Heads::problem_section))]
+pub(crate) fn problem_section(word: &[u8]) -> Option<ProblemSection>
+    ensures { result ≡ problem_section word.now }
+{
+    if same_folded(word, b":domain") {
+        Some(ProblemSection::Domain)
+    } else if same_folded(word, b":init") {
+        Some(ProblemSection::Init)
+    } else if same_folded(word, b":goal") {
+        Some(ProblemSection::Goal)
+    } else {
+        None
+    }
+}
+
+/// Whether the word is a name. Upper and lower case are alike.
+#[tactic(auto, unfolding(pddl_words::specs::Kinds::kind_of_word))]
+pub(crate) fn is_name(word: &[u8]) -> bool
+    ensures { result ≡ is_name word.now }
+{
+    match word_kind(word) {
+        WordKind::Name => true,
+        _ => false,
+    }
+}
+
+/// Whether the word, besides `and` and `not`, names no predicate, since PDDL gives it a meaning that this reader refuses.
+#[tactic(auto, unfolding(crate::specs::Keywords::is_other_reserved))]
+fn is_other_reserved(word: &[u8]) -> bool
+    ensures { result ≡ is_other_reserved word.now }
+{
+    is_connective(word) || is_quantifier(word) || is_comparison(word)
+}
+
+#[tactic(auto, unfolding(crate::specs::Keywords::is_connective))]
+fn is_connective(word: &[u8]) -> bool
+    ensures { result ≡ is_connective word.now }
+{
+    same_folded(word, b"or")
+        || same_folded(word, b"imply")
+        || same_folded(word, b"when")
+        || same_folded(word, b"either")
+}
+
+#[tactic(auto, unfolding(crate::specs::Keywords::is_quantifier))]
+fn is_quantifier(word: &[u8]) -> bool
+    ensures { result ≡ is_quantifier word.now }
+{
+    same_folded(word, b"exists") || same_folded(word, b"forall")
+}
+
+#[tactic(auto, unfolding(crate::specs::Keywords::is_comparison))]
+fn is_comparison(word: &[u8]) -> bool
+    ensures { result ≡ is_comparison word.now }
+{
+    same_folded(word, b"=")
+        || same_folded(word, b"<")
+        || same_folded(word, b">")
+        || same_folded(word, b"<=")
+        || same_folded(word, b">=")
+}

@@ -1,0 +1,39 @@
+//! The readers of whole texts: the three layers, one after the other.
+
+ghost use Rattle.std.specs.Prelude.{◌≡◌, Some, Err};
+ghost use Rattle.pddl_reader.specs.declared.fault.ReadFault as read_fault;
+ghost use Rattle.pddl_reader.specs.Reading.{Gives};
+ghost use Rattle.pddl_reader.specs.Texts.{domain_of_text, problem_of_text};
+ghost use Rattle.pddl_reader.specs.Trees.{text_fault};
+
+use crate::fault::ReadFault;
+use crate::resolution::domain::{Domain, resolve_domain};
+use crate::resolution::problem::resolve_problem;
+use crate::syntax::domain::domain_text;
+use crate::syntax::problem::problem_text;
+use crate::text::check_text;
+use std::alloc::Global;
+use strips_task::Task;
+
+/// Reads a domain (PDDL 2.1, Fox and Long 2003, appendix A). Walks over the text twice, and looks each name up by one hash.
+#[tactic(auto, using(crate::proofs::TextSteps::domain_text_steps))]
+pub fn read_domain(alloc: Global, text: &[u8]) -> Result<Domain, ReadFault>
+    ensures domain { Gives (λ domain. domain) result (domain_of_text text.now) }
+    ensures fault { (e : read_fault.ReadFault) → text_fault text.now ≡ Some e → result ≡ Err e }
+{
+    check_text(text)?;
+    let syntax = domain_text(alloc, text)?;
+    resolve_domain(alloc, &syntax)
+}
+
+/// Reads a problem (PDDL 2.1, Fox and Long 2003, appendix A) and makes a task of it and its domain. The name that the problem gives for
+/// its domain is read and not compared. Where it refuses, the domain is dropped.
+#[tactic(auto, using(crate::proofs::TextSteps::problem_text_steps))]
+pub fn read_problem(alloc: Global, domain: Domain, text: &[u8]) -> Result<Task, ReadFault>
+    ensures task { Gives (λ task. task) result (problem_of_text domain text.now) }
+    ensures fault { (e : read_fault.ReadFault) → text_fault text.now ≡ Some e → result ≡ Err e }
+{
+    check_text(text)?;
+    let syntax = problem_text(alloc, text)?;
+    resolve_problem(alloc, domain, &syntax)
+}

@@ -1,0 +1,8 @@
+//! The third layer: names are looked up, and the domain and the task are made.
+//!
+//! Tables are filled in text order, so that a name's number is its place among those declared. Each look-up is one hash.
+
+pub(crate) mod actions;
+pub(crate) mod domain;
+pub(crate) mod names;
+pub(crate) mod problem;

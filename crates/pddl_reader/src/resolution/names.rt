@@ -1,0 +1,67 @@
+//! Names are declared in tables, and found there.
+
+ghost use Rattle.std.specs.Prelude.{◌≡◌, ◌<◌, ◌≤◌, length};
+ghost use Rattle.pddl_words.specs.Words.{folded};
+ghost use Rattle.pddl_reader.specs.Declarations.{declared, may_declare, predicate_number, takes_terms};
+ghost use Rattle.pddl_reader.specs.Forms.{atom_form};
+ghost use Rattle.pddl_reader.specs.Reading.{Allows, Gives, ReadsName};
+
+use crate::fault::{FaultKind, ReadFault};
+use crate::syntax::AtomSyntax;
+use crate::walk::NameWord;
+use std::alloc::Global;
+use strips_task::{Alternatives, Name, NameTable, Seq};
+
+/// How many predicates there may be, and how many actions.
+pub(crate) const MOST_DECLARED: usize = 4096;
+
+/// The name that a word stands for.
+pub(crate) fn name(alloc: Global, word: NameWord<'_>) -> Result<Name, ReadFault>
+    ensures { ReadsName result (folded word.entry.text.now) }
+{
+    Ok(Name::from_word(alloc, word.text)?)
+}
+
+/// Tests that one more name may be declared in the table.
+#[tactic(auto, using(crate::proofs::TableSteps::may_steps))]
+pub(crate) fn check_new<V>(table: &NameTable<V>, name: &Name, word: NameWord<'_>) -> Result<(), ReadFault>
+    ensures { Allows result (may_declare 4096 table.now name.now) }
+{
+    if table.number_of(name.as_bytes()).is_some() {
+        return Err(ReadFault::new(FaultKind::Repeated, word.span));
+    }
+    if table.len() >= MOST_DECLARED {
+        return Err(ReadFault::new(FaultKind::TooMany, word.span));
+    }
+    Ok(())
+}
+
+/// Whether the predicate with a number takes so many terms.
+#[tactic(auto, using(crate::proofs::TableSteps::places_counted))]
+fn takes_terms(predicates: &NameTable<Seq<Alternatives>>, number: usize, count: usize) -> bool
+    requires { number < length predicates.now }
+    ensures { result ≡ takes_terms predicates.now number count }
+{
+    predicates.get(number).1.len() == count
+}
+
+/// The number of the predicate of an atom without terms.
+#[tactic(auto, using(crate::proofs::TableSteps::number_steps))]
+pub(crate) fn predicate_number(
+    alloc: Global,
+    predicates: &NameTable<Seq<Alternatives>>,
+    atom: &AtomSyntax<'_>,
+) -> Result<u16, ReadFault>
+    requires { length predicates.now ≤ 4096 }
+    ensures { Gives (λ number. number) result (predicate_number predicates.now (atom_form atom.now)) }
+{
+    let word = atom.predicate;
+    let name = name(alloc, word)?;
+    let Some(number) = predicates.number_of(name.as_bytes()) else {
+        return Err(ReadFault::new(FaultKind::UnknownName, word.span));
+    };
+    if !takes_terms(predicates, number, 0) {
+        return Err(ReadFault::new(FaultKind::WrongCount, word.span));
+    }
+    Ok(number as u16)
+}

@@ -1,0 +1,124 @@
+//! Initial atoms, then the goal, are looked up in the tables of a domain.
+
+ghost use Rattle.std.specs.Prelude.{◌≡◌, ◌≤◌, length, IfOk};
+ghost use Rattle.pddl_reader.specs.Forms.{literal_form, literal_forms, problem_syntax_form};
+ghost use Rattle.pddl_reader.specs.Problem.{ground_condition_of, ground_conditions_of, initial_of, problem_of};
+ghost use Rattle.pddl_reader.specs.Reading.{Gives};
+ghost use Rattle.strips_task.specs.WellFormed.{IsWellFormed};
+ghost use Rattle.pddl_reader.specs.Assembled.{task_assembled};
+
+use crate::fault::ReadFault;
+use crate::resolution::actions::{Predicates, given_literals};
+use crate::resolution::domain::Domain;
+use crate::resolution::names::{name, predicate_number};
+use crate::syntax::{LiteralSyntax, ProblemSyntax};
+use std::alloc::Global;
+use strips_task::{Atom, CondList, GroundCond, InitialAtoms, Name, Seq, ShortSeq, Task, TaskParts};
+
+/// The ground condition that a literal of a problem stands for.
+#[tactic(auto, using(crate::proofs::ProblemMeaning::condition_steps))]
+fn ground_condition(alloc: Global, predicates: &Predicates, literal: &LiteralSyntax<'_>) -> Result<GroundCond, ReadFault>
+    requires { length predicates.now ≤ 4096 }
+    ensures { Gives (λ condition. condition) result (ground_condition_of predicates.now (literal_form literal.now)) }
+{
+    let pred = predicate_number(alloc, predicates, &literal.atom)?;
+    Ok(GroundCond {
+        positive: literal.positive,
+        atom: Atom {
+            pred,
+            args: ShortSeq::new(alloc),
+        },
+    })
+}
+
+/// The ground conditions that literals of a problem stand for.
+#[tactic(auto, using(crate::proofs::ProblemMeaning::conditions_steps))]
+fn ground_conditions(alloc: Global, predicates: &Predicates, literals: &[LiteralSyntax<'_>]) -> Result<CondList, ReadFault>
+    requires { length predicates.now ≤ 4096 }
+    ensures { Gives (λ conditions. conditions) result (ground_conditions_of predicates.now (literal_forms literals.now)) }
+{
+    let mut conditions = Seq::new(alloc);
+    'conditions: for literal in literals {
+        conditions.push(ground_condition(alloc, predicates, literal)?)?;
+    }
+    Ok(conditions)
+}
+
+/// The initial atoms: those that are not negated. The others are looked up too.
+#[tactic(auto, using(crate::proofs::ProblemMeaning::initial_steps))]
+fn initial(alloc: Global, predicates: &Predicates, literals: &[LiteralSyntax<'_>]) -> Result<InitialAtoms, ReadFault>
+    requires { length predicates.now ≤ 4096 }
+    ensures { Gives (λ atoms. atoms) result (initial_of predicates.now (literal_forms literals.now)) }
+{
+    let mut atoms = InitialAtoms::new(alloc);
+    'items: for literal in literals {
+        let given = ground_condition(alloc, predicates, literal)?;
+        if given.positive {
+            atoms.push(given.atom)?;
+        }
+    }
+    Ok(atoms)
+}
+
+/// What a problem gives of a task.
+#[derive(Drop)]
+struct Given {
+    problem: Name,
+    init: InitialAtoms,
+    goal: CondList,
+}
+
+/// The task of these parts.
+fn assemble(domain: Domain, given: Given) -> Task
+    requires { IsWellFormed (task_assembled domain given) }
+    ensures { result ≡ task_assembled domain given }
+{
+    let Domain {
+        name,
+        types: _,
+        parents,
+        objects,
+        predicates,
+        actions,
+    } = domain;
+    let Given {
+        problem,
+        init,
+        goal,
+    } = given;
+    Task::make(TaskParts {
+        domain: name,
+        problem,
+        parents,
+        objects,
+        preds: predicates,
+        actions,
+        init,
+        goal,
+    })
+}
+
+/// What the syntax of a problem stands for beside a domain.
+#[tactic(auto, using(crate::proofs::ProblemMeaning::problem_steps))]
+fn resolve_given(alloc: Global, domain: &Domain, syntax: &ProblemSyntax<'_>) -> Result<Given, ReadFault>
+    ensures meaning { Gives (task_assembled domain.now) result (problem_of domain.now (problem_syntax_form syntax.now)) }
+    ensures well_formed { IfOk result (λ given. IsWellFormed (task_assembled domain.now given)) }
+{
+    let predicates = domain.predicates();
+    let init = initial(alloc, predicates, given_literals(&syntax.init))?;
+    let goal = ground_conditions(alloc, predicates, syntax.goal.as_slice())?;
+    let problem = name(alloc, syntax.name)?;
+    Ok(Given {
+        problem,
+        init,
+        goal,
+    })
+}
+
+/// The task that a domain and the syntax of a problem stand for. Where it refuses, the domain is dropped.
+pub(crate) fn resolve_problem(alloc: Global, domain: Domain, syntax: &ProblemSyntax<'_>) -> Result<Task, ReadFault>
+    ensures { Gives (λ task. task) result (problem_of domain (problem_syntax_form syntax.now)) }
+{
+    let given = resolve_given(alloc, &domain, syntax)?;
+    Ok(assemble(domain, given))
+}

@@ -1,0 +1,78 @@
+//! The second layer: what the grammar allows, kept as slices of the text with their places.
+//!
+//! Each reader here stands inside a list, reads what is left of it, and leaves it behind its `)`. Lists stand at most 64 deep,
+//! since the first layer refuses deeper ones, and so deep goes the recursion.
+
+pub(crate) mod action;
+pub(crate) mod domain;
+pub(crate) mod formula;
+pub(crate) mod lists;
+pub(crate) mod problem;
+pub(crate) mod refusals;
+
+use crate::walk::{NameWord, Word};
+
+/// An atom as written.
+#[derive(Clone, Copy, Debug)]
+pub(crate) struct AtomSyntax<'a> {
+    pub(crate) predicate: NameWord<'a>,
+}
+
+/// An atom, or the negation of one.
+#[derive(Clone, Copy, Debug)]
+pub(crate) struct LiteralSyntax<'a> {
+    pub(crate) positive: bool,
+    pub(crate) atom: AtomSyntax<'a>,
+}
+
+/// The declaration of a predicate.
+#[derive(Clone, Copy, Debug)]
+pub(crate) struct PredicateSyntax<'a> {
+    pub(crate) name: NameWord<'a>,
+}
+
+/// The parts of an action that are given.
+#[derive(Drop)]
+pub(crate) struct ActionParts<'a> {
+    pub(crate) parameters: Option<Vec<Word<'a>>>,
+    pub(crate) precondition: Option<Vec<LiteralSyntax<'a>>>,
+    pub(crate) effect: Option<Vec<LiteralSyntax<'a>>>,
+}
+
+/// An action with its name.
+#[derive(Drop)]
+pub(crate) struct ActionSyntax<'a> {
+    pub(crate) name: NameWord<'a>,
+    pub(crate) parts: ActionParts<'a>,
+}
+
+/// The sections of a domain that are given.
+#[derive(Drop)]
+pub(crate) struct DomainSections<'a> {
+    pub(crate) predicates: Option<Vec<PredicateSyntax<'a>>>,
+    pub(crate) actions: Vec<ActionSyntax<'a>>,
+}
+
+/// A domain with its name.
+#[derive(Drop)]
+pub(crate) struct DomainSyntax<'a> {
+    pub(crate) name: NameWord<'a>,
+    pub(crate) sections: DomainSections<'a>,
+}
+
+/// The sections of a problem that are given.
+#[derive(Drop)]
+pub(crate) struct ProblemSections<'a> {
+    pub(crate) domain: Option<NameWord<'a>>,
+    pub(crate) init: Option<Vec<LiteralSyntax<'a>>>,
+    pub(crate) goal: Option<Vec<LiteralSyntax<'a>>>,
+}
+
+/// A problem with its name, and the name that it gives for its domain.
+#[derive(Drop)]
+pub(crate) struct ProblemSyntax<'a> {
+    pub(crate) name: NameWord<'a>,
+    pub(crate) domain: NameWord<'a>,
+    pub(crate) init: Option<Vec<LiteralSyntax<'a>>>,
+    pub(crate) goal: Vec<LiteralSyntax<'a>>,
+}
