@@ -88,13 +88,13 @@ pub meant_parts : (predicates : Predicates) (syntax : ActionSyntax) → action_m
 unfolding action_meant action_form parts_form given_literals literal_forms
 meant_parts predicates syntax = by syntax.parts.precondition syntax.parts.effect
   where
-  by : (pre effect : Option (Vec LiteralSyntax)) →
-      action_meant predicates (action_form syntax.name.text.now (parts_form (record { parameters = syntax.parts.parameters; precondition = pre; effect = effect })))
-      ≡ action_with (conditions_of predicates (literal_forms (given_literals pre))) (effects_of predicates (literal_forms (given_literals effect)))
-  by None None = refl
-  by None (Some e) = refl
-  by (Some p) None = refl
-  by (Some p) (Some e) = refl
+    by : (pre effect : Option (Vec LiteralSyntax)) →
+        action_meant predicates (action_form syntax.name.text.now (parts_form (record { parameters = syntax.parts.parameters; precondition = pre; effect = effect })))
+        ≡ action_with (conditions_of predicates (literal_forms (given_literals pre))) (effects_of predicates (literal_forms (given_literals effect)))
+    by None None = refl
+    by None (Some e) = refl
+    by (Some p) None = refl
+    by (Some p) (Some e) = refl
 
 pub no_conditions : (effects : Option Effects) → action_with None effects ≡ None
 unfolding action_with
@@ -115,9 +115,9 @@ pub action_refused : (predicates : Predicates) (table : Actions) (a : ActionForm
 unfolding with_action_of declared_action declared guard
 action_refused predicates table a h = by (action_meant predicates a)
   where
-  by : (meant : Option Action) → declared_action table (folded a.name) meant ≡ None
-  by None = refl
-  by (Some action) = rw h refl
+    by : (meant : Option Action) → declared_action table (folded a.name) meant ≡ None
+    by None = refl
+    by (Some action) = rw h refl
 
 pub action_meaningless : (predicates : Predicates) (table : Actions) (a : ActionForm) → action_meant predicates a ≡ None → with_action_of predicates table a ≡ None
 unfolding with_action_of declared_action

@@ -37,8 +37,8 @@ open_none : (end depth : ℕ) (span : Span) (text : List ℕ) (more : List Piece
 open_none end depth span text more h =
     elim (cases_lt depth 64) [ inl lt ↦ sym (fault_left end depth span text more lt) ∙ h | inr le ↦ absurd_fault (sym (fault_left_deep end depth span text more le) ∙ h) ]
   where
-  absurd_fault : {A : Type 0} {e : ReadFault} → Some e ≡ None → A
-  absurd_fault h = cc
+    absurd_fault : {A : Type 0} {e : ReadFault} → Some e ≡ None → A
+    absurd_fault h = cc
 
 -- tokens without a fault
 pub has_levels : (end depth : ℕ) (tokens : List Piece) → fault_from end depth tokens ≡ None → HasDepth depth (levels tokens)
@@ -55,26 +55,26 @@ has_levels end (suc depth) (token Left span text ∷ more) h =
 has_levels end zero (token Right span text ∷ more) h = cc
 has_levels end (suc depth) (token Right span text ∷ more) h = before_right_depth depth (levels more) (has_levels end depth more h)
 
-
 pub levels_without_fault : (text : List ℕ) → text_fault text ≡ None → IsSome (levels (pieces text))
 levels_without_fault text h =
     elim (cases_lt (length text) (2 ^ 31)) [
-      inl lt ↦ some_levels 0 (levels (pieces text)) (has_levels (length text) 0 (pieces text) (sym (text_fault_short text lt) ∙ h))
-    | inr le ↦ no_fault (sym (text_fault_long text le) ∙ h)
+      | inl lt ↦ some_levels 0 (levels (pieces text)) (has_levels (length text) 0 (pieces text) (sym (text_fault_short text lt) ∙ h))
+      | inr le ↦ no_fault (sym (text_fault_long text le) ∙ h)
     ]
   where
-  some_levels : (depth : ℕ) (found : Option Levels) → HasDepth depth found → IsSome found
-  some_levels depth None h = absurd h
-  some_levels depth (Some l) h = refl
-  no_fault : {A : Type 0} {e : ReadFault} → Some e ≡ None → A
-  no_fault h = cc
+    some_levels : (depth : ℕ) (found : Option Levels) → HasDepth depth found → IsSome found
+    some_levels depth None h = absurd h
+    some_levels depth (Some l) h = refl
+
+    no_fault : {A : Type 0} {e : ReadFault} → Some e ≡ None → A
+    no_fault h = cc
 
 -- a text without a text fault is short
 pub short_without_fault : (text : List ℕ) → text_fault text ≡ None → length text < 2 ^ 31
 short_without_fault text h =
     elim (cases_lt (length text) (2 ^ 31)) [ inl lt ↦ lt | inr le ↦ no_fault (sym (text_fault_long text le) ∙ h) ]
   where
-  no_fault : {A : Type 0} {e : ReadFault} → Some e ≡ None → A
-  no_fault h = cc
+    no_fault : {A : Type 0} {e : ReadFault} → Some e ≡ None → A
+    no_fault h = cc
 
 pub ruleset balanced_steps = (levels_without_fault, short_without_fault)

@@ -82,9 +82,9 @@ pub may_declare_new : {V : Type 0} (most : ℕ) (table : List (List ℕ × V)) (
 unfolding may_declare
 may_declare_new most table name h = by (number_named table name) h
   where
-  by : (found : Option ℕ) → (is_none found && nat_lt (length table) most) ≡ true → found ≡ None
-  by None h = refl
-  by (Some n) h = cc
+    by : (found : Option ℕ) → (is_none found && nat_lt (length table) most) ≡ true → found ≡ None
+    by None h = refl
+    by (Some n) h = cc
 
 -- and there is room for it
 pub may_declare_room : {V : Type 0} (most : ℕ) (table : List (List ℕ × V)) (name : List ℕ) → may_declare most table name ≡ true → length table < most

@@ -14,12 +14,12 @@ pub meant_sections : (syntax : DomainSyntax) → domain_of (domain_syntax_form s
 unfolding domain_of domain_form domain_sections_form given_predicates predicate_forms
 meant_sections syntax = by syntax.sections.predicates
   where
-  by : (predicates : Option (Vec PredicateSyntax)) →
-      domain_of (domain_form syntax.name.text.now (domain_sections_form (record { predicates = predicates; actions = syntax.sections.actions })))
-      ≡ domain_with (domain_form syntax.name.text.now (domain_sections_form (record { predicates = predicates; actions = syntax.sections.actions })))
-          (predicates_from [] (predicate_forms (given_predicates predicates)))
-  by None = refl
-  by (Some v) = refl
+    by : (predicates : Option (Vec PredicateSyntax)) →
+        domain_of (domain_form syntax.name.text.now (domain_sections_form (record { predicates = predicates; actions = syntax.sections.actions })))
+        ≡ domain_with (domain_form syntax.name.text.now (domain_sections_form (record { predicates = predicates; actions = syntax.sections.actions })))
+        (predicates_from [] (predicate_forms (given_predicates predicates)))
+    by None = refl
+    by (Some v) = refl
 
 pub no_predicates_meant : (syntax : DomainSyntax) → predicates_from [] (predicate_forms (given_predicates syntax.sections.predicates)) ≡ None →
     domain_of (domain_syntax_form syntax) ≡ None

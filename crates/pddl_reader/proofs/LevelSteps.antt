@@ -31,11 +31,11 @@ unfolding behind
 left_step_by None h = cc
 left_step_by (Some l) h = at_top l.top l.below h
   where
-  at_top : (inside : Trees) (below : List Trees) → IsSome (before_left (record { top = inside; below = below })) →
-      ((or_end (before_left (record { top = inside; below = below }))).top ≡ list inside (behind below).top) ×
-      ((or_end (before_left (record { top = inside; below = below }))).below ≡ (behind below).below)
-  at_top inside [] h = cc
-  at_top inside (others ∷ below) h = (refl, refl)
+    at_top : (inside : Trees) (below : List Trees) → IsSome (before_left (record { top = inside; below = below })) →
+        ((or_end (before_left (record { top = inside; below = below }))).top ≡ list inside (behind below).top) ×
+        ((or_end (before_left (record { top = inside; below = below }))).below ≡ (behind below).below)
+    at_top inside [] h = cc
+    at_top inside (others ∷ below) h = (refl, refl)
 
 pub left_step : (span : Span) (text : List ℕ) (more : List Piece) → IsSome (levels (token Left span text ∷ more)) →
     ((here (token Left span text ∷ more)).top ≡ list (here more).top (behind (here more).below).top) ×

@@ -91,16 +91,16 @@ pub ruleset initial_steps = (item_steps, front_none, initial_item, initial_end, 
 
 pub meant_parts : (domain : DomainValue) (syntax : ProblemSyntax) → problem_of domain (problem_syntax_form syntax)
     ≡ task_with domain syntax.name.text.now (initial_of domain.predicates (literal_forms (given_literals syntax.init)))
-        (ground_conditions_of domain.predicates (literal_forms syntax.goal.items))
+    (ground_conditions_of domain.predicates (literal_forms syntax.goal.items))
 unfolding problem_of given_literals literal_forms
 meant_parts domain syntax = by syntax.init
   where
-  by : (init : Option (Vec LiteralSyntax)) →
-      problem_of domain (problem_syntax_form (record { name = syntax.name; domain = syntax.domain; init = init; goal = syntax.goal }))
-      ≡ task_with domain syntax.name.text.now (initial_of domain.predicates (literal_forms (given_literals init)))
-          (ground_conditions_of domain.predicates (literal_forms syntax.goal.items))
-  by None = refl
-  by (Some v) = refl
+    by : (init : Option (Vec LiteralSyntax)) →
+        problem_of domain (problem_syntax_form (record { name = syntax.name; domain = syntax.domain; init = init; goal = syntax.goal }))
+        ≡ task_with domain syntax.name.text.now (initial_of domain.predicates (literal_forms (given_literals init)))
+        (ground_conditions_of domain.predicates (literal_forms syntax.goal.items))
+    by None = refl
+    by (Some v) = refl
 
 pub no_initial : (domain : DomainValue) (syntax : ProblemSyntax) → initial_of domain.predicates (literal_forms (given_literals syntax.init)) ≡ None →
     problem_of domain (problem_syntax_form syntax) ≡ None

@@ -15,25 +15,25 @@ pub may_not_again : {V : Type 0} (most : ℕ) (table : List (List ℕ × V)) (na
 unfolding may_declare
 may_not_again most table name h = by (number_named table name) h
   where
-  by : (found : Option ℕ) → is_some found ≡ true → (is_none found && nat_lt (length table) most) ≡ false
-  by None h = cc
-  by (Some n) h = refl
+    by : (found : Option ℕ) → is_some found ≡ true → (is_none found && nat_lt (length table) most) ≡ false
+    by None h = cc
+    by (Some n) h = refl
 
 pub may_not_more : {V : Type 0} (most : ℕ) (table : List (List ℕ × V)) (name : List ℕ) → most ≤ length table → may_declare most table name ≡ false
 unfolding may_declare
 may_not_more most table name h = rw (le-ltb (length table) most h) (by (is_none (number_named table name)))
   where
-  by : (test : Bool) → (test && false) ≡ false
-  by true = refl
-  by false = refl
+    by : (test : Bool) → (test && false) ≡ false
+    by true = refl
+    by false = refl
 
 pub may_if : {V : Type 0} (most : ℕ) (table : List (List ℕ × V)) (name : List ℕ) → is_some (number_named table name) ≡ false → length table < most → may_declare most table name ≡ true
 unfolding may_declare
 may_if most table name h lt = rw (lt-ltb (length table) most lt) (by (number_named table name) h)
   where
-  by : (found : Option ℕ) → is_some found ≡ false → (is_none found && true) ≡ true
-  by None h = refl
-  by (Some n) h = cc
+    by : (found : Option ℕ) → is_some found ≡ false → (is_none found && true) ≡ true
+    by None h = refl
+    by (Some n) h = cc
 
 pub ruleset may_steps = (may_not_again, may_not_more, may_if)
 

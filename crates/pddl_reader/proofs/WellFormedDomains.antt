@@ -39,12 +39,12 @@ unfolding guard
 kept_declared_if {V} test table more name value true may kept passes h =
     let e : table ++ (name, value) ∷ [] ≡ more = cc in
     let all : list_all test (values_of (table ++ (name, value) ∷ [])) ≡ true =
-        rw (map-append (λ (e : List ℕ × V). e.1) table ((name, value) ∷ []), list_all-append test (values_of table) (value ∷ []), kept.passed, passes) refl in
+    rw (map-append (λ (e : List ℕ × V). e.1) table ((name, value) ∷ []), list_all-append test (values_of table) (value ∷ []), kept.passed, passes) refl in
     let P : List (List ℕ × V) → Type 0 = λ t. IsKept test t in
     subst P e (record {
       distinct = entries_distinct table name value (may_declare_new 4096 table name may) kept.distinct;
       few = may_declare_length 4096 table name value may;
-      passed = all
+      passed = all;
     })
 kept_declared_if test table more name value false may kept passes h = cc
 
@@ -75,9 +75,9 @@ kept_predicates table [] more kept h =
     subst P e kept
 kept_predicates table (p ∷ ps) more kept h =
     predicates_next (declared 4096 table (folded p.name) []) ps more
-      (λ t is. kept_declared (are_variables (0 ∷ [])) table t (folded p.name) [] kept no_variables is)
-      (λ t k e. kept_predicates t ps more k e)
-      h
+    (λ t is. kept_declared (are_variables (0 ∷ [])) table t (folded p.name) [] kept no_variables is)
+    (λ t k e. kept_predicates t ps more k e)
+    h
 
 -- no terms fit where none are due
 fits_places : (parents : List ℕ) (found : Option (List (List ℕ))) → are_as_many found 0 ≡ true → are_fitting parents [] found ≡ true
@@ -176,8 +176,8 @@ effects_fit task [] es h =
     let e : no_effects ≡ es = cc in
     subst P e none_fit
   where
-  none_fit : AreFitting task no_effects
-  none_fit = record { adds = refl; dels = refl }
+    none_fit : AreFitting task no_effects
+    none_fit = record { adds = refl; dels = refl }
 effects_fit task (l ∷ ls) es h =
     effects_fit_by task (condition_of task.preds l) (effects_of task.preds ls) es (condition_fits task l) (λ xs e. effects_fit task ls xs e) h
 
@@ -198,7 +198,7 @@ action_fits : (task : TaskParts) (a : ActionForm) (action : Action) → action_m
 unfolding action_meant
 action_fits task a action h =
     action_fits_by task (conditions_of task.preds a.precondition) (effects_of task.preds a.effect) action
-      (conditions_fit task a.precondition) (effects_fit task a.effect) h
+    (conditions_fit task a.precondition) (effects_fit task a.effect) h
 
 declared_action_kept : (task : TaskParts) (table more : Actions) (name : List ℕ) (action : Option Action) →
     ((a : Action) → action ≡ Some a → is_action task a ≡ true) → IsKept (is_action task) table → declared_action table name action ≡ Some more → IsKept (is_action task) more
@@ -222,9 +222,9 @@ kept_actions task table [] more kept h =
     subst P e kept
 kept_actions task table (a ∷ forms) more kept h =
     actions_next task (declared_action table (folded a.name) (action_meant task.preds a)) forms more
-      (λ t is. declared_action_kept task table t (folded a.name) (action_meant task.preds a) (action_fits task a) kept is)
-      (λ t k e. kept_actions task t forms more k e)
-      h
+    (λ t is. declared_action_kept task table t (folded a.name) (action_meant task.preds a) (action_fits task a) kept is)
+    (λ t k e. kept_actions task t forms more k e)
+    h
 
 -- `object` alone is a tree of types
 object_tree : IsTypeTree (0 ∷ [])
@@ -233,7 +233,7 @@ object_tree = record {
   has_object = omega arith;
   object_on_top = refl;
   parents_known = λ k d lt. let e : k ≡ 0 = omega arith in rw e (omega arith);
-  below_object = λ type lt. (0, omega arith)
+  below_object = λ type lt. (0, omega arith);
 }
 
 well_formed : (name : List ℕ) (predicates : Predicates) (actions : Actions) → IsKept (are_variables (0 ∷ [])) predicates →
@@ -251,7 +251,7 @@ well_formed name predicates actions p a = record {
   predicates_typed = p.passed;
   actions_fit = a.passed;
   initial_atoms_fit = refl;
-  goal_fits = refl
+  goal_fits = refl;
 }
 
 domain_by_actions : (name : List ℕ) (predicates : Predicates) (forms : List ActionForm) (actions : Option Actions) (d : DomainValue) →
@@ -281,4 +281,4 @@ pub domain_of-well_formed : (domain : DomainForm) (d : DomainValue) → domain_o
 unfolding domain_of
 domain_of-well_formed domain d h =
     domain_by_predicates domain (predicates_from [] domain.predicates) d
-      (λ p e. kept_predicates [] domain.predicates p (record { distinct = no_names_distinct; few = omega arith; passed = refl }) e) h
+    (λ p e. kept_predicates [] domain.predicates p (record { distinct = no_names_distinct; few = omega arith; passed = refl }) e) h

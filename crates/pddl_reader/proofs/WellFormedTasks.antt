@@ -94,5 +94,5 @@ task_well_formed domain problem initial goals init goal wf i g = record {
   predicates_typed = wf.predicates_typed;
   actions_fit = wf.actions_fit;
   initial_atoms_fit = initial_fit (task_named domain problem init goal) initial init i;
-  goal_fits = grounds_fit (task_named domain problem init goal) goals goal g
+  goal_fits = grounds_fit (task_named domain problem init goal) goals goal g;
 }

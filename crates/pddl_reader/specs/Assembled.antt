@@ -20,7 +20,7 @@ domain_assembled head objects tables = record {
   parents = head.parents;
   objects = objects;
   predicates = tables.predicates;
-  actions = tables.actions
+  actions = tables.actions;
 }
 
 -- the name is folded, and `object` is the only type, or memory ran out

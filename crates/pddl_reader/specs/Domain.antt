@@ -106,5 +106,5 @@ bare_task domain = record {
   preds = domain.predicates;
   actions = domain.actions;
   init = [];
-  goal = []
+  goal = [];
 }

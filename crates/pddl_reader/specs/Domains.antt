@@ -12,5 +12,5 @@ domain_kept d = record {
   parents = d.parents;
   objects = d.objects;
   predicates = d.predicates;
-  actions = d.actions
+  actions = d.actions;
 }

@@ -45,7 +45,7 @@ unfoldable pub parts_form : parts.ActionParts → ActionParts
 parts_form p = record {
   parameters = option_map (λ v. word_forms v.items) p.parameters;
   precondition = option_map (λ v. literal_forms v.items) p.precondition;
-  effect = option_map (λ v. literal_forms v.items) p.effect
+  effect = option_map (λ v. literal_forms v.items) p.effect;
 }
 
 abbrev pub action_syntax_form : ActionSyntax → ActionForm
@@ -57,7 +57,7 @@ action_forms actions = map action_syntax_form actions
 unfoldable pub domain_sections_form : domain.DomainSections → DomainSections
 domain_sections_form s = record {
   predicates = option_map (λ v. predicate_forms v.items) s.predicates;
-  actions = action_forms s.actions.items
+  actions = action_forms s.actions.items;
 }
 
 abbrev pub domain_syntax_form : DomainSyntax → DomainForm
@@ -67,7 +67,7 @@ unfoldable pub problem_sections_form : problem.ProblemSections → ProblemSectio
 problem_sections_form s = record {
   domain = option_map name_form s.domain;
   init = option_map (λ v. literal_forms v.items) s.init;
-  goal = option_map (λ v. literal_forms v.items) s.goal
+  goal = option_map (λ v. literal_forms v.items) s.goal;
 }
 
 abbrev pub problem_syntax_form : ProblemSyntax → ProblemForm
@@ -75,7 +75,7 @@ problem_syntax_form p = record {
   name = p.name.text.now;
   domain = p.domain.text.now;
   init = unwrap_or (option_map (λ v. literal_forms v.items) p.init) [];
-  goal = literal_forms p.goal.items
+  goal = literal_forms p.goal.items;
 }
 
 -- the literals kept of a part or a section that is given

@@ -45,7 +45,7 @@ task_named domain problem init goal = record {
   preds = domain.predicates;
   actions = domain.actions;
   init = init;
-  goal = goal
+  goal = goal;
 }
 
 -- a task of the domain

@@ -157,6 +157,7 @@ unfoldable mutual
   formula_in none = Some []
   formula_in (word w others) = (if is_and w then conjuncts_of others else option_map alone (literal_of w others))
   formula_in (list inside others) = None
+
   pub conjuncts_of : Trees → Option (List LiteralForm)
   conjuncts_of none = Some []
   conjuncts_of (word w others) = None

@@ -5,5 +5,4 @@ ghost use Rattle.pddl_reader.specs.Trees.{AreTreesUnique};
 /// The tokens of a text spell one list of trees at most, so that a text has one reading at most.
 pub fn trees_are_unique()
     ensures { AreTreesUnique }
-{
-}
+{}

@@ -22,10 +22,11 @@ fn refuses_domain(alloc: Global, text: &[u8], kind: FaultKind, start: u32, end: 
     match read_domain(alloc, text) {
         Ok(_) => false,
         Err(fault) => {
-            fault == ReadFault {
-                kind,
-                span: Span { start, end },
-            }
+            fault
+                == ReadFault {
+                    kind,
+                    span: Span { start, end },
+                }
         }
     }
 }
@@ -36,10 +37,11 @@ fn refuses_problem(alloc: Global, text: &[u8], kind: FaultKind, start: u32, end:
         Ok(domain) => match read_problem(alloc, domain, text) {
             Ok(_) => false,
             Err(fault) => {
-                fault == ReadFault {
-                    kind,
-                    span: Span { start, end },
-                }
+                fault
+                    == ReadFault {
+                        kind,
+                        span: Span { start, end },
+                    }
             }
         },
         Err(_) => false,
@@ -93,31 +95,151 @@ fn lists_inside_lists(rt: HostRuntime) -> Result<(), Fail> {
 #[test]
 fn what_is_not_read(rt: HostRuntime) {
     let alloc = rt.alloc();
-    assert!(rt; refuses_domain(alloc, b"(define (domain t) (:requirements :strips))", FaultKind::Unsupported, 20, 33));
-    assert!(rt; refuses_domain(alloc, b"(define (domain t) (types))", FaultKind::Expected, 20, 25));
-    assert!(rt; refuses_domain(alloc, b"(define (domain f) (:predicates (p)) (:action g :precondition (forall (?x) (p))))", FaultKind::Unsupported, 63, 69));
-    assert!(rt; refuses_domain(alloc, b"(define (domain f) (:predicates (and)))", FaultKind::Unsupported, 33, 36));
-    assert!(rt; refuses_domain(alloc, b"(define (domain f) (:predicates (p ?x)))", FaultKind::Unsupported, 35, 37));
-    assert!(rt; refuses_domain(alloc, b"(define (domain f) (:action g :precondition (not (not (p)))))", FaultKind::Unsupported, 50, 53));
-    assert!(rt; refuses_domain(alloc, b"(define (domain f) (:action g :precondition (not)))", FaultKind::Expected, 48, 49));
+    assert!(rt;
+        refuses_domain(
+            alloc,
+            b"(define (domain t) (:requirements :strips))",
+            FaultKind::Unsupported,
+            20,
+            33
+        )
+    );
+    assert!(rt;
+        refuses_domain(
+            alloc,
+            b"(define (domain t) (types))",
+            FaultKind::Expected,
+            20,
+            25
+        )
+    );
+    assert!(rt;
+        refuses_domain(
+            alloc,
+            b"(define (domain f) (:predicates (p)) (:action g :precondition (forall (?x) (p))))",
+            FaultKind::Unsupported,
+            63,
+            69
+        )
+    );
+    assert!(rt;
+        refuses_domain(
+            alloc,
+            b"(define (domain f) (:predicates (and)))",
+            FaultKind::Unsupported,
+            33,
+            36
+        )
+    );
+    assert!(rt;
+        refuses_domain(
+            alloc,
+            b"(define (domain f) (:predicates (p ?x)))",
+            FaultKind::Unsupported,
+            35,
+            37
+        )
+    );
+    assert!(rt;
+        refuses_domain(
+            alloc,
+            b"(define (domain f) (:action g :precondition (not (not (p)))))",
+            FaultKind::Unsupported,
+            50,
+            53
+        )
+    );
+    assert!(rt;
+        refuses_domain(
+            alloc,
+            b"(define (domain f) (:action g :precondition (not)))",
+            FaultKind::Expected,
+            48,
+            49
+        )
+    );
 }
 
 #[test]
 fn what_stands_twice(rt: HostRuntime) {
     let alloc = rt.alloc();
-    assert!(rt; refuses_domain(alloc, b"(define (domain f) (:predicates) (:PREDICATES))", FaultKind::Repeated, 34, 45));
-    assert!(rt; refuses_domain(alloc, b"(define (domain f) (:predicates (p) (P)))", FaultKind::Repeated, 37, 38));
-    assert!(rt; refuses_domain(alloc, b"(define (domain f) (:action a) (:action a))", FaultKind::Repeated, 40, 41));
-    assert!(rt; refuses_domain(alloc, b"(define (domain f) (:action a :effect () :effect ()))", FaultKind::Repeated, 41, 48));
+    assert!(rt;
+        refuses_domain(
+            alloc,
+            b"(define (domain f) (:predicates) (:PREDICATES))",
+            FaultKind::Repeated,
+            34,
+            45
+        )
+    );
+    assert!(rt;
+        refuses_domain(
+            alloc,
+            b"(define (domain f) (:predicates (p) (P)))",
+            FaultKind::Repeated,
+            37,
+            38
+        )
+    );
+    assert!(rt;
+        refuses_domain(
+            alloc,
+            b"(define (domain f) (:action a) (:action a))",
+            FaultKind::Repeated,
+            40,
+            41
+        )
+    );
+    assert!(rt;
+        refuses_domain(
+            alloc,
+            b"(define (domain f) (:action a :effect () :effect ()))",
+            FaultKind::Repeated,
+            41,
+            48
+        )
+    );
 }
 
 #[test]
 fn faults_of_problems(rt: HostRuntime) {
     let alloc = rt.alloc();
-    assert!(rt; refuses_problem(alloc, b"(define (problem x) (:domain lamp) (:init (drak)) (:goal (lit)))", FaultKind::UnknownName, 43, 47));
-    assert!(rt; refuses_problem(alloc, b"(define (problem x) (:domain lamp))", FaultKind::Expected, 34, 35));
-    assert!(rt; refuses_problem(alloc, b"(define (problem x) (:goal (lit)))", FaultKind::Expected, 33, 34));
-    assert!(rt; refuses_problem(alloc, b"(define (problem x) (:domain lamp) (:goal (lit)) (:metric minimize (t)))", FaultKind::Unsupported, 50, 57));
+    assert!(rt;
+        refuses_problem(
+            alloc,
+            b"(define (problem x) (:domain lamp) (:init (drak)) (:goal (lit)))",
+            FaultKind::UnknownName,
+            43,
+            47
+        )
+    );
+    assert!(rt;
+        refuses_problem(
+            alloc,
+            b"(define (problem x) (:domain lamp))",
+            FaultKind::Expected,
+            34,
+            35
+        )
+    );
+    assert!(rt;
+        refuses_problem(
+            alloc,
+            b"(define (problem x) (:goal (lit)))",
+            FaultKind::Expected,
+            33,
+            34
+        )
+    );
+    assert!(rt;
+        refuses_problem(
+            alloc,
+            b"(define (problem x) (:domain lamp) (:goal (lit)) (:metric minimize (t)))",
+            FaultKind::Unsupported,
+            50,
+            57
+        )
+    );
 }
 
 #[test]

@@ -44,7 +44,11 @@ pub(crate) fn check_text(text: &[u8]) -> Result<(), ReadFault>
                 }
                 return Err(ReadFault::at(FaultKind::Unbalanced, end, end));
             }
-            Err(TextFault::BadByte { at }) => return Err(ReadFault::at(FaultKind::BadText, at, at + 1)),
+            Err(TextFault::BadByte { at }) => return Err(ReadFault::at(
+                FaultKind::BadText,
+                at,
+                at + 1,
+            )),
             Err(TextFault::TooLong) => unreachable!(),
         }
     }

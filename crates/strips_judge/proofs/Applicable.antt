@@ -1,6 +1,6 @@
 -- A step is not hindered exactly where it is applicable, and of a list of conditions nothing is missing exactly where all hold.
 
-use Rattle.std.proofs.Common.{◌≡◌, ℕ, Bool, true, false, cond, not, List, [], ◌∷◌, Option, Some, None, All, IsTrue, filter, refl, ap, sym, ◌∙◌, true≢false}
+use Rattle.std.proofs.Common.{◌≡◌, Bool, true, false, cond, not, List, [], ◌∷◌, Option, Some, None, IsTrue, filter, refl, ap, sym, ◌∙◌}
 use Rattle.std.specs.Option.{option_or}
 use Rattle.std.proofs.lemmas.List.Elements.{All-nil, All-cons, All-head, All-tail}
 use Rattle.strips_task.specs.declared.atoms.GroundCond.{GroundCond}
@@ -27,17 +27,17 @@ all_from_none state (condition ∷ conds) e = by (holds state condition) refl (a
     by : (b : Bool) → holds state condition ≡ b → (filter (λ c. not (holds state c)) conds ≡ [] → Satisfies state conds) → Satisfies state (condition ∷ conds)
     by true is rest =
         All-cons (λ c. IsTrue (holds state c)) condition conds is
-          (rest (sym (ap (λ b. cond (not b) (condition ∷ filter (λ c. not (holds state c)) conds) (filter (λ c. not (holds state c)) conds)) is) ∙ e))
+        (rest (sym (ap (λ b. cond (not b) (condition ∷ filter (λ c. not (holds state c)) conds) (filter (λ c. not (holds state c)) conds)) is) ∙ e))
     by false is rest =
         let kept : condition ∷ filter (λ c. not (holds state c)) conds ≡ [] =
-            sym (ap (λ b. cond (not b) (condition ∷ filter (λ c. not (holds state c)) conds) (filter (λ c. not (holds state c)) conds)) is) ∙ e in
+        sym (ap (λ b. cond (not b) (condition ∷ filter (λ c. not (holds state c)) conds) (filter (λ c. not (holds state c)) conds)) is) ∙ e in
         cc
 
 none_from_all : (state : State) (conds : List GroundCond) → Satisfies state conds → filter (λ c. not (holds state c)) conds ≡ []
 none_from_all state [] h = refl
 none_from_all state (condition ∷ conds) h =
     ap (λ b. cond (not b) (condition ∷ filter (λ c. not (holds state c)) conds) (filter (λ c. not (holds state c)) conds)) (All-head (λ c. IsTrue (holds state c)) condition conds h)
-      ∙ none_from_all state conds (All-tail (λ c. IsTrue (holds state c)) condition conds h)
+    ∙ none_from_all state conds (All-tail (λ c. IsTrue (holds state c)) condition conds h)
 
 -- nothing is missing exactly where all conditions hold
 pub satisfied_from_missing : (state : State) (conds : List GroundCond) → missing state conds ≡ [] → Satisfies state conds
@@ -61,4 +61,4 @@ applicable_from_hindrance parts state step e = by (fault parts step) (missing st
 pub hindrance_from_applicable : (parts : TaskParts) (state : State) (step : StepText) → IsApplicable parts state step → hindrance parts state step ≡ None
 hindrance_from_applicable parts state step h =
     ap (λ x. option_or x (missing_why (missing state (precondition parts step)))) h.faultless
-      ∙ ap missing_why (missing_from_satisfied state (precondition parts step) h.satisfied)
+    ∙ ap missing_why (missing_from_satisfied state (precondition parts step) h.satisfied)

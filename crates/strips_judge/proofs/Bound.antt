@@ -1,7 +1,7 @@
 -- What is known of the arguments of a step that were looked at so far.
 
-use Rattle.std.proofs.Common.{◌≡◌, ℕ, ◌+◌, ◌<◌, true, false, List, [], ◌∷◌, ◌++◌, Option, Some, None, All, is_none, length, take, drop, get_or, ap, sym, ◌∙◌, arith, length-append, subst}
-use Rattle.std.specs.List.{position_from, filter_map, cons_option}
+use Rattle.std.proofs.Common.{◌≡◌, ℕ, ◌+◌, ◌<◌, List, [], ◌∷◌, ◌++◌, Some, None, All, is_none, length, take, drop, get_or, ap, sym, ◌∙◌, length-append, subst}
+use Rattle.std.specs.List.{position_from, cons_option}
 use Rattle.std.proofs.lemmas.List.Elements.{filter_map-append, All-push}
 use Rattle.strips_task.specs.declared.tasks.TaskParts.{TaskParts}
 use Rattle.strips_task.specs.Names.{number_named}
@@ -27,9 +27,9 @@ module _ (parts : TaskParts) (args : List (List ℕ)) (objects : List ℕ) (plac
       record {
         unknown = bound.unknown ∙ place_later (is_unknown parts) args place word lt is (place + 1) (ap is_none h);
         named = pushed
-          ∙ (λ j. bound.named j ++ cons_option (sym h j) [])
-          ∙ sym (filter_map-append (number_named parts.objects) (take place args) (word ∷ []))
-          ∙ ap (objects_named parts) (sym (taken_more args place word lt is));
+            ∙ (λ j. bound.named j ++ cons_option (sym h j) [])
+            ∙ sym (filter_map-append (number_named parts.objects) (take place args) (word ∷ []))
+            ∙ ap (objects_named parts) (sym (taken_more args place word lt is));
         count = ap length pushed ∙ length-append objects (object ∷ []) ∙ ap (λ n. n + 1) bound.count;
-        known = subst (All (λ o. o < length parts.objects)) (sym pushed) (All-push (λ o. o < length parts.objects) objects object bound.known within)
+        known = subst (All (λ o. o < length parts.objects)) (sym pushed) (All-push (λ o. o < length parts.objects) objects object bound.known within);
       }

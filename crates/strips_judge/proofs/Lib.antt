@@ -2,6 +2,7 @@ pub mod Applicable
 pub mod Bound
 pub mod VerdictMeanings
 pub mod NumberedLaws
+pub mod Fits
 pub mod Numbering
 pub mod RowLaws
 pub mod Runs

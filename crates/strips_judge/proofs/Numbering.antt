@@ -1,6 +1,6 @@
 -- The numbers of atoms in a list: two atoms with one number are the same, and an atom more changes no other number.
 
-use Rattle.std.proofs.Common.{◌≡◌, ◌≢◌, ℕ, ◌+◌, ◌≤◌, suc, Bool, true, false, cond, not, ◌&&◌, ◌||◌, List, [], ◌∷◌, ◌++◌, Option, Some, None, is_some, refl, ap, sym, ◌∙◌, true≢false, length, arith, if◌then◌else◌}
+use Rattle.std.proofs.Common.{◌≡◌, ℕ, ◌+◌, ◌≤◌, Bool, true, false, cond, ◌||◌, List, [], ◌∷◌, ◌++◌, Some, None, is_some, refl, ap, sym, ◌∙◌, length, arith, if◌then◌else◌}
 use Rattle.std.specs.List.{position_from, list_any}
 use Rattle.indexmap.specs.IndexSet.{insert_key}
 use Rattle.strips_task.specs.declared.atoms.Atom.{Atom}
@@ -24,8 +24,8 @@ module _ {A : Type 0} where
   one_item p q i n (x ∷ xs) e f = by (p x) (q x) refl refl (one_item p q (i + 1) n xs)
     where
       by : (b c : Bool) → p x ≡ b → q x ≡ c
-        → (position_from p (i + 1) xs ≡ Some n → position_from q (i + 1) xs ≡ Some n → (y : A) × (p y ≡ true) × (q y ≡ true))
-        → (y : A) × (p y ≡ true) × (q y ≡ true)
+          → (position_from p (i + 1) xs ≡ Some n → position_from q (i + 1) xs ≡ Some n → (y : A) × (p y ≡ true) × (q y ≡ true))
+          → (y : A) × (p y ≡ true) × (q y ≡ true)
       by true true is was rest = (x, is, was)
       by true false is was rest =
           let same : Some i ≡ Some n = sym (ap (λ c. cond c (Some i) (position_from p (i + 1) xs)) is) ∙ e in
@@ -67,12 +67,12 @@ module _ {A : Type 0} where
   place-push_new p i (x ∷ xs) y none e = by (p x) refl (place-push_new p (i + 1) xs y)
     where
       by : (b : Bool) → p x ≡ b → (position_from p (i + 1) xs ≡ None → p y ≡ true → position_from p (i + 1) (xs ++ y ∷ []) ≡ Some (i + 1 + length xs))
-        → position_from p i ((x ∷ xs) ++ y ∷ []) ≡ Some (i + length (x ∷ xs))
+          → position_from p i ((x ∷ xs) ++ y ∷ []) ≡ Some (i + length (x ∷ xs))
       by true is rest = let apart : Some i ≡ None = sym (ap (λ c. cond c (Some i) (position_from p (i + 1) xs)) is) ∙ none in cc
       by false is rest =
           ap (λ c. cond c (Some i) (position_from p (i + 1) (xs ++ y ∷ []))) is
-            ∙ rest (sym (ap (λ c. cond c (Some i) (position_from p (i + 1) xs)) is) ∙ none) e
-            ∙ ap Some (omega arith)
+          ∙ rest (sym (ap (λ c. cond c (Some i) (position_from p (i + 1) xs)) is) ∙ none) e
+          ∙ ap Some (omega arith)
 
 -- two atoms with one number are the same
 pub same_number : (atoms : List Atom) (a b : Atom) (n : ℕ) → number_in atoms a ≡ Some n → number_in atoms b ≡ Some n → a ≡ b

@@ -1,6 +1,6 @@
 -- A search through a list that looks at one item after the other: the item that passes ends it, and another leaves the rest.
 
-use Rattle.std.proofs.Common.{◌≡◌, ℕ, ◌+◌, ◌<◌, Bool, true, false, cond, ◌||◌, List, [], ◌∷◌, Option, Some, length, drop, get_or, ap, sym, ◌∙◌, add-one, drop-cons}
+use Rattle.std.proofs.Common.{◌≡◌, ℕ, ◌+◌, ◌<◌, Bool, true, false, cond, ◌||◌, List, ◌∷◌, Some, length, drop, get_or, ap, sym, ◌∙◌, add-one, drop-cons}
 use Rattle.std.specs.List.{position_from, list_any}
 
 module _ {A : Type 0} where

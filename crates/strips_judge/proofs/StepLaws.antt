@@ -1,13 +1,12 @@
 -- One condition or effect more: what it does to what is missing and to the state.
 
-use Rattle.std.proofs.Common.{◌≡◌, ℕ, ◌+◌, ◌<◌, Bool, true, false, cond, not, ◌&&◌, ◌||◌, List, [], ◌∷◌, ◌++◌, refl, ap, sym, ◌∙◌, length, filter, map, take, get_or, rules, append-nil, if◌then◌else◌}
+use Rattle.std.proofs.Common.{◌≡◌, ℕ, ◌+◌, ◌<◌, Bool, true, false, cond, not, ◌&&◌, ◌||◌, List, [], ◌∷◌, ◌++◌, refl, ap, sym, ◌∙◌, length, filter, map, take, get_or, rules, append-nil}
 use Rattle.std.proofs.Math.Path.{fun_ext}
 use Rattle.std.proofs.lemmas.List.{map_more, take_more}
 use Rattle.std.proofs.lemmas.List.Elements.{filter-append}
 use Rattle.std.proofs.lemmas.List.Folds.{list_any-append}
 use Rattle.std.specs.Cmp.{IsEquivalence}
 use Rattle.std.specs.Cmp.Rules.{comparing}
-use Rattle.std.specs.List.{list_any}
 use Rattle.indexmap.specs.IndexSet.{insert_key}
 use Rattle.strips_task.specs.declared.atoms.Atom.{Atom}
 use Rattle.strips_task.specs.declared.atoms.GroundCond.{GroundCond}
@@ -37,23 +36,23 @@ module _ (state : State) (found before all : List GroundCond) (condition : Groun
   split : missing state all ≡ first_places cond_eq (filter (λ c. not (holds state c)) before ++ cond (not (holds state condition)) (condition ∷ []) [])
   split =
       ap (missing state) more
-        ∙ ap (first_places cond_eq) (filter-append (λ c. not (holds state c)) before (condition ∷ []))
+      ∙ ap (first_places cond_eq) (filter-append (λ c. not (holds state c)) before (condition ∷ []))
 
   -- one that holds is not missing
   pub missing-more_holds : holds state condition ≡ true → found ≡ missing state all
   missing-more_holds h =
       so_far
-        ∙ ap (first_places cond_eq) (sym (append-nil (filter (λ c. not (holds state c)) before)))
-        ∙ ap (λ b. first_places cond_eq (filter (λ c. not (holds state c)) before ++ cond (not b) (condition ∷ []) [])) (sym h)
-        ∙ sym split
+      ∙ ap (first_places cond_eq) (sym (append-nil (filter (λ c. not (holds state c)) before)))
+      ∙ ap (λ b. first_places cond_eq (filter (λ c. not (holds state c)) before ++ cond (not b) (condition ∷ []) [])) (sym h)
+      ∙ sym split
 
   -- one that fails goes last, unless it is there
   pub missing-more_fails : holds state condition ≡ false → insert_key cond_eq found condition ≡ missing state all
   missing-more_fails h =
       ap (λ l. insert_key cond_eq l condition) so_far
-        ∙ sym (first_places-push cond_equiv (filter (λ c. not (holds state c)) before) condition)
-        ∙ ap (λ b. first_places cond_eq (filter (λ c. not (holds state c)) before ++ cond (not b) (condition ∷ []) [])) (sym h)
-        ∙ sym split
+      ∙ sym (first_places-push cond_equiv (filter (λ c. not (holds state c)) before) condition)
+      ∙ ap (λ b. first_places cond_eq (filter (λ c. not (holds state c)) before ++ cond (not b) (condition ∷ []) [])) (sym h)
+      ∙ sym split
 
 or_assoc : (a b c : Bool) → (a || (b || (c || false))) ≡ ((a || b) || (c || false))
 or_assoc true b c = refl
@@ -73,14 +72,14 @@ module _ (start state next : State) (before all : List Atom) (atom : Atom) (more
   pub without-more : state ≡ without start before → next ≡ without state (atom ∷ []) → next ≡ without start all
   without-more so_far step =
       step ∙ fun_ext (λ other.
-          ap (λ s. s other && not (atom_eq other atom || false)) so_far
-            ∙ sym (and_not (start other) (is_in before other) (atom_eq other atom))
-            ∙ ap (λ b. start other && not b) (sym (in_all other)))
+      ap (λ s. s other && not (atom_eq other atom || false)) so_far
+      ∙ sym (and_not (start other) (is_in before other) (atom_eq other atom))
+      ∙ ap (λ b. start other && not b) (sym (in_all other)))
 
   -- one atom more is added
   pub with_all-more : state ≡ with_all start before → next ≡ with_all state (atom ∷ []) → next ≡ with_all start all
   with_all-more so_far step =
       step ∙ fun_ext (λ other.
-          ap (λ s. s other || (atom_eq other atom || false)) so_far
-            ∙ sym (or_assoc (start other) (is_in before other) (atom_eq other atom))
-            ∙ ap (λ b. start other || b) (sym (in_all other)))
+      ap (λ s. s other || (atom_eq other atom || false)) so_far
+      ∙ sym (or_assoc (start other) (is_in before other) (atom_eq other atom))
+      ∙ ap (λ b. start other || b) (sym (in_all other)))

@@ -1,6 +1,6 @@
 -- The verdict of the steps that are left, as a loop over the steps meets it.
 
-use Rattle.std.proofs.Common.{◌≡◌, ℕ, ◌+◌, ◌<◌, ◌≤◌, List, [], ◌∷◌, Option, Some, None, Result, Ok, Err, IfOk, IfNone, subst, length, drop, slice_get, ap, sym, ◌∙◌, arith}
+use Rattle.std.proofs.Common.{◌≡◌, ℕ, ◌+◌, ◌<◌, ◌≤◌, List, Option, Some, None, Result, Ok, Err, IfOk, IfNone, subst, length, drop, slice_get, ap, sym, ◌∙◌}
 use Rattle.std.proofs.lemmas.List.{drop_all}
 use Rattle.std.proofs.lemmas.Option.{get_or_from_slice_get}
 use Rattle.strips_task.specs.declared.steps.StepText.{StepText}
@@ -25,7 +25,7 @@ without_value {T} {P} outcome none h = let Q : Option T → Type 0 = λ o. IfNon
 module _ (parts : TaskParts) (all : Verdict) (state : State) (steps : List StepText) (i : ℕ) (so_far : all ≡ verdict_from parts i state (drop i steps)) where
   -- one step more
   step_more : (step : StepText) → i < length steps → slice_get steps i ≡ Some step
-    → all ≡ step_verdict (i + 1) (hindrance parts state step) (verdict_from parts (i + 1) (after parts state step) (drop (i + 1) steps))
+      → all ≡ step_verdict (i + 1) (hindrance parts state step) (verdict_from parts (i + 1) (after parts state step) (drop (i + 1) steps))
   step_more step lt at = so_far ∙ ap (verdict_from parts i state) (left steps i step lt (sym (get_or_from_slice_get steps i step step at)))
 
   -- a step that is hindered ends the plan
@@ -35,11 +35,11 @@ module _ (parts : TaskParts) (all : Verdict) (state : State) (steps : List StepT
 
   -- a step that is not leads to the next state
   pub step_taken : (step : StepText) (next : State) → i < length steps → slice_get steps i ≡ Some step → None ≡ hindrance parts state step → next ≡ after parts state step
-    → all ≡ verdict_from parts (i + 1) next (drop (i + 1) steps)
+      → all ≡ verdict_from parts (i + 1) next (drop (i + 1) steps)
   step_taken step next lt at h is =
       step_more step lt at
-        ∙ ap (λ w. step_verdict (i + 1) w (verdict_from parts (i + 1) (after parts state step) (drop (i + 1) steps))) (sym h)
-        ∙ ap (λ s. verdict_from parts (i + 1) s (drop (i + 1) steps)) (sym is)
+      ∙ ap (λ w. step_verdict (i + 1) w (verdict_from parts (i + 1) (after parts state step) (drop (i + 1) steps))) (sym h)
+      ∙ ap (λ s. verdict_from parts (i + 1) s (drop (i + 1) steps)) (sym is)
 
   -- after the last step the goal decides
   pub steps_end : length steps ≤ i → all ≡ goal_verdict i (missing state parts.goal)

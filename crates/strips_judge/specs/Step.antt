@@ -1,7 +1,7 @@
 -- One step of a plan: what may be wrong with it, and what it does (PDDL 2.1, Fox and Long 2003, section 6).
 
 use Rattle.std.specs.Prelude.{ℕ, ◌==◌, Bool, not, List, [], ◌∷◌, Option, Some, None, filter, map, length, slice_get, slice_index, if◌then◌else◌, option_map, option_and_then, is_none}
-use Rattle.std.specs.List.{position_from, list_any, filter_map, zip}
+use Rattle.std.specs.List.{position_from, filter_map, zip}
 use Rattle.std.specs.Map.{values_of}
 use Rattle.std.specs.Option.{option_or}
 use Rattle.strips_task.specs.declared.actions.Action.{Action}
@@ -11,7 +11,7 @@ use Rattle.strips_task.specs.declared.tasks.TaskParts.{TaskParts}
 use Rattle.strips_task.specs.Atom.{cond_eq}
 use Rattle.strips_task.specs.FirstPlaces.{first_places}
 use Rattle.strips_task.specs.Names.{number_named}
-use Rattle.strips_task.specs.Types.{is_below}
+use Rattle.strips_task.specs.WellFormed.{fits}
 use Rattle.strips_judge.specs.declared.verdict.Why.{Why}
 use Rattle.strips_judge.specs.declared.verdict.Why.TheVariants.{UnknownAction, WrongCount, UnknownObject, WrongType, Missing}
 use Rattle.strips_judge.specs.Grounding.{ground, ground_condition}
@@ -29,22 +29,28 @@ objects_named parts words = filter_map (number_named parts.objects) words
 abbrev pub is_unknown : TaskParts → List ℕ → Bool
 is_unknown parts word = is_none (number_named parts.objects word)
 
--- an object fits a parameter where its type is below one of the parameter's types
+-- an object fits a parameter where its type is below one of the parameter's types (this validator's choice)
 abbrev pub object_fits : TaskParts → List ℕ → ℕ → Bool
-object_fits parts alternatives object = list_any (is_below parts.parents (slice_index (values_of parts.objects) object)) alternatives
+object_fits parts alternatives object = fits parts.parents (slice_index (values_of parts.objects) object ∷ []) alternatives
 
 -- the object does not fit the parameter beside it
 abbrev pub is_ill_typed : TaskParts → List ℕ × ℕ → Bool
 is_ill_typed parts place = not (object_fits parts place.0 place.1)
 
--- the first fault of a step of this action: the number of its arguments, then an argument that names no object, then one that does not
--- fit its parameter. Arguments count from 1, and all are tested for being known before any is tested for its type
+-- the first argument that names no object, counted from 1
+abbrev pub first_unknown : TaskParts → List (List ℕ) → Option ℕ
+first_unknown parts args = position_from (is_unknown parts) 1 args
+
+-- the first argument whose object does not fit its parameter, counted from 1
+abbrev pub first_ill_typed : TaskParts → Action → List (List ℕ) → Option ℕ
+first_ill_typed parts action args = position_from (is_ill_typed parts) 1 (zip action.params (objects_named parts args))
+
+-- the first fault of a step of this action: its number of arguments, then an argument that names no object, then one that does not fit
+-- its parameter. All arguments are tested for being known before any is tested for its type (this validator's choice)
 abbrev pub argument_fault : TaskParts → Action → List (List ℕ) → Option Why
 argument_fault parts action args =
     if length args == length action.params
-    then option_or
-        (option_map UnknownObject (position_from (is_unknown parts) 1 args))
-        (option_map WrongType (position_from (is_ill_typed parts) 1 (zip action.params (objects_named parts args))))
+    then option_or (option_map UnknownObject (first_unknown parts args)) (option_map WrongType (first_ill_typed parts action args))
     else Some WrongCount
 
 -- the fault of a step, by the action that its first word names
@@ -75,6 +81,7 @@ abbrev pub after : TaskParts → State → StepText → State
 after parts state step = after_by (objects_named parts step.args) state (action_named parts step.action)
 
 -- the conditions that do not hold, in order, each at its first place only; the two signs of an atom are two conditions
+-- (which of them are named, and in which order, is this validator's choice)
 abbrev pub missing : State → List GroundCond → List GroundCond
 missing state conds = first_places cond_eq (filter (λ cond. not (holds state cond)) conds)
 
@@ -82,6 +89,11 @@ missing state conds = first_places cond_eq (filter (λ cond. not (holds state co
 abbrev pub missing_why : List GroundCond → Option Why
 missing_why [] = None
 missing_why (cond ∷ conds) = Some (Missing (cond ∷ conds))
+
+-- why a step of this action is not applicable in a state, if it is not
+abbrev pub action_hindrance : TaskParts → State → Action → List (List ℕ) → Option Why
+action_hindrance parts state action args =
+    option_or (argument_fault parts action args) (missing_why (missing state (conditions_by (objects_named parts args) (Some action))))
 
 -- why a step is not applicable in a state, if it is not: its fault, or else the conditions that do not hold
 abbrev pub hindrance : TaskParts → State → StepText → Option Why

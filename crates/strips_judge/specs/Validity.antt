@@ -37,7 +37,7 @@ AreValid parts steps = (end : State) × LeadTo parts (is_in parts.init) steps en
 -- the plan fails at this step, counted from 1: the steps before it have a run, and it is not applicable in the state to which they lead
 abbrev pub FailAt : TaskParts → List StepText → ℕ → Type 0
 FailAt parts steps place = (before : ℕ) × (step : StepText) × (state : State) × (place ≡ before + 1) × (slice_get steps before ≡ Some step)
-  × LeadTo parts (is_in parts.init) (take before steps) state × (IsApplicable parts state step → ⊥)
+    × LeadTo parts (is_in parts.init) (take before steps) state × (IsApplicable parts state step → ⊥)
 
 -- the steps miss the goal: they lead to a state in which it does not hold
 abbrev pub MissGoal : TaskParts → List StepText → Type 0

@@ -1,13 +1,12 @@
 //! The arguments of a step: which objects they name, and whether these fit the action's parameters.
-ghost use Rattle.std.specs.Prelude.{◌≡◌, ◌+◌, ◌<◌, ◌≤◌, ◌^◌, ℕ, List, All, IfOk, IfNone, IfSome, OnOk, Option, Some, None, length, option_map};
+ghost use Rattle.std.specs.Prelude.{◌≡◌, ◌<◌, ◌≤◌, All, IfOk, IfNone, length};
 ghost use Rattle.std.specs.List.{position_from, zip};
 ghost use Rattle.strips_task.specs.StepView.{step_shown};
-ghost use Rattle.strips_judge.specs.Step.{is_unknown, is_ill_typed, object_fits, objects_named, argument_fault};
+ghost use Rattle.strips_judge.specs.Step.{first_unknown, is_ill_typed, object_fits, objects_named, argument_fault};
 
 use crate::verdict::Why;
 use std::alloc::AllocError;
-use strips_task::{Action, Alternatives};
-use strips_task::{StepView, Task};
+use strips_task::{Action, Alternatives, StepView, Task};
 
 /// Finds the objects that a step of an action names, or else what is wrong with its arguments.
 pub(crate) fn bind(
@@ -36,9 +35,13 @@ pub(crate) fn bind(
 
 /// Gathers the numbers of the objects that a step names, up to the first argument that names none, and answers which that is,
 /// counted from 1.
-fn find_objects(task: &Task, step: StepView<'_>, objects: &mut Vec<u16>) -> Result<Option<u32>, AllocError>
+fn find_objects(
+    task: &Task,
+    step: StepView<'_>,
+    objects: &mut Vec<u16>,
+) -> Result<Option<u32>, AllocError>
     requires { length (step_shown step).args ≤ 32 }
-    ensures unknown { IfOk result (λ arg. arg ≡ position_from (is_unknown task.now) 1 (step_shown step.entry).args) }
+    ensures unknown { IfOk result (λ arg. arg ≡ first_unknown task.now (step_shown step.entry).args) }
     ensures objects { IfOk result (λ arg. IfNone arg (objects.new.items ≡ objects_named task.now (step_shown step.entry).args)) }
     ensures all { IfOk result (λ arg. IfNone arg (length objects.new.items ≡ length (step_shown step.entry).args)) }
     ensures known { IfOk result (λ arg. IfNone arg (All (λ object. object < length task.now.objects) objects.new.items)) }

@@ -2,7 +2,7 @@
 //!
 //! A condition is looked up as it stands in the one atom that is used again and again; only one that fails is copied, and that ends the
 //! plan.
-ghost use Rattle.std.specs.Prelude.{◌≡◌, List, length, map, All, IfOk, OnOk};
+ghost use Rattle.std.specs.Prelude.{◌≡◌, length, map, All, IfOk, OnOk};
 ghost use Rattle.indexmap.specs.IndexSet.{insert_key};
 ghost use Rattle.strips_task.specs.Atom.{cond_eq};
 ghost use Rattle.strips_task.specs.Within.{IsPatternWithin};
@@ -39,7 +39,11 @@ pub(crate) fn missing(
 }
 
 /// The ground conditions that do not hold, in order, each at its first place only.
-pub(crate) fn missing_ground(alloc: Global, state: &NumberedState<'_>, conds: &[GroundCond]) -> Result<CondList, AllocError>
+pub(crate) fn missing_ground(
+    alloc: Global,
+    state: &NumberedState<'_>,
+    conds: &[GroundCond],
+) -> Result<CondList, AllocError>
     ensures { IfOk result (λ found. found ≡ missing (state_of state.now) conds.now) }
 {
     let mut found = CondList::new(alloc);

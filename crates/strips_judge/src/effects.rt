@@ -1,5 +1,5 @@
 //! What an action does to a state: first it deletes, then it adds, so an atom that is deleted and added is true afterwards.
-ghost use Rattle.std.specs.Prelude.{◌≡◌, List, length, map, All, OnOk};
+ghost use Rattle.std.specs.Prelude.{◌≡◌, length, map, All, OnOk};
 ghost use Rattle.strips_task.specs.Within.{IsPatternWithin};
 ghost use Rattle.strips_judge.specs.Grounding.{ground};
 ghost use Rattle.strips_judge.specs.Numbered.{state_of};
@@ -20,13 +20,19 @@ pub(crate) fn apply(
 ) -> Result<(), AllocError>
     requires deletes { All (IsPatternWithin (length objects.now)) action.now.del }
     requires adds { All (IsPatternWithin (length objects.now)) action.now.add }
-    ensures { OnOk result (state_of state.new ≡ after_effects (state_of state.old) (map (ground objects.now) action.now.del) (map (ground objects.now) action.now.add)) }
+    ensures { OnOk result (state_of state.new ≡ after_effects (state_of state.old)
+        (map (ground objects.now) action.now.del) (map (ground objects.now) action.now.add)) }
 {
     remove_all(state, action.del.as_slice(), objects, atom)?;
     insert_all(alloc, state, action.add.as_slice(), objects, atom)
 }
 
-fn remove_all(state: &mut NumberedState<'_>, patterns: &[Pattern], objects: &[u16], atom: &mut Atom) -> Result<(), AllocError>
+fn remove_all(
+    state: &mut NumberedState<'_>,
+    patterns: &[Pattern],
+    objects: &[u16],
+    atom: &mut Atom,
+) -> Result<(), AllocError>
     requires { All (IsPatternWithin (length objects.now)) patterns.now }
     ensures { OnOk result (state_of state.new ≡ without (state_of state.old) (map (ground objects.now) patterns.now)) }
 {

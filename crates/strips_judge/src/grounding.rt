@@ -1,7 +1,7 @@
 //! Grounding: the atom that a pattern stands for when the parameters are bound to objects.
 //!
 //! Every condition and effect of a step is grounded into one atom that is used again and again, so that grounding takes no memory.
-ghost use Rattle.std.specs.Prelude.{◌≡◌, ℕ, List, length, OnOk};
+ghost use Rattle.std.specs.Prelude.{◌≡◌, length, OnOk};
 ghost use Rattle.strips_task.specs.Within.{IsPatternWithin};
 ghost use Rattle.strips_judge.specs.Grounding.{ground};
 

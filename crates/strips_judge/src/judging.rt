@@ -2,14 +2,12 @@
 //!
 //! A step is found by the bytes of its words, bound to objects, tested and applied, all in place: the list of objects and the one ground
 //! atom are used again for every step, and memory is taken only where an atom comes up that was never true before.
-ghost use Rattle.std.specs.Prelude.{◌≡◌, ◌+◌, ◌<◌, ◌≤◌, ℕ, List, All, IfOk, IfNone, Some, map, length};
-ghost use Rattle.std.specs.Option.{option_or};
+ghost use Rattle.std.specs.Prelude.{◌≡◌, IfOk, IfNone, Some, length};
 ghost use Rattle.strips_task.specs.StepView.{step_shown};
 ghost use Rattle.strips_task.specs.Within.{IsActionWithin};
-ghost use Rattle.strips_judge.specs.Grounding.{ground_condition};
 ghost use Rattle.strips_judge.specs.Numbered.{state_of};
 ghost use Rattle.strips_judge.specs.State.{is_in};
-ghost use Rattle.strips_judge.specs.Step.{argument_fault, objects_named, missing, missing_why, hindrance, after_by, after};
+ghost use Rattle.strips_judge.specs.Step.{objects_named, missing, action_hindrance, hindrance, after_by, after};
 ghost use Rattle.strips_judge.specs.Verdict.{goal_verdict, verdict_from, verdict};
 
 use crate::arguments::bind;
@@ -18,8 +16,7 @@ use crate::effects::apply;
 use crate::state::NumberedState;
 use crate::verdict::{Verdict, Why};
 use std::alloc::{AllocError, Global};
-use strips_task::{Action, Atom, ShortSeq};
-use strips_task::{Plan, StepList, StepView, Task};
+use strips_task::{Action, Atom, Plan, ShortSeq, StepList, StepView, Task};
 
 /// What the steps of a plan share, so that a step takes no memory of its own.
 #[derive(Drop)]
@@ -69,7 +66,12 @@ fn judge_steps(alloc: Global, task: &Task, steps: &StepList) -> Result<Verdict, 
 }
 
 /// The verdict of a plan whose steps were all taken and lead to this state.
-fn judge_goal(alloc: Global, task: &Task, state: &NumberedState<'_>, steps: u32) -> Result<Verdict, AllocError>
+fn judge_goal(
+    alloc: Global,
+    task: &Task,
+    state: &NumberedState<'_>,
+    steps: u32,
+) -> Result<Verdict, AllocError>
     ensures { IfOk result (λ answer. answer ≡ goal_verdict steps (missing (state_of state.now) task.now.goal)) }
 {
     let missing = missing_ground(alloc, state, task.goal().as_slice())?;
@@ -107,19 +109,21 @@ fn take_action(
     scratch: &mut Scratch,
 ) -> Result<Option<Why>, AllocError>
     requires { IsActionWithin (length task.now.parents) action.now }
-    ensures why {
-        IfOk result (λ why. why ≡ option_or (argument_fault task.now action.now (step_shown step.entry).args)
-            (missing_why (missing (state_of state.old) (map (ground_condition (objects_named task.now (step_shown step.entry).args)) action.now.pre))))
-    }
-    ensures next {
-        IfOk result (λ why. IfNone why (state_of state.new ≡ after_by (objects_named task.now (step_shown step.entry).args) (state_of state.old) (Some action.now)))
-    }
+    ensures why { IfOk result (λ why. why ≡ action_hindrance task.now (state_of state.old) action.now (step_shown step.entry).args) }
+    ensures next { IfOk result (λ why. IfNone why (state_of state.new
+        ≡ after_by (objects_named task.now (step_shown step.entry).args) (state_of state.old) (Some action.now))) }
 {
     if let Some(why) = bind(task, action, step, &mut scratch.objects)? {
         return Ok(Some(why));
     }
     let objects = scratch.objects.as_slice();
-    let unmet = missing(alloc, state, action.pre.as_slice(), objects, &mut scratch.atom)?;
+    let unmet = missing(
+        alloc,
+        state,
+        action.pre.as_slice(),
+        objects,
+        &mut scratch.atom,
+    )?;
     if !unmet.is_empty() {
         return Ok(Some(Why::Missing(unmet)));
     }

@@ -25,9 +25,14 @@ pub(crate) fn number_in(atoms: &IndexSet<Atom>, atom: &Atom) -> Option<usize>
 }
 
 /// The number of an atom, which is added at the end where it had none. The others keep theirs.
-pub(crate) fn number_or_add(alloc: Global, atoms: &mut IndexSet<Atom>, atom: &Atom) -> Result<usize, AllocError>
+pub(crate) fn number_or_add(
+    alloc: Global,
+    atoms: &mut IndexSet<Atom>,
+    atom: &Atom,
+) -> Result<usize, AllocError>
     ensures numbered { IfOk result (λ number. number_in atoms.new.keys atom.now ≡ Some number) }
-    ensures others { OnOk result ((other : Atom) → atom_eq atom.now other ≡ false → number_in atoms.new.keys other ≡ number_in atoms.old.keys other) }
+    ensures others { OnOk result ((other : Atom) → atom_eq atom.now other ≡ false
+        → number_in atoms.new.keys other ≡ number_in atoms.old.keys other) }
 {
     if let Some(number) = number_in(atoms, atom) {
         return Ok(number);

@@ -2,7 +2,7 @@
 //!
 //! The row has no length for its users: a bit that was never set is clear. Words are added as bits far to the right are set, and
 //! setting and clearing change the row in place.
-ghost use Rattle.std.specs.Prelude.{◌≡◌, ◌≢◌, ℕ, ◌+◌, ◌*◌, ◌/◌, ◌%◌, ◌^◌, ◌<◌, ◌↔◌, List, slice_index, vec_len, true, false, IsTrue, OnOk, IfOk};
+ghost use Rattle.std.specs.Prelude.{◌≡◌, ◌≢◌, ◌^◌, ◌<◌, ◌↔◌, ℕ, List, slice_index, vec_len, true, false, IsTrue, OnOk, IfOk};
 ghost use Rattle.std.specs.Int.{bit_at};
 ghost use Rattle.strips_judge.specs.Row.{row_has};
 

@@ -3,8 +3,7 @@
 //! Each atom that is ever true has a number and a bit. The initial atoms have theirs from the task, so a plan starts with a row of ones
 //! and hashes none of them. An atom that a step adds for the first time gets a number of the plan's own. Steps change the bits in
 //! place. An atom without a number is false.
-ghost use Rattle.std.specs.Prelude.{◌≡◌, ◌∷◌, [], false, IfOk, OnOk, Some, ◌<◌, length, IfSome};
-ghost use Rattle.strips_task.specs.Atom.{atom_eq};
+ghost use Rattle.std.specs.Prelude.{◌≡◌, ◌∷◌, [], IfOk, OnOk};
 ghost use Rattle.strips_judge.specs.State.{is_in, without, with_all};
 
 use crate::numbers::{number_in, number_or_add};
@@ -26,7 +25,10 @@ impl NumberedState<'_> {
     ghost use Rattle.strips_judge.specs.Numbered.{state_of};
 
     /// The state in which the initial atoms are true, and no others. Takes a bit for each of them.
-    pub(crate) fn new(alloc: Global, initial: &InitialAtoms) -> Result<NumberedState<'_>, AllocError>
+    pub(crate) fn new(
+        alloc: Global,
+        initial: &InitialAtoms,
+    ) -> Result<NumberedState<'_>, AllocError>
         ensures { IfOk result (λ state. state_of state ≡ is_in initial.now) }
     {
         Ok(NumberedState {

@@ -29,7 +29,7 @@ unnamed {V} entries name h = by (lookup (bytes_eq name) entries) refl
     by None e = e
     by (Some v) e =
         absurd (true≢false (sym (ap is_some e) ∙ sym (some_index (bytes_eq name) entries)
-            ∙ ap is_some (position_from-zero (bytes_eq name) (keys_of entries) ∙ h)))
+        ∙ ap is_some (position_from-zero (bytes_eq name) (keys_of entries) ∙ h)))
 
 -- where a test finds no place, no item passes it
 none_passes : {A : Type 0} (p : A → Bool) (at : ℕ) (xs : List A) → position_from p at xs ≡ None → list_any p xs ≡ false
@@ -51,12 +51,12 @@ distinct_push (first ∷ names) name h new =
     let none : list_any (bytes_eq first) names ≡ false = not_true (list_any (bytes_eq first) names) parts.0 in
     let other : bytes_eq first name ≡ false = nat_list_eq_equiv.symm first name ∙ apart.0 in
     let absent : list_any (bytes_eq first) (names ++ name ∷ []) ≡ false =
-          list_any-append (bytes_eq first) names (name ∷ []) ∙ (λ j. none j || (other j || false)) in
+    list_any-append (bytes_eq first) names (name ∷ []) ∙ (λ j. none j || (other j || false)) in
     (λ j. not (absent j) && distinct_push names name parts.1 apart.1 j)
 
 -- and so does a new entry
 pub entries_distinct : {V : Type 0} (entries : List (List ℕ × V)) (name : List ℕ) (value : V) → number_named entries name ≡ None
-  → are_distinct (keys_of entries) ≡ true → are_distinct (keys_of (entries ++ (name, value) ∷ [])) ≡ true
+    → are_distinct (keys_of entries) ≡ true → are_distinct (keys_of (entries ++ (name, value) ∷ [])) ≡ true
 unfolding number_named
 entries_distinct entries name value new h =
     ap are_distinct (map-append (λ e. e.0) entries ((name, value) ∷ []))

@@ -21,7 +21,7 @@ module _ {A : Type 0} where
 
   -- the first number's item goes first
   cons_shown : (ks : List A) (n : ℕ) (ns : List ℕ) (x : A) → slice_get ks n ≡ Some x
-    → filter_map (slice_get ks) (n ∷ ns) ≡ x ∷ filter_map (slice_get ks) ns
+      → filter_map (slice_get ks) (n ∷ ns) ≡ x ∷ filter_map (slice_get ks) ns
   cons_shown ks n ns x at = ap (λ o. cons_option o (filter_map (slice_get ks) ns)) at
 
   -- there are as many items as numbers
@@ -33,7 +33,7 @@ module _ {A : Type 0} where
 
   -- at each place stands the item that is numbered there
   pub slice_get-shown : (ks : List A) (ns : List ℕ) → All (λ n. n < length ks) ns → (i d : ℕ) → i < length ns
-    → slice_get (filter_map (slice_get ks) ns) i ≡ slice_get ks (get_or ns i d)
+      → slice_get (filter_map (slice_get ks) ns) i ≡ slice_get ks (get_or ns i d)
   slice_get-shown ks [] h i d lt = absurd (omega arith)
   slice_get-shown ks (n ∷ ns) h zero d lt =
       let at = item_within ks n (all_head (length ks) n ns h) in
@@ -51,7 +51,7 @@ module _ {A : Type 0} where
 
   -- and so a numbered list stays as it is
   pub shown-more : (ks zs : List A) (ns : List ℕ) → All (λ n. n < length ks) ns
-    → filter_map (slice_get (ks ++ zs)) ns ≡ filter_map (slice_get ks) ns
+      → filter_map (slice_get (ks ++ zs)) ns ≡ filter_map (slice_get ks) ns
   shown-more ks zs [] h = refl
   shown-more ks zs (n ∷ ns) h =
       (λ j. cons_option (slice_get-more ks zs n (all_head (length ks) n ns h) j) (shown-more ks zs ns (all_tail (length ks) n ns h) j))
@@ -66,8 +66,8 @@ module _ {A : Type 0} where
 
   -- one more item: its number goes last, and the list of items grows by it
   pub shown-insert : (eq : A → A → Bool) (ks : List A) (ns : List ℕ) (z : A) (new : List A) (n : ℕ)
-    → All (λ k. k < length ks) ns → new ≡ insert_key eq ks z → slice_get new n ≡ Some z
-    → filter_map (slice_get new) (ns ++ n ∷ []) ≡ filter_map (slice_get ks) ns ++ z ∷ []
+      → All (λ k. k < length ks) ns → new ≡ insert_key eq ks z → slice_get new n ≡ Some z
+      → filter_map (slice_get new) (ns ++ n ∷ []) ≡ filter_map (slice_get ks) ns ++ z ∷ []
   shown-insert eq ks ns z new n h is at =
       let more = insert_adds eq ks z in
       filter_map-append (slice_get new) ns (n ∷ [])
@@ -76,8 +76,8 @@ module _ {A : Type 0} where
 
   -- and all numbers are within
   pub all_within-insert : (eq : A → A → Bool) (ks : List A) (ns : List ℕ) (z : A) (new : List A) (n : ℕ)
-    → All (λ k. k < length ks) ns → new ≡ insert_key eq ks z → n < length new
-    → All (λ k. k < length new) (ns ++ n ∷ [])
+      → All (λ k. k < length ks) ns → new ≡ insert_key eq ks z → n < length new
+      → All (λ k. k < length new) (ns ++ n ∷ [])
   all_within-insert eq ks ns z new n h is lt =
       let more = insert_adds eq ks z in
       let grows : length ks ≤ length new = omega (arith, ap length (is ∙ more.1), length-append ks more.0) in

@@ -28,7 +28,7 @@ start_within start (end ∷ ends) total h = omega (arith, h.0, start_within end 
 
 -- each part ends within the list, and no sooner than it starts
 pub end_within : (start : ℕ) (ends : List ℕ) (total i : ℕ) → AreEnds start ends total → i < length ends
-  → (get_or (start ∷ ends) i 0 ≤ get_or ends i 0) × (get_or ends i 0 ≤ total)
+    → (get_or (start ∷ ends) i 0 ≤ get_or ends i 0) × (get_or ends i 0 ≤ total)
 unfolding AreEnds
 end_within start [] total i h lt = absurd (omega arith)
 end_within start (end ∷ ends) total zero h lt = (h.0, start_within end ends total h.1)
@@ -36,7 +36,7 @@ end_within start (end ∷ ends) total (suc i) h lt = end_within end ends total i
 
 -- what stands between two ends
 pub slice_get_parts : (xs : List ℕ) (start : ℕ) (ends : List ℕ) (i : ℕ) → i < length ends
-  → slice_get (parts_from xs start ends) i ≡ Some (take (get_or ends i 0 - get_or (start ∷ ends) i 0) (drop (get_or (start ∷ ends) i 0) xs))
+    → slice_get (parts_from xs start ends) i ≡ Some (take (get_or ends i 0 - get_or (start ∷ ends) i 0) (drop (get_or (start ∷ ends) i 0) xs))
 unfolding parts_from
 slice_get_parts xs start [] i lt = absurd (omega arith)
 slice_get_parts xs start (end ∷ ends) zero lt = refl
@@ -49,20 +49,20 @@ ends_push start [] total more h le = (omega (arith, h), refl)
 ends_push start (end ∷ ends) total more h le = (h.0, ends_push end ends total more h.1 le)
 
 pub parts_push : (xs ys : List ℕ) (start : ℕ) (ends : List ℕ) (more : ℕ) → AreEnds start ends (length xs) → more ≡ length xs + length ys
-  → parts_from (xs ++ ys) start (ends ++ more ∷ []) ≡ parts_from xs start ends ++ ys ∷ []
+    → parts_from (xs ++ ys) start (ends ++ more ∷ []) ≡ parts_from xs start ends ++ ys ∷ []
 unfolding AreEnds parts_from
 parts_push xs ys start [] more h e =
     let count : more - start ≡ length ys = omega (arith, h) in
     ap (λ part. part ∷ [])
-      ((λ j. take (count j) (drop (h j) (xs ++ ys)))
-      ∙ ap (take (length ys)) (drop-append_seam xs ys)
-      ∙ take_all (length ys) ys (omega arith))
+    ((λ j. take (count j) (drop (h j) (xs ++ ys)))
+    ∙ ap (take (length ys)) (drop-append_seam xs ys)
+    ∙ take_all (length ys) ys (omega arith))
 parts_push xs ys start (end ∷ ends) more h e =
     let ends_in : end ≤ length xs = start_within end ends (length xs) h.1 in
     let starts_in : start ≤ length xs = omega (arith, h.0) in
     let count : end - start ≤ length (drop start xs) = omega (arith, length-drop start xs) in
     (λ j. (ap (take (end - start)) (drop-append-le start xs ys starts_in) ∙ take-append-le (end - start) (drop start xs) ys count) j
-      ∷ parts_push xs ys end ends more h.1 e j)
+    ∷ parts_push xs ys end ends more h.1 e j)
 
 -- an item within the list doesn't depend on what stands past it
 pub get_or_any : (xs : List ℕ) (i d e : ℕ) → i < length xs → get_or xs i d ≡ get_or xs i e

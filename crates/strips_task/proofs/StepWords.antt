@@ -36,25 +36,27 @@ module _ {A : Type 0} where
 
 -- the words of a range, one by one
 pub step_words : (words : List (List ℕ)) (first end : ℕ) → first < end → end ≤ length words
-  → (word : List ℕ) × (slice_get words first ≡ Some word)
+    → (word : List ℕ) × (slice_get words first ≡ Some word)
     × (step_of (slice_range words first end) ≡ record { action = word; args = take (end - first - 1) (drop (suc first) words) })
 unfolding step_of
 step_words words first end lt le =
-    let head = drop_head words first (omega arith) in
-    (head.0, head.2,
+    let head = drop_head words first (omega arith) in (
+      head.0,
+      head.2,
       ap (λ n. step_of (take n (drop first words))) (let e : end - first ≡ suc (end - first - 1) = omega arith in e)
-      ∙ ap (λ l. step_of (take (suc (end - first - 1)) l)) head.1)
+          ∙ ap (λ l. step_of (take (suc (end - first - 1)) l)) head.1,
+    )
 
 pub args_count : (words : List (List ℕ)) (first end : ℕ) → first < end → end ≤ length words
-  → end - first - 1 ≡ length (step_of (slice_range words first end)).args
+    → end - first - 1 ≡ length (step_of (slice_range words first end)).args
 args_count words first end lt le =
     let parts = step_words words first end lt le in
     sym (ap (λ s. length s.args) parts.2
-      ∙ length-take (drop (suc first) words) (end - first - 1) (omega (arith, length-drop (suc first) words)))
+    ∙ length-take (drop (suc first) words) (end - first - 1) (omega (arith, length-drop (suc first) words)))
 
 pub arg_at : (words : List (List ℕ)) (first end place : ℕ) → first < end → end ≤ length words
-  → place < length (step_of (slice_range words first end)).args
-  → slice_get (step_of (slice_range words first end)).args place ≡ slice_get words (first + 1 + place)
+    → place < length (step_of (slice_range words first end)).args
+    → slice_get (step_of (slice_range words first end)).args place ≡ slice_get words (first + 1 + place)
 arg_at words first end place lt le within =
     let parts = step_words words first end lt le in
     ap (λ s. slice_get s.args place) parts.2
@@ -66,7 +68,7 @@ arg_at words first end place lt le within =
 pub extends_more : (old mid : List (List ℕ)) (word : List ℕ) (new : List (List ℕ)) → IsExtension old mid → new ≡ mid ++ word ∷ [] → IsExtension old new
 extends_more old mid word new ext e = record {
   more = ext.more ++ word ∷ [];
-  extends = e ∙ ap (λ l. l ++ word ∷ []) ext.extends ∙ append_assoc old ext.more (word ∷ [])
+  extends = e ∙ ap (λ l. l ++ word ∷ []) ext.extends ∙ append_assoc old ext.more (word ∷ []);
 }
 
 -- the words of a range stay where more words come behind them
@@ -75,18 +77,18 @@ range_kept words more range h =
     let starts : range.first ≤ length words = omega (arith, h.0, h.1) in
     let count : range.end - range.first ≤ length (drop range.first words) = omega (arith, h.1, length-drop range.first words) in
     ap step_of
-      (ap (take (range.end - range.first)) (drop-append-le range.first words more starts)
-      ∙ take-append-le (range.end - range.first) (drop range.first words) more count)
+    (ap (take (range.end - range.first)) (drop-append-le range.first words more starts)
+    ∙ take-append-le (range.end - range.first) (drop range.first words) more count)
 
 -- and so do the steps
 pub steps_kept : (words more : List (List ℕ)) (ranges : List StepRange) → All (IsStepRange (length words)) ranges
-  → map (step_at (words ++ more)) ranges ≡ map (step_at words) ranges
+    → map (step_at (words ++ more)) ranges ≡ map (step_at words) ranges
 steps_kept words more [] h = refl
 steps_kept words more (range ∷ ranges) h =
     λ j. range_kept words more range (h 0 range (omega arith)) j ∷ steps_kept words more ranges (λ k d lt. h (suc k) d (omega arith)) j
 
 pub ranges_kept : (words more : List (List ℕ)) (ranges : List StepRange) → All (IsStepRange (length words)) ranges
-  → All (IsStepRange (length (words ++ more))) ranges
+    → All (IsStepRange (length (words ++ more))) ranges
 ranges_kept words more ranges h =
     λ k d lt. let old = h k d lt in (old.0, omega (arith, old.1, length-append words more))
 
@@ -96,9 +98,9 @@ range_to_end words first end e = take_all (end - first) (drop first words) (omeg
 
 -- a step that was added to a plan: the steps before stay, and its words spell it
 pub steps_more : (words new : List (List ℕ)) (ranges after : List StepRange) (step : StepText) (first end : ℕ)
-  → All (IsStepRange (length words)) ranges → new ≡ words ++ step.action ∷ step.args → after ≡ ranges ++ record { first = first; end = end } ∷ []
-  → first ≡ length words → end ≡ length new
-  → map (step_at new) after ≡ map (step_at words) ranges ++ step ∷ []
+    → All (IsStepRange (length words)) ranges → new ≡ words ++ step.action ∷ step.args → after ≡ ranges ++ record { first = first; end = end } ∷ []
+    → first ≡ length words → end ≡ length new
+    → map (step_at new) after ≡ map (step_at words) ranges ++ step ∷ []
 unfolding step_of
 steps_more words new ranges after step first end h grown ranged starts ends =
     ap (map (step_at new)) ranged
@@ -108,27 +110,27 @@ steps_more words new ranges after step first end h grown ranged starts ends =
     own : step_at new (record { first = first; end = end }) ≡ step
     own =
         ap step_of
-          (range_to_end new first end ends
-          ∙ (λ j. drop (starts j) (grown j))
-          ∙ drop-append_seam words (step.action ∷ step.args))
+        (range_to_end new first end ends
+        ∙ (λ j. drop (starts j) (grown j))
+        ∙ drop-append_seam words (step.action ∷ step.args))
 
 -- and its range is one of the new words
 pub ranges_more : (words new : List (List ℕ)) (ranges after : List StepRange) (more : List (List ℕ)) (first end : ℕ)
-  → All (IsStepRange (length words)) ranges → new ≡ words ++ more → 0 < length more → after ≡ ranges ++ record { first = first; end = end } ∷ []
-  → first ≡ length words → end ≡ length new
-  → All (IsStepRange (length new)) after
+    → All (IsStepRange (length words)) ranges → new ≡ words ++ more → 0 < length more → after ≡ ranges ++ record { first = first; end = end } ∷ []
+    → first ≡ length words → end ≡ length new
+    → All (IsStepRange (length new)) after
 ranges_more words new ranges after more first end h grown some ranged starts ends =
     let total : length new ≡ length words + length more = ap length grown ∙ length-append words more in
     rw ranged
-      (All-push (IsStepRange (length new)) ranges (record { first = first; end = end })
-        (λ k d lt. let old = h k d lt in (old.0, omega (arith, old.1)))
-        (omega arith, omega arith))
+    (All-push (IsStepRange (length new)) ranges (record { first = first; end = end })
+    (λ k d lt. let old = h k d lt in (old.0, omega (arith, old.1)))
+    (omega arith, omega arith))
 
 pub ranges_extended : (words new : List (List ℕ)) (ranges : List StepRange) → All (IsStepRange (length words)) ranges → IsExtension words new
-  → All (IsStepRange (length new)) ranges
+    → All (IsStepRange (length new)) ranges
 ranges_extended words new ranges h ext =
     λ k d lt. let old = h k d lt in (old.0, omega (arith, old.1, ap length ext.extends, length-append words ext.more))
 
 pub steps_extended : (words new : List (List ℕ)) (ranges : List StepRange) → All (IsStepRange (length words)) ranges → IsExtension words new
-  → map (step_at new) ranges ≡ map (step_at words) ranges
+    → map (step_at new) ranges ≡ map (step_at words) ranges
 steps_extended words new ranges h ext = ap (λ l. map (step_at l) ranges) ext.extends ∙ steps_kept words ext.more ranges h

@@ -27,7 +27,7 @@ module _ (parents : List ℕ) where
       by (nat_eq sub sup) refl (below_from_within n (slice_index parents sub) sup)
     where
       by : (b : Bool) → nat_eq sub sup ≡ b → (is_within parents n (slice_index parents sub) sup ≡ true → IsBelow parents (slice_index parents sub) sup)
-        → IsBelow parents sub sup
+          → IsBelow parents sub sup
       by true e up = (0, eqb-true sub sup e)
       by false e up =
           let above = up (sym (ap (λ c. c || is_within parents n (slice_index parents sub) sup) e) ∙ h) in
@@ -85,14 +85,14 @@ count-mono p q (suc n) h = by (p n) (q n) refl refl (count-mono p q n (λ i lt. 
 
 -- a number more that passes makes one more
 count_more : (p q : ℕ → Bool) (n : ℕ) → ((i : ℕ) → i < n → p i ≡ true → q i ≡ true)
-  → (i : ℕ) → i < n → q i ≡ true → p i ≡ false → count p n + 1 ≤ count q n
+    → (i : ℕ) → i < n → q i ≡ true → p i ≡ false → count p n + 1 ≤ count q n
 unfolding count
 count_more p q zero h i lt new old = absurd (omega arith)
 count_more p q (suc n) h i lt new old =
     by (p n) (q n) refl refl (count-mono p q n (λ k below. h k (omega arith))) (count_more p q n (λ k below. h k (omega arith)) i)
   where
     by : (b c : Bool) → p n ≡ b → q n ≡ c → count p n ≤ count q n → (i < n → q i ≡ true → p i ≡ false → count p n + 1 ≤ count q n)
-      → (cond b 1 0 + count p n) + 1 ≤ cond c 1 0 + count q n
+        → (cond b 1 0 + count p n) + 1 ≤ cond c 1 0 + count q n
     by false true is was all rest = omega arith
     by false false is was all rest =
         let apart : i ≡ n → ⊥ = λ same. true≢false (sym new ∙ ap q same ∙ was) in
@@ -106,13 +106,13 @@ count_more p q (suc n) h i lt new old =
 
 -- one test passes where the other does, or there is a number at which it does not
 same_or_new : (p q : ℕ → Bool) (n : ℕ)
-  → ((i : ℕ) → i < n → q i ≡ true → p i ≡ true) ⊎ ((i : ℕ) × (i < n) × (q i ≡ true) × (p i ≡ false))
+    → ((i : ℕ) → i < n → q i ≡ true → p i ≡ true) ⊎ ((i : ℕ) × (i < n) × (q i ≡ true) × (p i ≡ false))
 same_or_new p q zero = inl (λ i lt. absurd (omega arith))
 same_or_new p q (suc n) = by (p n) (q n) refl refl (same_or_new p q n)
   where
     by : (b c : Bool) → p n ≡ b → q n ≡ c
-      → ((i : ℕ) → i < n → q i ≡ true → p i ≡ true) ⊎ ((i : ℕ) × (i < n) × (q i ≡ true) × (p i ≡ false))
-      → ((i : ℕ) → i < suc n → q i ≡ true → p i ≡ true) ⊎ ((i : ℕ) × (i < suc n) × (q i ≡ true) × (p i ≡ false))
+        → ((i : ℕ) → i < n → q i ≡ true → p i ≡ true) ⊎ ((i : ℕ) × (i < n) × (q i ≡ true) × (p i ≡ false))
+        → ((i : ℕ) → i < suc n → q i ≡ true → p i ≡ true) ⊎ ((i : ℕ) × (i < suc n) × (q i ≡ true) × (p i ≡ false))
     by b c is was (inr new) = inr (new.0, omega arith, new.2, new.3)
     by false true is was (inl all) = inr (n, omega arith, was, is)
     by true c is was (inl all) = inl (λ i lt. below_more (λ i. q i ≡ true → p i ≡ true) n all (λ _. is) i (omega arith))
@@ -149,16 +149,16 @@ module _ (parents : List ℕ) (has_object : 0 < length parents) (top : slice_ind
   grows (suc m) = by (grows m) (same_or_new (at_top m) (at_top (suc m)) (length parents))
     where
       by : IsSettled m ⊎ (suc m ≤ count (at_top m) (length parents))
-        → ((i : ℕ) → i < length parents → at_top (suc m) i ≡ true → at_top m i ≡ true)
+          → ((i : ℕ) → i < length parents → at_top (suc m) i ≡ true → at_top m i ≡ true)
           ⊎ ((i : ℕ) × (i < length parents) × (at_top (suc m) i ≡ true) × (at_top m i ≡ false))
-        → IsSettled (suc m) ⊎ (suc (suc m) ≤ count (at_top (suc m)) (length parents))
+          → IsSettled (suc m) ⊎ (suc (suc m) ≤ count (at_top (suc m)) (length parents))
       by (inl settled) _ = inl (settled_stays m settled)
       by (inr many) (inl same) =
           inl (settled_stays m (λ i lt e. eqb-true (ancestor parents m i) 0 (same i lt (eq-eqb (ancestor parents (suc m) i) 0 e))))
       by (inr many) (inr new) =
           let more = count_more (at_top m) (at_top (suc m)) (length parents)
-                (λ i lt e. eq-eqb (ancestor parents (suc m) i) 0 (stays_up m i (eqb-true (ancestor parents m i) 0 e)))
-                new.0 new.1 new.2 new.3 in
+          (λ i lt e. eq-eqb (ancestor parents (suc m) i) 0 (stays_up m i (eqb-true (ancestor parents m i) 0 e)))
+          new.0 new.1 new.2 new.3 in
           inr (omega (arith, more))
 
   -- after as many steps as there are types it is settled
@@ -191,7 +191,7 @@ module _ (parents : List ℕ) (has_object : 0 < length parents) (top : slice_ind
           ∙ ancestor-object (length parents - below.0)
       by (inl many) =
           comes_down (below.0 - length parents) i lt
-            (ap (λ k. ancestor parents k i) (let z : length parents + (below.0 - length parents) ≡ below.0 = omega arith in z) ∙ below.1)
+          (ap (λ k. ancestor parents k i) (let z : length parents + (below.0 - length parents) ≡ below.0 = omega arith in z) ∙ below.1)
 
   -- so the bounded walk finds every type above one that is below `object`
   pub within_from_below : (i sup : ℕ) → i < length parents → IsBelow parents i 0 → IsBelow parents i sup → is_within parents (length parents) i sup ≡ true
@@ -201,10 +201,10 @@ module _ (parents : List ℕ) (has_object : 0 < length parents) (top : slice_ind
       by (inr few) = within_from_steps parents (length parents) up.0 i sup few up.1
       by (inl many) =
           let e : ancestor parents (length parents) i ≡ sup =
-                climbs i lt below
-                ∙ sym (ancestor-object (up.0 - length parents))
-                ∙ ap (ancestor parents (up.0 - length parents)) (sym (climbs i lt below))
-                ∙ ancestor-add parents (up.0 - length parents) (length parents) i
-                ∙ ap (λ k. ancestor parents k i) (let z : length parents + (up.0 - length parents) ≡ up.0 = omega arith in z)
-                ∙ up.1 in
+          climbs i lt below
+          ∙ sym (ancestor-object (up.0 - length parents))
+          ∙ ap (ancestor parents (up.0 - length parents)) (sym (climbs i lt below))
+          ∙ ancestor-add parents (up.0 - length parents) (length parents) i
+          ∙ ap (λ k. ancestor parents k i) (let z : length parents + (up.0 - length parents) ≡ up.0 = omega arith in z)
+          ∙ up.1 in
           within_from_steps parents (length parents) (length parents) i sup (omega arith) e

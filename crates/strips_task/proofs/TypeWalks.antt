@@ -21,9 +21,11 @@ marked row at k lt = by (nat_eq at k) refl
     or_true : (b : Bool) → (b || true) ≡ true
     or_true true = refl
     or_true false = refl
+
     or_false : (b : Bool) → (b || false) ≡ b
     or_false true = refl
     or_false false = refl
+
     by : (b : Bool) → nat_eq at k ≡ b → get_or (set row at true) k false ≡ (get_or row k false || b)
     by true e = ap (λ j. get_or (set row at true) j false) (sym (eqb-true at k e)) ∙ get_or-set_same row at true false lt ∙ sym (or_true (get_or row k false))
     by false e =
@@ -36,7 +38,7 @@ or_assoc false b c = refl
 
 -- where the first type isn't the one that is looked for, the walk goes on from its parent
 pub walk_goes_on : (parents : List ℕ) (n m at next sup : ℕ) → m ≡ n + 1 → at ≢ sup → next ≡ slice_index parents at
-  → is_within parents m at sup ≡ is_within parents n next sup
+    → is_within parents m at sup ≡ is_within parents n next sup
 walk_goes_on parents n m at next sup e apart up =
     within_step parents n m at sup e
     ∙ ap (λ b. b || is_within parents n (slice_index parents at) sup) (let z : nat_eq at sup ≡ false = grind (arith, eqb-true at sup) in z)
@@ -49,7 +51,7 @@ walk_finds parents n m at sup e same =
 
 -- a mark and a step up leave what the row and the rest of the walk say together
 pub mark_goes_on : (parents : List ℕ) (row : List Bool) (n m at next k : ℕ) → at < length row → m ≡ n + 1 → next ≡ slice_index parents at
-  → (get_or (set row at true) k false || is_within parents n next k) ≡ (get_or row k false || is_within parents m at k)
+    → (get_or (set row at true) k false || is_within parents n next k) ≡ (get_or row k false || is_within parents m at k)
 mark_goes_on parents row n m at next k lt e up =
     ap (λ b. b || is_within parents n next k) (marked row at k lt)
     ∙ or_assoc (get_or row k false) (nat_eq at k) (is_within parents n next k)
@@ -58,6 +60,6 @@ mark_goes_on parents row n m at next k lt e up =
 
 -- and the last mark completes the row
 pub mark_ends : (parents : List ℕ) (row : List Bool) (m at k : ℕ) → at < length row → m ≡ 0
-  → get_or (set row at true) k false ≡ (get_or row k false || is_within parents m at k)
+    → get_or (set row at true) k false ≡ (get_or row k false || is_within parents m at k)
 mark_ends parents row m at k lt e =
     marked row at k lt ∙ ap (λ b. get_or row k false || b) (sym (within_none parents m at k e))

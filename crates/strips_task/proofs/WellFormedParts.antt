@@ -27,7 +27,7 @@ module _ {A : Type 0} (p : A → Bool) where
 
 -- the value of the entry at a place
 pub value_at : {K V : Type 0} (entries : List (K × V)) (n : ℕ) (name : K) (value : V) → slice_get entries n ≡ Some (name, value)
-  → slice_get (values_of entries) n ≡ Some value
+    → slice_get (values_of entries) n ≡ Some value
 value_at [] n name value e = cc
 value_at (entry ∷ entries) zero name value e =
     ap (λ o. option_map (λ p. p.1) o) e
@@ -47,16 +47,17 @@ all_from_tests p P says xs h = λ k d lt. says _ (AllPass-from_list_all p xs h k
 
 -- the alternatives of variables are types
 pub variables_known : (parents : List ℕ) (variables : List (List ℕ)) → are_variables parents variables ≡ true
-  → (length variables ≤ 32) × All (All (λ type. type < length parents)) variables
+    → (length variables ≤ 32) × All (All (λ type. type < length parents)) variables
 unfolding are_variables are_alternatives
 variables_known parents variables h =
-    let parts = both_hold (nat_le (length variables) 32) (list_all (are_alternatives parents) variables) h in
-    (leb-true (length variables) 32 parts.0,
+    let parts = both_hold (nat_le (length variables) 32) (list_all (are_alternatives parents) variables) h in (
+      leb-true (length variables) 32 parts.0,
       all_from_tests (are_alternatives parents) (All (λ type. type < length parents))
-        (λ types e.
+          (λ types e.
           all_from_tests (λ type. nat_lt type (length parents)) (λ type. type < length parents) (λ type t. ltb-true type (length parents) t) types
-            (both_hold (nat_le (length types) 32) (list_all (λ type. nat_lt type (length parents)) types) e).1)
-        variables parts.1)
+          (both_hold (nat_le (length types) 32) (list_all (λ type. nat_lt type (length parents)) types) e).1)
+          variables parts.1,
+    )
 
 module _ (task : TaskParts) (params : List (List ℕ)) where
   -- a parameter that fits is one of the action's
@@ -70,14 +71,14 @@ module _ (task : TaskParts) (params : List (List ℕ)) where
       by (Some types) e = slice_get_within params place types e
 
   terms_within : (terms : List Term) (places : List (List ℕ)) → length (map (term_types task params) terms) ≡ length places
-    → list_all (λ p. is_fitting task.parents p.0 p.1) (zip (map (term_types task params) terms) places) ≡ true
-    → All (IsTermWithin (length params)) terms
+      → list_all (λ p. is_fitting task.parents p.0 p.1) (zip (map (term_types task params) terms) places) ≡ true
+      → All (IsTermWithin (length params)) terms
   terms_within [] places e h = λ k d lt. absurd (omega arith)
   terms_within (term ∷ terms) [] e h = absurd (omega (arith, e))
   terms_within (term ∷ terms) (place ∷ places) e h =
       let parts = both_hold (is_fitting task.parents (term_types task params term) place) (list_all (λ p. is_fitting task.parents p.0 p.1) (zip (map (term_types task params) terms) places)) h in
       all_cons (IsTermWithin (length params)) term terms (term_within term place parts.0)
-        (terms_within terms places (let n : suc (length (map (term_types task params) terms)) ≡ suc (length places) = e in omega arith) parts.1)
+      (terms_within terms places (let n : suc (length (map (term_types task params) terms)) ≡ suc (length places) = e in omega arith) parts.1)
 
   pattern_within : (pattern : Pattern) → is_pattern task params pattern ≡ true → IsPatternWithin (length params) pattern
   unfolding is_pattern are_fitting
@@ -102,15 +103,16 @@ action_within task action h =
       few_params = known.0;
       params_known = known.1;
       pre_within = all_from_tests (λ cond. is_pattern task action.params cond.pattern) (λ cond. IsPatternWithin (length action.params) cond.pattern)
-        (λ cond. pattern_within task action.params cond.pattern) action.pre pre.0;
+          (λ cond. pattern_within task action.params cond.pattern) action.pre pre.0;
       add_within = all_from_tests (is_pattern task action.params) (IsPatternWithin (length action.params)) (pattern_within task action.params) action.add effects.0;
-      del_within = all_from_tests (is_pattern task action.params) (IsPatternWithin (length action.params)) (pattern_within task action.params) action.del effects.1
+      del_within = all_from_tests (is_pattern task action.params) (IsPatternWithin (length action.params)) (pattern_within task action.params) action.del effects.1;
     }
 
 -- in a tree of types the test decides the order
 pub is_below_decides : (parents : List ℕ) → IsTypeTree parents → (sub sup : ℕ) → sub < length parents
-  → IsTrue (is_below parents sub sup) ↔ IsBelow parents sub sup
+    → IsTrue (is_below parents sub sup) ↔ IsBelow parents sub sup
 unfolding is_below
-is_below_decides parents tree sub sup lt =
-    (below_from_within parents (length parents) sub sup,
-      within_from_below parents tree.has_object tree.object_on_top (λ i known. tree.parents_known i 0 known) sub sup lt (tree.below_object sub lt))
+is_below_decides parents tree sub sup lt = (
+  below_from_within parents (length parents) sub sup,
+  within_from_below parents tree.has_object tree.object_on_top (λ i known. tree.parents_known i 0 known) sub sup lt (tree.below_object sub lt),
+)

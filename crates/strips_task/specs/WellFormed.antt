@@ -16,14 +16,19 @@ use Rattle.strips_task.specs.Types.{IsTypeTree, is_below}
 -- the limits of a task
 abbrev pub most_types : ℕ
 most_types = 1025
+
 abbrev pub most_objects : ℕ
 most_objects = 65535
+
 abbrev pub most_predicates : ℕ
 most_predicates = 4096
+
 abbrev pub most_actions : ℕ
 most_actions = 4096
+
 abbrev pub most_variables : ℕ
 most_variables = 32
+
 abbrev pub most_alternatives : ℕ
 most_alternatives = 32
 

@@ -4,7 +4,6 @@
 //! [`StepList`] through a [`StepView`]. No step is kept by itself: all words stand in one [`WordList`], and a step is a range of them.
 ghost use Rattle.strips_task.specs.declared.steps.TheConstants.{MOST_STEPS};
 ghost use Rattle.std.specs.Prelude.{◌≡◌, ◌+◌, ◌<◌, ◌≤◌, ◌↔◌, ℕ, List, [], ◌∷◌, ◌++◌, length, slice_get, IsTrue, OnOk, OnErr, IfErr, Some};
-
 ghost use Rattle.pddl_words.specs.Words.{folded};
 ghost use Rattle.strips_task.specs.Steps.{step_of};
 ghost use Rattle.strips_task.specs.OpenPlan.{IsExtension};

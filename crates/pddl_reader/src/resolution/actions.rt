@@ -24,7 +24,11 @@ pub(crate) struct Effects {
 
 /// The condition that a literal of an action stands for.
 #[tactic(auto, using(crate::proofs::DeclarationSteps::condition_steps))]
-fn condition(alloc: Global, predicates: &Predicates, literal: &LiteralSyntax<'_>) -> Result<Cond, ReadFault>
+fn condition(
+    alloc: Global,
+    predicates: &Predicates,
+    literal: &LiteralSyntax<'_>,
+) -> Result<Cond, ReadFault>
     requires { length predicates.now ≤ 4096 }
     ensures { Gives (λ condition. condition) result (condition_of predicates.now (literal_form literal.now)) }
 {
@@ -40,7 +44,11 @@ fn condition(alloc: Global, predicates: &Predicates, literal: &LiteralSyntax<'_>
 
 /// The conditions that literals of an action stand for.
 #[tactic(auto, using(crate::proofs::DeclarationSteps::conditions_steps))]
-fn conditions(alloc: Global, predicates: &Predicates, literals: &[LiteralSyntax<'_>]) -> Result<Seq<Cond>, ReadFault>
+fn conditions(
+    alloc: Global,
+    predicates: &Predicates,
+    literals: &[LiteralSyntax<'_>],
+) -> Result<Seq<Cond>, ReadFault>
     requires { length predicates.now ≤ 4096 }
     ensures { Gives (λ conditions. conditions) result (conditions_of predicates.now (literal_forms literals.now)) }
 {
@@ -66,7 +74,11 @@ fn put_effect(effects: &mut Effects, effect: Cond) -> Result<(), AllocError>
 
 /// The effects that literals of an action stand for.
 #[tactic(auto, using(crate::proofs::ActionMeaning::effects_steps))]
-fn effect(alloc: Global, predicates: &Predicates, literals: &[LiteralSyntax<'_>]) -> Result<Effects, ReadFault>
+fn effect(
+    alloc: Global,
+    predicates: &Predicates,
+    literals: &[LiteralSyntax<'_>],
+) -> Result<Effects, ReadFault>
     requires { length predicates.now ≤ 4096 }
     ensures { Gives (λ effects. effects) result (effects_of predicates.now (literal_forms literals.now)) }
 {
@@ -82,7 +94,9 @@ fn effect(alloc: Global, predicates: &Predicates, literals: &[LiteralSyntax<'_>]
 
 /// The literals of a part or a section, if it is given.
 #[tactic(auto, unfolding(crate::specs::Forms::given_literals))]
-pub(crate) fn given_literals<'s, 'a>(part: &'s Option<Vec<LiteralSyntax<'a>>>) -> &'s [LiteralSyntax<'a>]
+pub(crate) fn given_literals<'s, 'a>(
+    part: &'s Option<Vec<LiteralSyntax<'a>>>,
+) -> &'s [LiteralSyntax<'a>]
     ensures { result.now ≡ given_literals part.now }
 {
     match part {
@@ -93,11 +107,19 @@ pub(crate) fn given_literals<'s, 'a>(part: &'s Option<Vec<LiteralSyntax<'a>>>) -
 
 /// The action that syntax stands for.
 #[tactic(auto, using(crate::proofs::ActionMeaning::action_steps))]
-fn action(alloc: Global, predicates: &Predicates, syntax: &ActionSyntax<'_>) -> Result<Action, ReadFault>
+fn action(
+    alloc: Global,
+    predicates: &Predicates,
+    syntax: &ActionSyntax<'_>,
+) -> Result<Action, ReadFault>
     requires { length predicates.now ≤ 4096 }
     ensures { Gives (λ action. action) result (action_meant predicates.now (action_syntax_form syntax.now)) }
 {
-    let pre = conditions(alloc, predicates, given_literals(&syntax.parts.precondition))?;
+    let pre = conditions(
+        alloc,
+        predicates,
+        given_literals(&syntax.parts.precondition),
+    )?;
     let Effects { add, del } = effect(alloc, predicates, given_literals(&syntax.parts.effect))?;
     Ok(Action {
         params: Seq::new(alloc),

@@ -32,7 +32,7 @@ impl Model for Domain {
     ghost use Rattle.std.specs.Map.{keys_of};
     ghost use Rattle.strips_task.specs.WellFormed.{IsWellFormed};
     ghost use Rattle.std.specs.Map.{keys_of};
-ghost use Rattle.pddl_reader.specs.Domain.{DomainValue, bare_task};
+    ghost use Rattle.pddl_reader.specs.Domain.{DomainValue, bare_task};
 
     ghost Value = { DomainValue };
 
@@ -59,7 +59,11 @@ impl Domain {
 
 /// Declares one more predicate.
 #[tactic(auto, using(crate::proofs::DeclarationSteps::predicate_steps))]
-fn declare_predicate(alloc: Global, table: &mut Predicates, predicate: &PredicateSyntax<'_>) -> Result<(), ReadFault>
+fn declare_predicate(
+    alloc: Global,
+    table: &mut Predicates,
+    predicate: &PredicateSyntax<'_>,
+) -> Result<(), ReadFault>
     requires { length table.old ≤ 4096 }
     ensures within { length table.new ≤ 4096 }
     ensures given { Puts result (with_predicate table.old (predicate_form predicate.now)) table.new }
@@ -85,7 +89,9 @@ fn predicates(alloc: Global, declared: &[PredicateSyntax<'_>]) -> Result<Predica
 
 /// The declared predicates, if the section is given.
 #[tactic(auto, unfolding(crate::specs::Forms::given_predicates))]
-fn given_predicates<'s, 'a>(section: &'s Option<Vec<PredicateSyntax<'a>>>) -> &'s [PredicateSyntax<'a>]
+fn given_predicates<'s, 'a>(
+    section: &'s Option<Vec<PredicateSyntax<'a>>>,
+) -> &'s [PredicateSyntax<'a>]
     ensures { result.now ≡ given_predicates section.now }
 {
     match section {
@@ -124,14 +130,15 @@ struct Tables {
 /// The tables that the sections of a domain stand for.
 #[tactic(auto, using(crate::proofs::DomainMeaning::domain_steps))]
 fn resolve_tables(alloc: Global, syntax: &DomainSyntax<'_>) -> Result<Tables, ReadFault>
-    ensures {
-        Gives (λ tables. domain_value syntax.now.name.text.now tables.predicates tables.actions) result
-            (domain_of (domain_syntax_form syntax.now))
-    }
+    ensures { Gives (λ tables. domain_value syntax.now.name.text.now tables.predicates tables.actions) result
+        (domain_of (domain_syntax_form syntax.now)) }
 {
     let predicates = predicates(alloc, given_predicates(&syntax.sections.predicates))?;
     let actions = actions(alloc, &predicates, syntax.sections.actions.as_slice())?;
-    Ok(Tables { predicates, actions })
+    Ok(Tables {
+        predicates,
+        actions,
+    })
 }
 
 /// The domain of these parts.

@@ -24,7 +24,11 @@ pub(crate) fn name(alloc: Global, word: NameWord<'_>) -> Result<Name, ReadFault>
 
 /// Tests that one more name may be declared in the table.
 #[tactic(auto, using(crate::proofs::TableSteps::may_steps))]
-pub(crate) fn check_new<V>(table: &NameTable<V>, name: &Name, word: NameWord<'_>) -> Result<(), ReadFault>
+pub(crate) fn check_new<V>(
+    table: &NameTable<V>,
+    name: &Name,
+    word: NameWord<'_>,
+) -> Result<(), ReadFault>
     ensures { Allows result (may_declare 4096 table.now name.now) }
 {
     if table.number_of(name.as_bytes()).is_some() {

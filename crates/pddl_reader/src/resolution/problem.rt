@@ -17,7 +17,11 @@ use strips_task::{Atom, CondList, GroundCond, InitialAtoms, Name, Seq, ShortSeq,
 
 /// The ground condition that a literal of a problem stands for.
 #[tactic(auto, using(crate::proofs::ProblemMeaning::condition_steps))]
-fn ground_condition(alloc: Global, predicates: &Predicates, literal: &LiteralSyntax<'_>) -> Result<GroundCond, ReadFault>
+fn ground_condition(
+    alloc: Global,
+    predicates: &Predicates,
+    literal: &LiteralSyntax<'_>,
+) -> Result<GroundCond, ReadFault>
     requires { length predicates.now ≤ 4096 }
     ensures { Gives (λ condition. condition) result (ground_condition_of predicates.now (literal_form literal.now)) }
 {
@@ -33,7 +37,11 @@ fn ground_condition(alloc: Global, predicates: &Predicates, literal: &LiteralSyn
 
 /// The ground conditions that literals of a problem stand for.
 #[tactic(auto, using(crate::proofs::ProblemMeaning::conditions_steps))]
-fn ground_conditions(alloc: Global, predicates: &Predicates, literals: &[LiteralSyntax<'_>]) -> Result<CondList, ReadFault>
+fn ground_conditions(
+    alloc: Global,
+    predicates: &Predicates,
+    literals: &[LiteralSyntax<'_>],
+) -> Result<CondList, ReadFault>
     requires { length predicates.now ≤ 4096 }
     ensures { Gives (λ conditions. conditions) result (ground_conditions_of predicates.now (literal_forms literals.now)) }
 {
@@ -46,7 +54,11 @@ fn ground_conditions(alloc: Global, predicates: &Predicates, literals: &[Literal
 
 /// The initial atoms: those that are not negated. The others are looked up too.
 #[tactic(auto, using(crate::proofs::ProblemMeaning::initial_steps))]
-fn initial(alloc: Global, predicates: &Predicates, literals: &[LiteralSyntax<'_>]) -> Result<InitialAtoms, ReadFault>
+fn initial(
+    alloc: Global,
+    predicates: &Predicates,
+    literals: &[LiteralSyntax<'_>],
+) -> Result<InitialAtoms, ReadFault>
     requires { length predicates.now ≤ 4096 }
     ensures { Gives (λ atoms. atoms) result (initial_of predicates.now (literal_forms literals.now)) }
 {
@@ -100,7 +112,11 @@ fn assemble(domain: Domain, given: Given) -> Task
 
 /// What the syntax of a problem stands for beside a domain.
 #[tactic(auto, using(crate::proofs::ProblemMeaning::problem_steps))]
-fn resolve_given(alloc: Global, domain: &Domain, syntax: &ProblemSyntax<'_>) -> Result<Given, ReadFault>
+fn resolve_given(
+    alloc: Global,
+    domain: &Domain,
+    syntax: &ProblemSyntax<'_>,
+) -> Result<Given, ReadFault>
     ensures meaning { Gives (task_assembled domain.now) result (problem_of domain.now (problem_syntax_form syntax.now)) }
     ensures well_formed { IfOk result (λ given. IsWellFormed (task_assembled domain.now given)) }
 {
@@ -116,7 +132,11 @@ fn resolve_given(alloc: Global, domain: &Domain, syntax: &ProblemSyntax<'_>) -> 
 }
 
 /// The task that a domain and the syntax of a problem stand for. Where it refuses, the domain is dropped.
-pub(crate) fn resolve_problem(alloc: Global, domain: Domain, syntax: &ProblemSyntax<'_>) -> Result<Task, ReadFault>
+pub(crate) fn resolve_problem(
+    alloc: Global,
+    domain: Domain,
+    syntax: &ProblemSyntax<'_>,
+) -> Result<Task, ReadFault>
     ensures { Gives (λ task. task) result (problem_of domain (problem_syntax_form syntax.now)) }
 {
     let given = resolve_given(alloc, &domain, syntax)?;

@@ -61,14 +61,16 @@ fn part<'a>(
     part: ActionPart,
     parts: &mut ActionParts<'a>,
 ) -> Result<(), ReadFault>
-    ensures {
-        ReadsInto result (part_by part (parts_form parts.old)) (here walk.old.cursor) (here walk.new.cursor)
-            (parts_form parts.new)
-    }
+    ensures { ReadsInto result (part_by part (parts_form parts.old)) (here walk.old.cursor) (here walk.new.cursor)
+        (parts_form parts.new) }
 {
     match part {
         ActionPart::Parameters => parts.parameters = Some(parameters(alloc, walk)?),
-        ActionPart::Precondition => parts.precondition = Some(literals(alloc, walk, Scope::Action)?),
+        ActionPart::Precondition => parts.precondition = Some(literals(
+            alloc,
+            walk,
+            Scope::Action,
+        )?),
         ActionPart::Effect => parts.effect = Some(literals(alloc, walk, Scope::Action)?),
     }
     Ok(())

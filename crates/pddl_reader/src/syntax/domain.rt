@@ -18,7 +18,10 @@ use std::alloc::Global;
 
 /// Reads the variables that a predicate declares.
 #[tactic(auto, using(crate::proofs::DomainSteps::predicate_of_steps))]
-fn predicate_variables<'a>(walk: &mut Walk<'a>, name: NameWord<'a>) -> Result<PredicateSyntax<'a>, ReadFault>
+fn predicate_variables<'a>(
+    walk: &mut Walk<'a>,
+    name: NameWord<'a>,
+) -> Result<PredicateSyntax<'a>, ReadFault>
     ensures { ReadsList predicate_form result (predicate_of name.entry.text.now) (here walk.old.cursor) (here walk.new.cursor) }
 {
     match walk.next() {
@@ -49,9 +52,7 @@ fn predicate<'a>(walk: &mut Walk<'a>) -> Result<PredicateSyntax<'a>, ReadFault>
 /// Reads the declarations of predicates.
 #[tactic(auto, using(crate::proofs::DomainSteps::predicates_steps))]
 fn predicates<'a>(alloc: Global, walk: &mut Walk<'a>) -> Result<Vec<PredicateSyntax<'a>>, ReadFault>
-    ensures {
-        ReadsList (λ v. predicate_forms v.items) result (lists_of predicate_in) (here walk.old.cursor) (here walk.new.cursor)
-    }
+    ensures { ReadsList (λ v. predicate_forms v.items) result (lists_of predicate_in) (here walk.old.cursor) (here walk.new.cursor) }
 {
     let mut predicates = Vec::new(alloc);
     'predicates: loop {
@@ -82,10 +83,8 @@ fn section_body<'a>(
     section: DomainSection,
     sections: &mut DomainSections<'a>,
 ) -> Result<(), ReadFault>
-    ensures {
-        ReadsInto result (domain_section_by section (domain_sections_form sections.old)) (here walk.old.cursor)
-            (here walk.new.cursor) (domain_sections_form sections.new)
-    }
+    ensures { ReadsInto result (domain_section_by section (domain_sections_form sections.old)) (here walk.old.cursor)
+        (here walk.new.cursor) (domain_sections_form sections.new) }
 {
     match section {
         DomainSection::Predicates => sections.predicates = Some(predicates(alloc, walk)?),
@@ -96,11 +95,13 @@ fn section_body<'a>(
 
 /// Reads a section behind its `(`.
 #[tactic(auto, using(crate::proofs::DomainSteps::section_steps))]
-fn section<'a>(alloc: Global, walk: &mut Walk<'a>, sections: &mut DomainSections<'a>) -> Result<(), ReadFault>
-    ensures {
-        ReadsInto result (domain_section_in (domain_sections_form sections.old)) (here walk.old.cursor)
-            (here walk.new.cursor) (domain_sections_form sections.new)
-    }
+fn section<'a>(
+    alloc: Global,
+    walk: &mut Walk<'a>,
+    sections: &mut DomainSections<'a>,
+) -> Result<(), ReadFault>
+    ensures { ReadsInto result (domain_section_in (domain_sections_form sections.old)) (here walk.old.cursor)
+        (here walk.new.cursor) (domain_sections_form sections.new) }
 {
     match walk.next() {
         Item::Text(word) => {
@@ -120,10 +121,8 @@ fn section<'a>(alloc: Global, walk: &mut Walk<'a>, sections: &mut DomainSections
 /// Reads the sections of a domain.
 #[tactic(auto, using(crate::proofs::DomainSteps::sections_steps))]
 fn sections<'a>(alloc: Global, walk: &mut Walk<'a>) -> Result<DomainSections<'a>, ReadFault>
-    ensures {
-        ReadsList domain_sections_form result (domain_sections_of no_domain_sections) (here walk.old.cursor)
-            (here walk.new.cursor)
-    }
+    ensures { ReadsList domain_sections_form result (domain_sections_of no_domain_sections) (here walk.old.cursor)
+        (here walk.new.cursor) }
 {
     let mut sections = DomainSections {
         predicates: None,

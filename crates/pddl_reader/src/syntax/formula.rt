@@ -93,10 +93,8 @@ pub(crate) fn formula<'a>(
     scope: Scope,
     literals: &mut Vec<LiteralSyntax<'a>>,
 ) -> Result<(), ReadFault>
-    ensures {
-        ReadsOnto result formula_in (here walk.old.cursor) (here walk.new.cursor)
-            (literal_forms literals.old.items) (literal_forms literals.new.items)
-    }
+    ensures { ReadsOnto result formula_in (here walk.old.cursor) (here walk.new.cursor)
+        (literal_forms literals.old.items) (literal_forms literals.new.items) }
 {
     match walk.next() {
         Item::Close(_) => Ok(()),
@@ -120,10 +118,8 @@ fn conjuncts<'a>(
     scope: Scope,
     literals: &mut Vec<LiteralSyntax<'a>>,
 ) -> Result<(), ReadFault>
-    ensures {
-        ReadsOnto result conjuncts_of (here walk.old.cursor) (here walk.new.cursor)
-            (literal_forms literals.old.items) (literal_forms literals.new.items)
-    }
+    ensures { ReadsOnto result conjuncts_of (here walk.old.cursor) (here walk.new.cursor)
+        (literal_forms literals.old.items) (literal_forms literals.new.items) }
 {
     'conjuncts: loop {
         match walk.next() {

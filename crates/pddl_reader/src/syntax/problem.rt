@@ -33,9 +33,7 @@ fn init_item<'a>(walk: &mut Walk<'a>) -> Result<LiteralSyntax<'a>, ReadFault>
 /// Reads the initial atoms.
 #[tactic(auto, using(crate::proofs::ProblemSteps::init_steps))]
 fn init<'a>(alloc: Global, walk: &mut Walk<'a>) -> Result<Vec<LiteralSyntax<'a>>, ReadFault>
-    ensures {
-        ReadsList (λ v. literal_forms v.items) result (lists_of init_item_in) (here walk.old.cursor) (here walk.new.cursor)
-    }
+    ensures { ReadsList (λ v. literal_forms v.items) result (lists_of init_item_in) (here walk.old.cursor) (here walk.new.cursor) }
 {
     let mut items = Vec::new(alloc);
     'items: loop {
@@ -78,10 +76,8 @@ fn section_body<'a>(
     section: ProblemSection,
     sections: &mut ProblemSections<'a>,
 ) -> Result<(), ReadFault>
-    ensures {
-        ReadsInto result (problem_section_by section (problem_sections_form sections.old)) (here walk.old.cursor)
-            (here walk.new.cursor) (problem_sections_form sections.new)
-    }
+    ensures { ReadsInto result (problem_section_by section (problem_sections_form sections.old)) (here walk.old.cursor)
+        (here walk.new.cursor) (problem_sections_form sections.new) }
 {
     match section {
         ProblemSection::Domain => sections.domain = Some(lone_name(walk)?),
@@ -93,11 +89,13 @@ fn section_body<'a>(
 
 /// Reads a section behind its `(`.
 #[tactic(auto, using(crate::proofs::ProblemSteps::section_steps))]
-fn section<'a>(alloc: Global, walk: &mut Walk<'a>, sections: &mut ProblemSections<'a>) -> Result<(), ReadFault>
-    ensures {
-        ReadsInto result (problem_section_in (problem_sections_form sections.old)) (here walk.old.cursor)
-            (here walk.new.cursor) (problem_sections_form sections.new)
-    }
+fn section<'a>(
+    alloc: Global,
+    walk: &mut Walk<'a>,
+    sections: &mut ProblemSections<'a>,
+) -> Result<(), ReadFault>
+    ensures { ReadsInto result (problem_section_in (problem_sections_form sections.old)) (here walk.old.cursor)
+        (here walk.new.cursor) (problem_sections_form sections.new) }
 {
     match walk.next() {
         Item::Text(word) => {
@@ -116,11 +114,12 @@ fn section<'a>(alloc: Global, walk: &mut Walk<'a>, sections: &mut ProblemSection
 
 /// Reads the sections of a problem, and the place of the `)` behind them.
 #[tactic(auto, using(crate::proofs::ProblemSteps::sections_steps))]
-fn sections<'a>(alloc: Global, walk: &mut Walk<'a>) -> Result<(ProblemSections<'a>, Span), ReadFault>
-    ensures {
-        ReadsList (λ read. problem_sections_form read.0) result (problem_sections_of no_problem_sections)
-            (here walk.old.cursor) (here walk.new.cursor)
-    }
+fn sections<'a>(
+    alloc: Global,
+    walk: &mut Walk<'a>,
+) -> Result<(ProblemSections<'a>, Span), ReadFault>
+    ensures { ReadsList (λ read. problem_sections_form read.0) result (problem_sections_of no_problem_sections)
+        (here walk.old.cursor) (here walk.new.cursor) }
 {
     let mut sections = ProblemSections {
         domain: None,
@@ -138,7 +137,10 @@ fn sections<'a>(alloc: Global, walk: &mut Walk<'a>) -> Result<(ProblemSections<'
 
 /// Reads a problem behind the first `(` of its text.
 #[tactic(auto, using(crate::proofs::ProblemSteps::problem_steps))]
-pub(crate) fn problem<'a>(alloc: Global, walk: &mut Walk<'a>) -> Result<ProblemSyntax<'a>, ReadFault>
+pub(crate) fn problem<'a>(
+    alloc: Global,
+    walk: &mut Walk<'a>,
+) -> Result<ProblemSyntax<'a>, ReadFault>
     ensures { ReadsList problem_syntax_form result problem_in (here walk.old.cursor) (here walk.new.cursor) }
 {
     expect_word(walk, b"define")?;
@@ -162,7 +164,10 @@ pub(crate) fn problem<'a>(alloc: Global, walk: &mut Walk<'a>) -> Result<ProblemS
 
 /// Reads the problem that a text without a text fault holds.
 #[tactic(auto, using(crate::proofs::ProblemSteps::problem_text_steps, crate::proofs::TextSteps::trees_here))]
-pub(crate) fn problem_text<'a>(alloc: Global, text: &'a [u8]) -> Result<ProblemSyntax<'a>, ReadFault>
+pub(crate) fn problem_text<'a>(
+    alloc: Global,
+    text: &'a [u8],
+) -> Result<ProblemSyntax<'a>, ReadFault>
     requires { text_fault text.now ≡ None }
     ensures { Gives problem_syntax_form result (problem_syntax (trees text.now)) }
 {

@@ -5,7 +5,7 @@ use Rattle.pddl_reader.proofs.text.check_text.Given as goal
 abbrev pub invariant-tokens : goal.invariant-tokens
 invariant-tokens l = record {
   so_far : fault_from l.end l.depth l.cursor ≡ text_fault l.text;
-  depth : l.depth ≤ 64
+  depth : l.depth ≤ 64;
 }
 
 abbrev pub decreases-tokens : goal.decreases-tokens

@@ -8,11 +8,11 @@ pub returns-in-None-clause-unknown : goal.returns-in-None-clause-unknown
 returns-in-None-clause-unknown c =
     let lt : c.loop-place.place < length (step_shown c.args.step).args = omega arith in
     sym (unknown_here c.args.task.now (step_shown c.args.step).args _ c.loop-place.place c.arg.result.now lt
-      (sym (get_or_from_slice_get (step_shown c.args.step).args c.loop-place.place c.arg.result.now c.arg.result.now c.arg.ensures)) c.loop-place.invariant (sym c.in-None.ensures.number))
+    (sym (get_or_from_slice_get (step_shown c.args.step).args c.loop-place.place c.arg.result.now c.arg.result.now c.arg.ensures)) c.loop-place.invariant (sym c.in-None.ensures.number))
 
 pub loop-place-preserved : goal.loop-place-preserved
 loop-place-preserved c =
     let lt : c.loop-place.place < length (step_shown c.args.step).args = omega arith in
     bound_more c.args.task.now (step_shown c.args.step).args _ c.loop-place.place c.arg.result.now lt
-      (sym (get_or_from_slice_get (step_shown c.args.step).args c.loop-place.place c.arg.result.now c.arg.result.now c.arg.ensures)) c.loop-place.invariant c.in-Some.object _ (sym c.in-Some.ensures.number) c.in-Some.ensures.within
-      c.in_ok-push-in-Some.ensures.items
+    (sym (get_or_from_slice_get (step_shown c.args.step).args c.loop-place.place c.arg.result.now c.arg.result.now c.arg.ensures)) c.loop-place.invariant c.in-Some.object _ (sym c.in-Some.ensures.number) c.in-Some.ensures.within
+    c.in_ok-push-in-Some.ensures.items

@@ -6,4 +6,4 @@ use Rattle.strips_judge.proofs.arguments.first_ill_typed.Given as goal
 abbrev pub invariant-loop-place : goal.invariant-loop-place
 invariant-loop-place l =
     position_from (is_ill_typed l.task) 1 (zip l.params l.objects)
-      ≡ position_from (is_ill_typed l.task) (l.place + 1) (zip (drop l.place l.params) (drop l.place l.objects))
+    ≡ position_from (is_ill_typed l.task) (l.place + 1) (zip (drop l.place l.params) (drop l.place l.objects))

@@ -1,4 +1,4 @@
-use Rattle.std.proofs.Common.{◌≡◌, sym, ◌∙◌, ap, true, false, Bool}
+use Rattle.std.proofs.Common.{◌≡◌, sym, ◌∙◌, ap}
 use Rattle.indexmap.specs.IndexSet.{insert_key}
 use Rattle.strips_task.specs.Atom.{cond_eq}
 use Rattle.strips_task.specs.declared.atoms.GroundCond.{GroundCond}
@@ -16,7 +16,7 @@ pub loop-cond-preserved : goal.loop-cond-preserved
 loop-cond-preserved c =
     let condition : GroundCond = ground_condition c.args.objects.now c.cond-item.result in
     let grounded : ◌≡◌ {A = GroundCond} (record { positive = c.cond-item.result.positive; atom = c.ground.new.atom }) condition =
-        λ j. record { positive = c.cond-item.result.positive; atom = c.in_ok-ground.ensures j } in
+    λ j. record { positive = c.cond-item.result.positive; atom = c.in_ok-ground.ensures j } in
     let more = mapped_more (ground_condition c.args.objects.now) c.args.conds.now c.loop-cond.cond-index c.cond-item.result c.loop-cond-test.true c.cond-item.is in
     elim c.if-not-holds.branch [
       | then-not-holds+in_ok-note w ↦ w.found-is ∙ w.in_ok-note.ensures ∙ ap (insert_key cond_eq c.loop-cond.found) grounded

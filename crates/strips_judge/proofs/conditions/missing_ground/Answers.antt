@@ -1,4 +1,4 @@
-use Rattle.std.proofs.Common.{sym, ◌∙◌, ap}
+use Rattle.std.proofs.Common.{sym, ◌∙◌}
 use Rattle.strips_judge.specs.Numbered.{state_of}
 use Rattle.strips_judge.proofs.StepLaws.{taken_more, missing-none, missing-more_holds, missing-more_fails}
 use Rattle.strips_judge.proofs.conditions.missing_ground.Goals as goal

@@ -8,6 +8,6 @@ use Rattle.strips_judge.proofs.effects.insert_all.Goals as goal
 pub loop-pattern-preserved : goal.loop-pattern-preserved
 loop-pattern-preserved c =
     with_all-more (state_of c.args.state.now) (state_of c.loop-pattern.state) _ _ _ (ground c.args.objects.now c.pattern-item.result)
-      (mapped_more (ground c.args.objects.now) c.args.patterns.now c.loop-pattern.pattern-index c.pattern-item.result c.loop-pattern-test.true c.pattern-item.is)
-      c.loop-pattern.invariant
-      (c.in_ok-insert.ensures ∙ ap (λ atom. with_all (state_of c.loop-pattern.state) (atom ∷ [])) c.in_ok-ground.ensures)
+    (mapped_more (ground c.args.objects.now) c.args.patterns.now c.loop-pattern.pattern-index c.pattern-item.result c.loop-pattern-test.true c.pattern-item.is)
+    c.loop-pattern.invariant
+    (c.in_ok-insert.ensures ∙ ap (λ atom. with_all (state_of c.loop-pattern.state) (atom ∷ [])) c.in_ok-ground.ensures)

@@ -1,4 +1,4 @@
-use Rattle.std.proofs.Common.{◌≡◌, ◌<◌, ◌≤◌, ℕ, length, ap, sym, ◌∙◌, arith}
+use Rattle.std.proofs.Common.{◌≡◌, ◌<◌, ◌≤◌, length, ap, sym, ◌∙◌, arith}
 use Rattle.strips_task.specs.StepView.{step_shown}
 use Rattle.strips_judge.specs.Numbered.{state_of}
 use Rattle.strips_judge.specs.Step.{missing}
@@ -10,14 +10,14 @@ pub returns-in-Some : goal.returns-in-Some
 returns-in-Some c =
     let lt : c.loop-place.place < length c.args.steps.now = omega arith in
     step_fails c.args.task.now _ (state_of c.loop-place.state) c.args.steps.now c.loop-place.place c.loop-place.invariant (step_shown c.get.result) c.in-Some.why lt c.get.ensures
-      (sym c.in-Some.is ∙ c.in_ok-why.ensures.why)
+    (sym c.in-Some.is ∙ c.in_ok-why.ensures.why)
 
 pub loop-place-preserved : goal.loop-place-preserved
 loop-place-preserved c =
     let lt : c.loop-place.place < length c.args.steps.now = omega arith in
     step_taken c.args.task.now _ (state_of c.loop-place.state) c.args.steps.now c.loop-place.place c.loop-place.invariant (step_shown c.get.result) (state_of c.take_step.new.state) lt c.get.ensures
-      (sym c.in_default.is ∙ c.in_ok-why.ensures.why)
-      (without_value _ c.in_default.is c.in_ok-why.ensures.next)
+    (sym c.in_default.is ∙ c.in_ok-why.ensures.why)
+    (without_value _ c.in_default.is c.in_ok-why.ensures.next)
 
 pub returns : goal.returns
 returns c =
@@ -25,5 +25,5 @@ returns c =
     let all : c.loop-place.place ≡ c.len.result = omega arith in
     let end = steps_end c.args.task.now _ (state_of c.loop-place.state) c.args.steps.now c.loop-place.place c.loop-place.invariant past in
     success_as _ _ c.judge_goal.result
-      (λ answer is. is ∙ ap (λ n. goal_verdict n (missing (state_of c.loop-place.state) c.args.task.now.goal)) (sym all) ∙ sym end)
-      c.judge_goal.ensures
+    (λ answer is. is ∙ ap (λ n. goal_verdict n (missing (state_of c.loop-place.state) c.args.task.now.goal)) (sym all) ∙ sym end)
+    c.judge_goal.ensures

@@ -7,9 +7,9 @@ up-preserved c = record {
   known = omega (arith, c.requires.parents_known c.up.at 0);
   full = length-set c.up.row.items c.up.at _ ∙ c.up.invariant.full;
   marks = λ k lt.
-    mark_goes_on c.args.parents.now c.up.row.items (length c.args.parents.now - (c.up.counter + 1)) (length c.args.parents.now - c.up.counter)
+      mark_goes_on c.args.parents.now c.up.row.items (length c.args.parents.now - (c.up.counter + 1)) (length c.args.parents.now - c.up.counter)
       c.up.at c.from-at.result k (let z : c.up.at < length c.up.row.items = omega arith in z) (omega arith) c.from-at.ensures
-    ∙ c.up.invariant.marks k lt
+      ∙ c.up.invariant.marks k lt;
 }
 
 pub returns : goal.returns
@@ -17,7 +17,7 @@ returns c =
     rw c.from_vec.ensures (record {
       full = length-set c.up.row.items c.up.at _ ∙ c.up.invariant.full;
       marks = λ k lt.
-        mark_ends c.args.parents.now c.up.row.items (length c.args.parents.now - c.up.counter) c.up.at k
+          mark_ends c.args.parents.now c.up.row.items (length c.args.parents.now - c.up.counter) c.up.at k
           (let z : c.up.at < length c.up.row.items = omega arith in z) (omega arith)
-        ∙ c.up.invariant.marks k lt
+          ∙ c.up.invariant.marks k lt;
     })

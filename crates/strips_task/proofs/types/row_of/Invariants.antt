@@ -8,5 +8,5 @@ invariant-up l = record {
   known : l.at < length l.parents;
   full : length l.row.items ≡ length l.parents;
   marks : (k : ℕ) → k < length l.parents
-    → (get_or l.row.items k false || is_within l.parents (length l.parents - l.counter) l.at k) ≡ is_within l.parents (length l.parents) l.number k
+      → (get_or l.row.items k false || is_within l.parents (length l.parents - l.counter) l.at k) ≡ is_within l.parents (length l.parents) l.number k;
 }

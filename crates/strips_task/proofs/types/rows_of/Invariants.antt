@@ -6,5 +6,5 @@ use Rattle.strips_task.proofs.types.rows_of.Given as goal
 abbrev pub invariant-loop-number : goal.invariant-loop-number
 invariant-loop-number l = record {
   full : length l.rows.items ≡ l.number;
-  rows : AreRows l.parents l.rows.items
+  rows : AreRows l.parents l.rows.items;
 }

@@ -6,5 +6,5 @@ use Rattle.strips_task.proofs.types.stands_above.Given as goal
 abbrev pub invariant-up : goal.invariant-up
 invariant-up l = record {
   known : l.at < length l.parents;
-  same : is_within l.parents (length l.parents) l.sub l.sup ≡ is_within l.parents (length l.parents - l.counter) l.at l.sup
+  same : is_within l.parents (length l.parents) l.sub l.sup ≡ is_within l.parents (length l.parents - l.counter) l.at l.sup;
 }

@@ -6,5 +6,5 @@ use Rattle.strips_task.proofs.words.append_folded.Given as goal
 abbrev pub invariant-loop-byte : goal.invariant-loop-byte
 invariant-loop-byte l = record {
   items : l.bytes.items ≡ l.fn.bytes.items ++ map to_ascii_lowercase (take l.byte-index l.word);
-  room : vec_len l.bytes + (length l.word - l.byte-index) ≤ vec_capacity l.bytes
+  room : vec_len l.bytes + (length l.word - l.byte-index) ≤ vec_capacity l.bytes;
 }

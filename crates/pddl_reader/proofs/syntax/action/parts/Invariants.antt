@@ -8,7 +8,7 @@ use Rattle.pddl_reader.proofs.syntax.action.parts.Given as goal
 abbrev pub invariant-parts : goal.invariant-parts
 invariant-parts l = record {
   so_far : parts_of (parts_form l.parts) (here l.walk.cursor).top ≡ parts_of no_parts (here l.fn.walk.cursor).top;
-  below : (here l.walk.cursor).below ≡ (here l.fn.walk.cursor).below
+  below : (here l.walk.cursor).below ≡ (here l.fn.walk.cursor).below;
 }
 
 abbrev pub decreases-parts : goal.decreases-parts

@@ -10,7 +10,7 @@ abbrev pub invariant-predicates : goal.invariant-predicates
 invariant-predicates l = record {
   so_far : with_front (predicate_forms l.predicates.items) (lists_of predicate_in (here l.walk.cursor).top)
       ≡ lists_of predicate_in (here l.fn.walk.cursor).top;
-  below : (here l.walk.cursor).below ≡ (here l.fn.walk.cursor).below
+  below : (here l.walk.cursor).below ≡ (here l.fn.walk.cursor).below;
 }
 
 abbrev pub decreases-predicates : goal.decreases-predicates

@@ -9,7 +9,7 @@ abbrev pub invariant-sections : goal.invariant-sections
 invariant-sections l = record {
   so_far : domain_sections_of (domain_sections_form l.sections) (here l.walk.cursor).top
       ≡ domain_sections_of no_domain_sections (here l.fn.walk.cursor).top;
-  below : (here l.walk.cursor).below ≡ (here l.fn.walk.cursor).below
+  below : (here l.walk.cursor).below ≡ (here l.fn.walk.cursor).below;
 }
 
 abbrev pub decreases-sections : goal.decreases-sections

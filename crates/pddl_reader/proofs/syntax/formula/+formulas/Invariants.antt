@@ -17,7 +17,7 @@ invariant-conjuncts-conjuncts l = record {
   so_far : with_front (literal_forms l.literals.items) (conjuncts_of (here l.walk.cursor).top)
       ≡ with_front (literal_forms l.fn.literals.items) (conjuncts_of (here l.fn.walk.cursor).top);
   below : (here l.walk.cursor).below ≡ (here l.fn.walk.cursor).below;
-  smaller : size (here l.walk.cursor).top ≤ size (here l.fn.walk.cursor).top
+  smaller : size (here l.walk.cursor).top ≤ size (here l.fn.walk.cursor).top;
 }
 
 abbrev pub decreases-conjuncts-conjuncts : goal.decreases-conjuncts-conjuncts

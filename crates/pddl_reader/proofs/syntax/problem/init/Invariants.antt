@@ -10,7 +10,7 @@ abbrev pub invariant-items : goal.invariant-items
 invariant-items l = record {
   so_far : with_front (literal_forms l.items.items) (lists_of init_item_in (here l.walk.cursor).top)
       ≡ lists_of init_item_in (here l.fn.walk.cursor).top;
-  below : (here l.walk.cursor).below ≡ (here l.fn.walk.cursor).below
+  below : (here l.walk.cursor).below ≡ (here l.fn.walk.cursor).below;
 }
 
 abbrev pub decreases-items : goal.decreases-items

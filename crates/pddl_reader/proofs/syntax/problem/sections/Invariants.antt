@@ -9,7 +9,7 @@ abbrev pub invariant-sections : goal.invariant-sections
 invariant-sections l = record {
   so_far : problem_sections_of (problem_sections_form l.sections) (here l.walk.cursor).top
       ≡ problem_sections_of no_problem_sections (here l.fn.walk.cursor).top;
-  below : (here l.walk.cursor).below ≡ (here l.fn.walk.cursor).below
+  below : (here l.walk.cursor).below ≡ (here l.fn.walk.cursor).below;
 }
 
 abbrev pub decreases-sections : goal.decreases-sections

@@ -1,4 +1,4 @@
-use Rattle.std.proofs.Common.{arith, refl, ◌≤◌, ◌/◌, ◌+◌, vec_len}
+use Rattle.std.proofs.Common.{arith, refl, ◌≤◌, vec_len}
 use Rattle.strips_judge.proofs.RowLaws.{row_has-ones}
 use Rattle.strips_judge.proofs.row.Row.with_first.Goals as goal
 

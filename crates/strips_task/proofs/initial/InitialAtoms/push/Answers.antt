@@ -21,19 +21,20 @@ at_number c =
 pub invariant_of-self-2 : goal.invariant_of-self-2
 invariant_of-self-2 c =
     let within = all_within-insert atom_eq c.self.inside.distinct.keys c.self.inside.numbers.items c.args.atom c.insert_full.new.self.keys
-        c.in_ok-number.number c.self.invariant.0 c.in_ok-number.ensures.keys c.in_ok-number.ensures.within in
+    c.in_ok-number.number c.self.invariant.0 c.in_ok-number.ensures.keys c.in_ok-number.ensures.within in
     let shown = shown-insert atom_eq c.self.inside.distinct.keys c.self.inside.numbers.items c.args.atom c.insert_full.new.self.keys
-        c.in_ok-number.number c.self.invariant.0 c.in_ok-number.ensures.keys (at_number c) in
-    rw (numbers c)
-      (within,
-        c.in_ok-number.ensures.keys
-        ∙ ap (λ ks. insert_key atom_eq ks c.args.atom) c.self.invariant.1
-        ∙ sym (first_places-push atom_equiv (filter_map (slice_get c.self.inside.distinct.keys) c.self.inside.numbers.items) c.args.atom)
-        ∙ ap (first_places atom_eq) (sym shown))
+    c.in_ok-number.number c.self.invariant.0 c.in_ok-number.ensures.keys (at_number c) in
+    rw (numbers c) (
+      within,
+      c.in_ok-number.ensures.keys
+          ∙ ap (λ ks. insert_key atom_eq ks c.args.atom) c.self.invariant.1
+          ∙ sym (first_places-push atom_equiv (filter_map (slice_get c.self.inside.distinct.keys) c.self.inside.numbers.items) c.args.atom)
+          ∙ ap (first_places atom_eq) (sym shown),
+    )
 
 pub returns-clause-ok : goal.returns-clause-ok
 returns-clause-ok c =
     rw (numbers c)
-      (shown-insert atom_eq c.self.inside.distinct.keys c.self.inside.numbers.items c.args.atom c.insert_full.new.self.keys
-        c.in_ok-number.number c.self.invariant.0 c.in_ok-number.ensures.keys (at_number c)
-      ∙ ap (λ l. l ++ c.args.atom ∷ []) c.self.view_is)
+    (shown-insert atom_eq c.self.inside.distinct.keys c.self.inside.numbers.items c.args.atom c.insert_full.new.self.keys
+    c.in_ok-number.number c.self.invariant.0 c.in_ok-number.ensures.keys (at_number c)
+    ∙ ap (λ l. l ++ c.args.atom ∷ []) c.self.view_is)

@@ -15,22 +15,28 @@ after : (c : goal.After-push_reserved) → c.push_reserved.new.self.items ≡ c.
 after c = c.push_reserved.ensures.items ∙ ap (λ l. l ++ record { first = c.len-first.result; end = c.len-end.result } ∷ []) c.reserve.ensures.items
 
 pub invariant_of-self-2 : goal.invariant_of-self-2
-invariant_of-self-2 c =
-    (ranges_more c.self.inside.words c.push_words.new.words c.self.inside.ranges.items c.push_reserved.new.self.items
-        (c.args.step.now.action ∷ c.args.step.now.args) c.len-first.result c.len-end.result c.self.invariant.0 c.in_ok-push_words.ensures.ok
-        (omega arith) (after c) c.len-first.ensures c.len-end.ensures,
-      omega (arith, ap length (after c), length-append c.self.inside.ranges.items (record { first = c.len-first.result; end = c.len-end.result } ∷ []),
-        ap length c.self.view_is, length-map c.self.inside.ranges.items (step_at c.self.inside.words)))
+invariant_of-self-2 c = (
+  ranges_more c.self.inside.words c.push_words.new.words c.self.inside.ranges.items c.push_reserved.new.self.items
+      (c.args.step.now.action ∷ c.args.step.now.args) c.len-first.result c.len-end.result c.self.invariant.0 c.in_ok-push_words.ensures.ok
+      (omega arith) (after c) c.len-first.ensures c.len-end.ensures,
+  omega (
+    arith,
+    ap length (after c),
+    length-append c.self.inside.ranges.items (record { first = c.len-first.result; end = c.len-end.result } ∷ []),
+    ap length c.self.view_is,
+    length-map c.self.inside.ranges.items (step_at c.self.inside.words),
+  ),
+)
 
 pub returns-in_err-push_words-clause-err : goal.returns-in_err-push_words-clause-err
 returns-in_err-push_words-clause-err c =
     on_err c.from_residual-in_err-push_words.result
-      (ap (map (step_at c.push_words.new.words)) c.reserve.ensures.items
-      ∙ steps_extended c.self.inside.words c.push_words.new.words c.self.inside.ranges.items c.self.invariant.0 c.in_err-push_words.ensures.kept
-      ∙ c.self.view_is)
+    (ap (map (step_at c.push_words.new.words)) c.reserve.ensures.items
+    ∙ steps_extended c.self.inside.words c.push_words.new.words c.self.inside.ranges.items c.self.invariant.0 c.in_err-push_words.ensures.kept
+    ∙ c.self.view_is)
 
 pub returns-clause-ok : goal.returns-clause-ok
 returns-clause-ok c =
     steps_more c.self.inside.words c.push_words.new.words c.self.inside.ranges.items c.push_reserved.new.self.items c.args.step.now
-      c.len-first.result c.len-end.result c.self.invariant.0 c.in_ok-push_words.ensures.ok (after c) c.len-first.ensures c.len-end.ensures
+    c.len-first.result c.len-end.result c.self.invariant.0 c.in_ok-push_words.ensures.ok (after c) c.len-first.ensures c.len-end.ensures
     ∙ ap (λ l. l ++ c.args.step.now ∷ []) c.self.view_is

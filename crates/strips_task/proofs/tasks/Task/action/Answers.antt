@@ -11,5 +11,5 @@ returns-clause-within c =
     let parts = c.self.inside.parts in
     let value = value_at parts.actions c.from.result c.get.result.0.now c.get.result.1.now c.get.ensures in
     subst (λ (task : TaskParts). IsActionWithin (length task.parents) c.get.result.1.now) c.self.view_is
-      (action_within parts c.get.result.1.now
-        (passes_at (is_action parts) (values_of parts.actions) c.from.result c.get.result.1.now c.self.invariant.actions_fit value))
+    (action_within parts c.get.result.1.now
+    (passes_at (is_action parts) (values_of parts.actions) c.from.result c.get.result.1.now c.self.invariant.actions_fit value))

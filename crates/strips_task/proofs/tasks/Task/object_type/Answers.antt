@@ -10,5 +10,5 @@ returns-clause-known c =
     let parts = c.self.inside.parts in
     let value = value_at parts.objects c.from.result c.get.result.0.now c.get.result.1.now c.get.ensures in
     subst (λ (task : TaskParts). c.get.result.1.now < length task.parents) c.self.view_is
-      (ltb-true c.get.result.1.now (length parts.parents)
-        (passes_at (λ type. nat_lt type (length parts.parents)) (values_of parts.objects) c.from.result c.get.result.1.now c.self.invariant.objects_typed value))
+    (ltb-true c.get.result.1.now (length parts.parents)
+    (passes_at (λ type. nat_lt type (length parts.parents)) (values_of parts.objects) c.from.result c.get.result.1.now c.self.invariant.objects_typed value))

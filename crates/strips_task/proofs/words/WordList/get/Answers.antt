@@ -24,7 +24,7 @@ part_of-requires c =
     let bounds = end_within 0 c.self.inside.ends.items (length c.self.inside.bytes.items) c.args.place c.self.invariant (within c) in
     record {
       in_order = omega (arith, start_is c, end_is c, bounds.0);
-      within = omega (arith, end_is c, bounds.1, ap length c.as_slice-2.ensures.value)
+      within = omega (arith, end_is c, bounds.1, ap length c.as_slice-2.ensures.value);
     }
 
 pub returns : goal.returns

@@ -15,13 +15,13 @@ ends c = c.push_reserved.ensures.items ∙ (λ j. c.reserve-2.ensures.items j ++
 pub invariant_of-self-2 : goal.invariant_of-self-2
 invariant_of-self-2 c =
     let total : length c.self.inside.bytes.items ≤ length c.append_folded.new.bytes.items =
-        omega (arith, ap length (bytes c), length-append c.self.inside.bytes.items (folded c.args.word.now)) in
+    omega (arith, ap length (bytes c), length-append c.self.inside.bytes.items (folded c.args.word.now)) in
     rw (ends c)
-      (ends_push 0 c.self.inside.ends.items (length c.self.inside.bytes.items) (length c.append_folded.new.bytes.items) c.self.invariant total)
+    (ends_push 0 c.self.inside.ends.items (length c.self.inside.bytes.items) (length c.append_folded.new.bytes.items) c.self.invariant total)
 
 pub returns-clause-ok : goal.returns-clause-ok
 returns-clause-ok c =
     (λ j. parts_from (bytes c j) 0 (ends c j))
     ∙ parts_push c.self.inside.bytes.items (folded c.args.word.now) 0 c.self.inside.ends.items (length c.append_folded.new.bytes.items)
-        c.self.invariant (ap length (bytes c) ∙ length-append c.self.inside.bytes.items (folded c.args.word.now))
+    c.self.invariant (ap length (bytes c) ∙ length-append c.self.inside.bytes.items (folded c.args.word.now))
     ∙ ap (λ l. l ++ folded c.args.word.now ∷ []) c.self.view_is

@@ -7,5 +7,5 @@ pub returns : goal.returns
 returns c = record {
   table = ap (λ (d : DomainValue). d.predicates) c.self.view_is;
   few = c.self.invariant.few_predicates;
-  well_formed = let P : DomainValue → Type 0 = λ d. IsWellFormed (bare_task d) in subst P c.self.view_is c.self.invariant
+  well_formed = let P : DomainValue → Type 0 = λ d. IsWellFormed (bare_task d) in subst P c.self.view_is c.self.invariant;
 }

@@ -1,0 +1,129 @@
+-- The report of a run: the text that stands for a task, the planners, their plans and the verdicts (this validator's choice).
+
+use Rattle.std.specs.Prelude.{ℕ, ◌+◌, ◌-◌, Bool, List, [], ◌∷◌, ◌++◌, Option, None, Some, codes, decimal, map, length, slice_get, unwrap_or, if◌then◌else◌, min}
+use Rattle.std.specs.List.{flat_map, filter_map, enumerate_from}
+use Rattle.std.specs.Option.{option_map}
+use Rattle.std.specs.Map.{keys_of}
+use Rattle.strips_task.specs.declared.atoms.Atom.{Atom}
+use Rattle.strips_task.specs.declared.atoms.GroundCond.{GroundCond}
+use Rattle.strips_task.specs.declared.plans.Plan.{Plan}
+use Rattle.strips_task.specs.declared.plans.Plan.TheVariants.{Steps, Unreadable}
+use Rattle.strips_task.specs.declared.steps.StepText.{StepText}
+use Rattle.strips_task.specs.declared.tasks.TaskParts.{TaskParts}
+use Rattle.strips_judge.specs.declared.verdict.Verdict.{Verdict}
+use Rattle.strips_judge.specs.declared.verdict.Verdict.TheVariants.{Valid, Fails, Goal, Unreadable as Unread}
+use Rattle.strips_judge.specs.declared.verdict.Why.{Why}
+use Rattle.strips_judge.specs.declared.verdict.Why.TheVariants.{UnknownAction, WrongCount, UnknownObject, WrongType, Missing}
+
+-- words, each behind a space
+abbrev pub spaced : List (List ℕ) → List ℕ
+spaced words = flat_map (λ word. codes " " ++ word) words
+
+-- the name with a number
+abbrev pub name_at : List (List ℕ) → ℕ → List ℕ
+name_at names number = unwrap_or (slice_get names number) []
+
+-- an atom, as `(p a b)`
+abbrev pub atom_text : TaskParts → Atom → List ℕ
+atom_text task atom =
+    codes "(" ++ name_at (keys_of task.preds) atom.pred ++ spaced (map (name_at (keys_of task.objects)) atom.args) ++ codes ")"
+
+-- a condition: its atom, or `(not (p a b))`
+abbrev pub condition_text : TaskParts → GroundCond → List ℕ
+condition_text task cond = if cond.positive then atom_text task cond.atom else codes "(not " ++ atom_text task cond.atom ++ codes ")"
+
+-- conditions, each behind a space
+abbrev pub conditions_text : TaskParts → List GroundCond → List ℕ
+conditions_text task conds = spaced (map (condition_text task) conds)
+
+-- a step, as `(act a b)`
+abbrev pub step_text : StepText → List ℕ
+step_text step = codes "(" ++ step.action ++ spaced step.args ++ codes ")"
+
+-- what is wrong with a step; arguments count from 1
+abbrev pub why_text : TaskParts → StepText → Why → List ℕ
+why_text task step UnknownAction = codes "unknown action"
+why_text task step WrongCount = codes "wrong number of arguments"
+why_text task step (UnknownObject arg) = codes "unknown object " ++ name_at step.args (arg - 1)
+why_text task step (WrongType arg) = name_at step.args (arg - 1) ++ codes " has the wrong type"
+why_text task step (Missing conds) = codes "missing" ++ conditions_text task conds
+
+-- the steps of a plan
+abbrev pub steps_of : Plan → List StepText
+steps_of (Steps steps) = steps
+steps_of (Unreadable line) = []
+
+-- a failing step and what is wrong with it
+abbrev pub failure_text : TaskParts → Option StepText → Why → List ℕ
+failure_text task None why = []
+failure_text task (Some step) why = codes " " ++ step_text step ++ codes ": " ++ why_text task step why
+
+-- a verdict of a plan; steps count from 1
+abbrev pub verdict_text : TaskParts → Plan → Verdict → List ℕ
+verdict_text task plan (Valid steps) = codes "valid " ++ decimal steps
+verdict_text task plan (Fails number why) =
+    codes "fails at " ++ decimal number ++ failure_text task (slice_get (steps_of plan) (number - 1)) why
+verdict_text task plan (Goal conds) = codes "goal missing" ++ conditions_text task conds
+verdict_text task plan (Unread line) = codes "unreadable line " ++ decimal line
+
+-- a plan with its verdict
+pub record Judged : Type 0 where
+  pub plan : Plan
+  pub verdict : Verdict
+
+-- the line of a planner's plan; plans count from 1
+abbrev pub plan_line : TaskParts → List ℕ → ℕ → Judged → List ℕ
+plan_line task name number judged =
+    name ++ codes " " ++ decimal number ++ codes " " ++ verdict_text task judged.plan judged.verdict ++ codes "\n"
+
+-- the number of steps, where the verdict is that the plan is valid
+abbrev pub steps_if_valid : Verdict → Option ℕ
+steps_if_valid (Valid steps) = Some steps
+steps_if_valid (Fails number why) = None
+steps_if_valid (Goal conds) = None
+steps_if_valid (Unread line) = None
+
+-- the numbers of steps of the valid plans
+abbrev pub valid_steps : List Judged → List ℕ
+valid_steps plans = filter_map (λ judged. steps_if_valid judged.verdict) plans
+
+-- the least number of a list, if there is one
+abbrev pub least : List ℕ → Option ℕ
+least [] = None
+least (n ∷ ns) = Some (unwrap_or (option_map (min n) (least ns)) n)
+
+-- a number of steps, or `-` where there is none
+abbrev pub best_text : Option ℕ → List ℕ
+best_text None = codes "-"
+best_text (Some steps) = decimal steps
+
+-- a planner's last line, of these numbers of plans and of valid plans, and the least number of steps of a valid one
+abbrev pub summary_text : List ℕ → ℕ → ℕ → Option ℕ → List ℕ
+summary_text name plans valid best =
+    name ++ codes " plans " ++ decimal plans ++ codes " valid " ++ decimal valid ++ codes " best " ++ best_text best ++ codes "\n"
+
+-- the last line of a planner with these plans
+abbrev pub summary_line : List ℕ → List Judged → List ℕ
+summary_line name plans = summary_text name (length plans) (length (valid_steps plans)) (least (valid_steps plans))
+
+-- a planner's name with its plans and verdicts
+pub record Planner : Type 0 where
+  pub name : List ℕ
+  pub plans : List Judged
+
+-- the lines of a planner
+abbrev pub planner_lines : TaskParts → Planner → List ℕ
+planner_lines task planner =
+    flat_map (λ e. plan_line task planner.name e.0 e.1) (enumerate_from 1 planner.plans) ++ summary_line planner.name planner.plans
+
+-- the first line
+abbrev pub header_line : TaskParts → List ℕ
+header_line task = codes "domain " ++ task.domain ++ codes " problem " ++ task.problem ++ codes "\n"
+
+-- the report
+abbrev pub report : TaskParts → List Planner → List ℕ
+report task planners = header_line task ++ flat_map (planner_lines task) planners
+
+-- a planner with one plan
+abbrev pub lone_plan : List ℕ → Plan → Verdict → Planner
+lone_plan name plan verdict = record { name = name; plans = record { plan = plan; verdict = verdict } ∷ [] }

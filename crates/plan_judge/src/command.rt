@@ -1,0 +1,135 @@
+//! The command line.
+//!
+//! [`parse`] turns the words of the command line into a [`Request`]. The words are read by `clap`, whose texts carry no promise here.
+
+use clap::error::ErrorKind;
+use clap::{Arg, ArgAction, Command, Error, value_parser};
+use std::alloc::{AllocError, Global};
+
+const ABOUT: &str =
+    "Judges the plans of classical planners: says of each whether it is valid, or which step fails first and what is missing.";
+
+const AFTER_HELP: &str =
+    "Exit status: 0 a report was written, or help; 1 an input was refused; 2 the command line was refused; \
+3 no memory; 4 the report could not be written.";
+
+const JUDGE_ABOUT: &str =
+    "Judges the plan of a file for a domain and a problem in PDDL, and writes a report.";
+
+const JUDGE_AFTER_HELP: &str = "\
+The report, on standard output:
+  domain X problem Y                         the folded names
+  FILE K valid N                             plan K is valid and has N steps
+  FILE K fails at S (act args): WHY          step S is the first that is not applicable
+  FILE K goal missing (p a) (not (q))        every step is applicable, but the goal does not hold
+  FILE K unreadable line L                   the text is no plan
+  FILE plans N valid M best B                B is the least number of steps of a valid plan, or -
+
+Exit status:
+  0  the report was written, whatever the verdicts
+  1  a file could not be read, is too large, or holds no domain or problem that this judge reads
+  2  the command line was refused
+  3  memory ran out
+  4  the report could not be written
+
+Example:
+  plan_judge judge --domain domain.pddl --problem problem.pddl plan.txt";
+
+/// What a command line asks for.
+#[derive(Debug, Drop)]
+pub(crate) enum Request<'a> {
+    /// Judge the plans of a file.
+    Judge(JudgeRequest<'a>),
+    /// Show a text, as help.
+    Show(String),
+    /// The command line is refused, with this text.
+    Refused(String),
+}
+
+/// The files of a run.
+#[derive(Clone, Copy, Debug)]
+pub(crate) struct JudgeRequest<'a> {
+    pub(crate) domain: &'a str,
+    pub(crate) problem: &'a str,
+    pub(crate) plans: &'a str,
+}
+
+/// What the words of a command line ask for; the first is the program's name.
+pub(crate) fn parse<'a>(alloc: Global, words: &'a [String]) -> Result<Request<'a>, AllocError> {
+    match program(alloc)?.try_get_matches_from(words) {
+        Ok(matches) => {
+            if let Some(judge) = matches.subcommand_matches("judge")
+                && let Some(domain) = judge.get_str("domain")
+                && let Some(problem) = judge.get_str("problem")
+                && let Some(plans) = judge.get_str("plans")
+            {
+                return Ok(Request::Judge(JudgeRequest {
+                    domain,
+                    problem,
+                    plans,
+                }));
+            }
+            let text = String::from_str(alloc, "a command is missing; try --help\n")?;
+            Ok(Request::Refused(text))
+        }
+        Err(error) => refusal(alloc, error),
+    }
+}
+
+/// What a command line asks for that names no run: help, or nothing that there is.
+fn refusal<'a>(alloc: Global, error: Error) -> Result<Request<'a>, AllocError> {
+    if error.kind() == ErrorKind::OutOfMemory {
+        return Err(AllocError);
+    }
+    let text = format!(in alloc; "{error}")?;
+    if error.use_stderr() {
+        Ok(Request::Refused(text))
+    } else {
+        Ok(Request::Show(text))
+    }
+}
+
+/// The program's command line.
+fn program<'a>(alloc: Global) -> Result<Command<'a>, AllocError> {
+    Command::new(alloc, "plan_judge")
+        .version("0.1.0")
+        .about(ABOUT)
+        .after_help(AFTER_HELP)
+        .subcommand_required(true)
+        .arg_required_else_help(true)
+        .subcommand(judge_command(alloc)?)
+}
+
+/// The command `judge`.
+fn judge_command<'a>(alloc: Global) -> Result<Command<'a>, AllocError> {
+    let domain = Arg::new(alloc, "domain")
+        .long("domain")
+        .value_name("DOMAIN")
+        .help("The domain, in PDDL")
+        .required(true)
+        .action(ArgAction::Set);
+    let problem = Arg::new(alloc, "problem")
+        .long("problem")
+        .value_name("PROBLEM")
+        .help("The problem, in PDDL")
+        .required(true)
+        .action(ArgAction::Set);
+    let workers = Arg::new(alloc, "workers")
+        .long("workers")
+        .value_name("N")
+        .help("How many threads may judge, 1 to 32 (one does, for now)")
+        .value_parser(value_parser!(u8).range(1..=32))
+        .default_value("4");
+    let plans = Arg::new(alloc, "plans")
+        .value_name("FILE")
+        .help("The planner's file, with one plan")
+        .required(true)
+        .action(ArgAction::Set);
+    Command::new(alloc, "judge")
+        .about(JUDGE_ABOUT)
+        .after_help(JUDGE_AFTER_HELP)
+        .arg(domain)?
+        .arg(problem)?
+        .arg(workers)?
+        .arg(plans)
+}

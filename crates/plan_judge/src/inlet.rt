@@ -1,0 +1,132 @@
+//! Where texts come from: files by name, read whole.
+//!
+//! [`Sources`] gives the text of a file; [`Files`] does so for the real ones. A file is read through an [`Inlet`], at most one byte past
+//! the limit, so that a run can say that it is too large, and a pipe is read like any file.
+ghost use Rattle.std.specs.Prelude.{◌≡◌, ◌+◌, ◌≤◌, ◌||◌, Bool, true, false, length, IfOk, IfErr, OnOk};
+ghost use Rattle.plan_judge.specs.Inlet.{get_fails};
+ghost use Rattle.plan_judge.specs.declared.inlet.InFault.TheVariants.{Unreadable, OutOfMemory};
+ghost use Rattle.plan_judge.specs.declared.inlet.TheConstants.{FILE_LIMIT};
+
+use crate::outlet::Failed;
+use std::alloc::Global;
+use std::fs;
+use std::io::Read;
+
+/// The greatest number of bytes of a file that a run takes.
+pub const FILE_LIMIT: usize = 16_777_216;
+
+/// How many bytes are asked for at a time.
+const PIECE: usize = 65_536;
+
+/// Why a text could not be had.
+#[derive(Clone, Copy, Debug, PartialEq, Eq)]
+pub enum InFault {
+    /// The file is not there, or reading it failed.
+    Unreadable,
+    /// Memory ran out.
+    OutOfMemory,
+}
+
+/// What gives the texts that a command line names.
+pub trait Sources {
+    /// The text with a name, or its first 16,777,217 bytes where there are more.
+    fn text(&self, name: &str) -> Result<Vec<u8>, InFault>;
+}
+
+/// What gives bytes in order, some at a time.
+pub trait Inlet {
+    // Whether a get has failed.
+    ghost failed: { Self → Bool };
+
+    /// Puts bytes into the front of a buffer, and answers how many. None in a buffer that is not empty is the end, and no failure.
+    fn get(&mut self, buffer: &mut [u8]) -> Result<usize, Failed>
+        ensures bound { IfOk result (λ count. count ≤ length buffer.new) }
+        ensures failure { failed self.new ≡ (failed self.old || get_fails result) };
+
+    /// Whether a get has failed.
+    fn has_failed(&self) -> bool
+        ensures { result ≡ failed self.now };
+}
+
+/// A reader of the standard library as an inlet. Any error of the reader is [`Failed`], an interrupted read too.
+#[derive(Debug, Drop)]
+pub struct Feed<R> {
+    reader: R,
+    failed: bool,
+}
+
+impl<R: Read> Feed<R> {
+    /// An inlet from which nothing was got yet.
+    pub fn new(reader: R) -> Self
+        ensures { result ≡ record { reader = reader; failed = false } }
+    {
+        Feed {
+            reader,
+            failed: false,
+        }
+    }
+}
+
+impl<R: Read> Inlet for Feed<R> {
+    ghost failed = { λ s. s.failed };
+
+    fn get(&mut self, buffer: &mut [u8]) -> Result<usize, Failed> {
+        match self.reader.read(buffer) {
+            Ok(count) => Ok(count),
+            Err(_) => {
+                self.failed = true;
+                Err(Failed)
+            }
+        }
+    }
+
+    fn has_failed(&self) -> bool {
+        self.failed
+    }
+}
+
+/// The bytes of an inlet up to its end, or the first 16,777,217 where there are more.
+pub fn read_file<I: Inlet>(alloc: Global, inlet: &mut I) -> Result<Vec<u8>, InFault>
+    requires { I.failed inlet.old ≡ false }
+    ensures limit { IfOk result (λ bytes. length bytes.items ≤ FILE_LIMIT + 1) }
+    ensures sound { OnOk result (I.failed inlet.new ≡ false) }
+    ensures failure { result ≡ Err InFault.Unreadable → I.failed inlet.new ≡ true }
+{
+    let mut bytes = Vec::new(alloc);
+    let mut piece = [0u8; PIECE];
+    'pieces: while bytes.len() <= FILE_LIMIT {
+        let room = (FILE_LIMIT + 1 - bytes.len()).min(PIECE);
+        let Ok(count) = inlet.get(&mut piece[..room]) else {
+            return Err(InFault::Unreadable);
+        };
+        if count == 0 {
+            break 'pieces;
+        }
+        if bytes.extend_from_slice(&piece[..count]).is_err() {
+            return Err(InFault::OutOfMemory);
+        }
+    }
+    Ok(bytes)
+}
+
+/// The real files.
+#[derive(Clone, Copy)]
+pub struct Files<'a, R> {
+    runtime: &'a R,
+}
+
+impl<'a, R: std::rt::Files + AllocGlobal> Files<'a, R> {
+    /// The files of a runtime.
+    pub fn new(runtime: &'a R) -> Self {
+        Files { runtime }
+    }
+}
+
+impl<R: std::rt::Files + AllocGlobal> Sources for Files<'_, R> {
+    fn text(&self, name: &str) -> Result<Vec<u8>, InFault> {
+        let Ok(file) = fs::open(self.runtime, name) else {
+            return Err(InFault::Unreadable);
+        };
+        read_file(self.runtime.alloc(), &mut Feed::new(file))
+    }
+}

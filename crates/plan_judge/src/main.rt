@@ -1,0 +1,36 @@
+//! `plan_judge` judges plans of classical planners against domains and problems in PDDL.
+#![tactic(auto)]
+
+pub mod bundle;
+mod command;
+pub mod engine;
+pub mod fault;
+pub mod inlet;
+mod lines;
+pub mod outlet;
+pub mod program;
+mod render;
+pub mod report;
+mod text;
+
+use inlet::Files;
+use outlet::Sink;
+use program::main_with;
+use std::env;
+use std::io::ErrorKind;
+use std::process::ExitCode;
+
+fn main(rt: HostRuntime) -> ExitCode {
+    let words = match env::args(&rt) {
+        Ok(words) => words,
+        Err(error) if error.kind() == ErrorKind::OutOfMemory => return ExitCode::from(3),
+        Err(_) => return ExitCode::from(2),
+    };
+    let words: Vec<String> = match words.collect(rt.alloc()) {
+        Ok(words) => words,
+        Err(_) => return ExitCode::from(3),
+    };
+    let mut out = Sink::new(rt.stdout());
+    let mut err = Sink::new(rt.stderr());
+    ExitCode::from(main_with(&rt, words.as_slice(), &Files::new(&rt), &mut out, &mut err))
+}

@@ -1,0 +1,187 @@
+//! The program: the words of the command line in, bytes and an exit status out.
+//!
+//! [`main_with`] does all that `main` does, over sources and outlets that are handed in, so that tests can make them fail.
+ghost use Rattle.std.specs.Prelude.{◌≡◌, ◌≤◌, false};
+
+use crate::bundle::Bundle;
+use crate::command::{JudgeRequest, Request, parse};
+use crate::engine::judge_plain;
+use crate::fault::JudgeFault;
+use crate::inlet::{InFault, Sources};
+use crate::outlet::{Outlet, write_bytes, write_report};
+use crate::report::Report;
+use crate::text::Text;
+use pddl_reader::ReadFault;
+use pddl_tokens::line_of;
+use std::alloc::{AllocError, Global};
+
+/// Why the program stops without a report.
+#[derive(Debug, Drop)]
+enum Stop {
+    /// With this status and this text on standard error.
+    Told { status: u8, text: Vec<u8> },
+    /// Memory ran out.
+    OutOfMemory,
+}
+
+impl From<AllocError> for Stop {
+    fn from(_error: AllocError) -> Stop {
+        Stop::OutOfMemory
+    }
+}
+
+/// Runs the program on the words of a command line, the first of which is the program's name, and answers the exit status:
+/// 0 where a report or help was written, 1 where an input was refused, 2 where the command line was, 3 where memory ran out, and 4 where
+/// the report or help could not be written.
+///
+/// A report goes to `out` whole or, where `out` fails, from its front. What else is told goes to `err`, whose faults are ignored.
+pub fn main_with<R: AllocGlobal, S: Sources, O: Outlet, E: Outlet>(
+    rt: &R,
+    words: &[String],
+    sources: &S,
+    out: &mut O,
+    err: &mut E,
+) -> u8
+    requires { O.failed out.old ≡ false }
+    ensures { result ≤ 255 }
+{
+    match answer(rt.alloc(), words, sources) {
+        Ok(report) => {
+            if write_report(&report, out).is_ok() {
+                return 0;
+            }
+            tell(err, b"cannot write the report\n");
+            4
+        }
+        Err(Stop::Told { status, text }) => {
+            tell(err, text.as_slice());
+            status
+        }
+        Err(Stop::OutOfMemory) => {
+            tell(err, b"out of memory\n");
+            3
+        }
+    }
+}
+
+/// Writes bytes to the outlet for errors; a fault there is ignored.
+fn tell<E: Outlet>(err: &mut E, bytes: &[u8]) {
+    if !err.has_failed() {
+        let _ = write_bytes(bytes, err);
+    }
+}
+
+/// What goes to the outlet: the report, or help.
+fn answer<S: Sources>(alloc: Global, words: &[String], sources: &S) -> Result<Report, Stop> {
+    match parse(alloc, words)? {
+        Request::Show(text) => Ok(Report::from_bytes(text.into_bytes())),
+        Request::Refused(text) => Err(Stop::Told {
+            status: 2,
+            text: text.into_bytes(),
+        }),
+        Request::Judge(files) => judge_files(alloc, &files, sources),
+    }
+}
+
+/// The report of a run over files. They are read in the order of domain, problem and plans.
+fn judge_files<S: Sources>(
+    alloc: Global,
+    files: &JudgeRequest<'_>,
+    sources: &S,
+) -> Result<Report, Stop> {
+    let domain = read(alloc, sources, files.domain)?;
+    let problem = read(alloc, sources, files.problem)?;
+    let bytes = read(alloc, sources, files.plans)?;
+    let name = String::from_str(alloc, files.plans)?;
+    let bundles = [Bundle { name, bytes }];
+    match judge_plain(alloc, domain.as_slice(), problem.as_slice(), &bundles) {
+        Ok(report) => Ok(report),
+        Err(fault) => Err(judge_stop(alloc, fault, files, domain.as_slice(), problem.as_slice())?),
+    }
+}
+
+/// The text of a file.
+fn read<S: Sources>(alloc: Global, sources: &S, name: &str) -> Result<Vec<u8>, Stop> {
+    match sources.text(name) {
+        Ok(bytes) => Ok(bytes),
+        Err(InFault::OutOfMemory) => Err(Stop::OutOfMemory),
+        Err(InFault::Unreadable) => {
+            let mut text = Text::new(alloc);
+            text.push(b"cannot read ")?;
+            text.push(name.as_bytes())?;
+            text.push(b"\n")?;
+            Err(Stop::Told {
+                status: 1,
+                text: text.into_bytes(),
+            })
+        }
+    }
+}
+
+/// What is told where a run gives no report.
+fn judge_stop(
+    alloc: Global,
+    fault: JudgeFault,
+    files: &JudgeRequest<'_>,
+    domain: &[u8],
+    problem: &[u8],
+) -> Result<Stop, AllocError> {
+    let mut text = Text::new(alloc);
+    match fault {
+        JudgeFault::TooLarge(place) => {
+            text.push(file_name(files, place).as_bytes())?;
+            text.push(b" is too large")?;
+        }
+        JudgeFault::TooManyPlanners => text.push(b"more than 64 planners")?,
+        JudgeFault::Domain(fault) => push_fault(&mut text, b"domain", domain, fault)?,
+        JudgeFault::Problem(fault) => push_fault(&mut text, b"problem", problem, fault)?,
+        JudgeFault::TooManyPlans => text.push(b"more than 65536 plans")?,
+        JudgeFault::Steps(fault) => {
+            text.push(b"steps line ")?;
+            text.push_number(fault.line as usize)?;
+        }
+        JudgeFault::OutOfMemory => return Ok(Stop::OutOfMemory),
+        JudgeFault::NoThread => text.push(b"no thread")?,
+        JudgeFault::Held(_) => text.push(b"a job is held")?,
+    }
+    text.push(b"\n")?;
+    Ok(Stop::Told {
+        status: fault.status(),
+        text: text.into_bytes(),
+    })
+}
+
+/// The name of the file with a place: 0 is the domain, 1 the problem.
+fn file_name<'a>(files: &JudgeRequest<'a>, place: u32) -> &'a str {
+    match place {
+        0 => files.domain,
+        1 => files.problem,
+        _ => files.plans,
+    }
+}
+
+/// Adds what is wrong with a text and where: its line, its bytes from the first up to the one behind the last, and its kind.
+fn push_fault(
+    text: &mut Text,
+    what: &[u8],
+    bytes: &[u8],
+    fault: ReadFault,
+) -> Result<(), AllocError> {
+    text.push(what)?;
+    text.push(b" line ")?;
+    text.push_number(line_at(bytes, fault.span.start) as usize)?;
+    text.push(b" bytes ")?;
+    text.push_number(fault.span.start as usize)?;
+    text.push(b"-")?;
+    text.push_number(fault.span.end as usize)?;
+    text.push(b": ")?;
+    text.push(fault.kind.word().as_bytes())
+}
+
+/// The line of a place in a text; a place behind its end counts as its end, and a text of 2^31 bytes or more as one line.
+fn line_at(bytes: &[u8], place: u32) -> u32 {
+    if bytes.len() >= 1 << 31 {
+        return 1;
+    }
+    line_of(bytes, place.min(bytes.len() as u32))
+}
