@@ -11,6 +11,8 @@ pub mod outlet;
 pub mod program;
 mod render;
 pub mod report;
+#[cfg(test)]
+mod tests;
 mod text;
 
 use inlet::Files;
