@@ -18,8 +18,12 @@ use std::alloc::{AllocError, Global};
 /// Why the program stops without a report.
 #[derive(Debug, Drop)]
 enum Stop {
-    /// With this status and this text on standard error.
-    Told { status: u8, text: Vec<u8> },
+    /// An input is refused; this is told.
+    Input(Vec<u8>),
+    /// The command line is refused; this is told.
+    Usage(Vec<u8>),
+    /// Something that the run needs is missing; this is told.
+    Lacking(Vec<u8>),
     /// Memory ran out.
     OutOfMemory,
 }
@@ -43,7 +47,8 @@ pub fn main_with<R: AllocGlobal, S: Sources, O: Outlet, E: Outlet>(
     err: &mut E,
 ) -> u8
     requires { O.failed out.old ≡ false }
-    ensures { result ≤ 255 }
+    ensures status { result ≤ 4 }
+    ensures written { result ≡ 0 → O.failed out.new ≡ false }
 {
     match answer(rt.alloc(), words, sources) {
         Ok(report) => {
@@ -53,9 +58,17 @@ pub fn main_with<R: AllocGlobal, S: Sources, O: Outlet, E: Outlet>(
             tell(err, b"cannot write the report\n");
             4
         }
-        Err(Stop::Told { status, text }) => {
+        Err(Stop::Input(text)) => {
             tell(err, text.as_slice());
-            status
+            1
+        }
+        Err(Stop::Usage(text)) => {
+            tell(err, text.as_slice());
+            2
+        }
+        Err(Stop::Lacking(text)) => {
+            tell(err, text.as_slice());
+            3
         }
         Err(Stop::OutOfMemory) => {
             tell(err, b"out of memory\n");
@@ -75,10 +88,7 @@ fn tell<E: Outlet>(err: &mut E, bytes: &[u8]) {
 fn answer<S: Sources>(alloc: Global, words: &[String], sources: &S) -> Result<Report, Stop> {
     match parse(alloc, words)? {
         Request::Show(text) => Ok(Report::from_bytes(text.into_bytes())),
-        Request::Refused(text) => Err(Stop::Told {
-            status: 2,
-            text: text.into_bytes(),
-        }),
+        Request::Refused(text) => Err(Stop::Usage(text.into_bytes())),
         Request::Judge(files) => judge_files(alloc, &files, sources),
     }
 }
@@ -110,10 +120,7 @@ fn read<S: Sources>(alloc: Global, sources: &S, name: &str) -> Result<Vec<u8>, S
             text.push(b"cannot read ")?;
             text.push(name.as_bytes())?;
             text.push(b"\n")?;
-            Err(Stop::Told {
-                status: 1,
-                text: text.into_bytes(),
-            })
+            Err(Stop::Input(text.into_bytes()))
         }
     }
 }
@@ -145,10 +152,11 @@ fn judge_stop(
         JudgeFault::Held(_) => text.push(b"a job is held")?,
     }
     text.push(b"\n")?;
-    Ok(Stop::Told {
-        status: fault.status(),
-        text: text.into_bytes(),
-    })
+    if fault.status() == 1 {
+        Ok(Stop::Input(text.into_bytes()))
+    } else {
+        Ok(Stop::Lacking(text.into_bytes()))
+    }
 }
 
 /// The name of the file with a place: 0 is the domain, 1 the problem.
