@@ -58,7 +58,7 @@ pub struct Feed<R> {
 impl<R: Read> Feed<R> {
     /// An inlet from which nothing was got yet.
     pub fn new(reader: R) -> Self
-        ensures { result ≡ record { reader = reader; failed = false } }
+        ensures { ⟦<Feed<R> as Inlet>⟧.failed result ≡ false }
     {
         Feed {
             reader,

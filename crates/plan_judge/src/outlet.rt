@@ -42,7 +42,8 @@ pub struct Sink<W> {
 impl<W: Write> Sink<W> {
     /// An outlet to which nothing was put yet.
     pub fn new(writer: W) -> Self
-        ensures { result ≡ record { writer = writer; failed = false } }
+        ensures unused { ⟦<Sink<W> as Outlet>⟧.failed result ≡ false }
+        ensures bytes { ⟦<Sink<W> as Outlet>⟧.taken result ≡ W.contents writer }
     {
         Sink {
             writer,
