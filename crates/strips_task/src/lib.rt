@@ -1,3 +1,9 @@
+//! Planning tasks and plans, as the readers of texts make them and the judge takes them.
+//!
+//! A reader fills a [`TaskParts`]: tables of named things ([`NameTable`]), the order of types ([`TypeList`]), actions, initial atoms
+//! ([`InitialAtoms`]) and the goal. [`Task::make`] turns well-formed parts into a [`Task`], whose type keeps that they are, so that nothing
+//! that takes a task has to test it again. A [`Plan`] holds its steps as folded text ([`StepList`]); names in it are looked up when it is
+//! judged, since a plan may name what no task has.
 #![tactic(auto)]
 
 mod actions;
