@@ -8,3 +8,4 @@ pub mod PartLemmas
 pub mod FoldedWords
 pub mod StepWords
 pub mod WellFormedParts
+pub mod WellFormedTests

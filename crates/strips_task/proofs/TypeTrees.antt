@@ -1,8 +1,8 @@
 -- In a tree of types a chain of parents is no longer than there are types, so a bounded walk decides the order.
 
-use Rattle.std.proofs.Common.{◌≡◌, ℕ, ◌+◌, ◌-◌, ◌<◌, ◌≤◌, zero, suc, Bool, true, false, cond, ◌||◌, nat_eq, List, [], ◌∷◌, length, refl, ap, sym, ◌∙◌, subst, arith, slice_index, true≢false, ◌⊎◌, inl, inr, ◌↔◌, IsTrue, zero-add, below_more}
+use Rattle.std.proofs.Common.{◌≡◌, ℕ, ◌+◌, ◌-◌, ◌<◌, ◌≤◌, zero, suc, Bool, true, false, cond, ◌||◌, nat_eq, List, length, refl, ap, sym, ◌∙◌, subst, arith, slice_index, true≢false, ◌⊎◌, inl, inr, zero-add, below_more}
 use Rattle.std.proofs.lemmas.Bool.{eqb-true, eq-eqb, cases_lt}
-use Rattle.strips_task.specs.Types.{ancestor, IsBelow, IsTypeTree, is_within, is_below}
+use Rattle.strips_task.specs.Types.{ancestor, IsBelow, is_within}
 
 module _ (parents : List ℕ) where
   -- a step up from behind

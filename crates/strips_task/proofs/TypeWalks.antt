@@ -1,6 +1,6 @@
 -- One step of the walk over the parents.
 
-use Rattle.std.proofs.Common.{◌≡◌, ◌≢◌, ℕ, ◌+◌, ◌-◌, ◌<◌, suc, Bool, true, false, ◌||◌, nat_eq, List, ◌∷◌, length, refl, ap, sym, ◌∙◌, arith, slice_index, get_or, set, get_or-set_other, get_or-set_same}
+use Rattle.std.proofs.Common.{◌≡◌, ◌≢◌, ℕ, ◌+◌, ◌<◌, suc, Bool, true, false, ◌||◌, nat_eq, List, length, refl, ap, sym, ◌∙◌, arith, slice_index, get_or, set, get_or-set_other, get_or-set_same}
 use Rattle.std.proofs.lemmas.Bool.{eqb-true, eq-eqb}
 use Rattle.strips_task.specs.Types.{is_within}
 

@@ -1,6 +1,6 @@
 -- What the tests of well-formedness say of each part.
 
-use Rattle.std.proofs.Common.{◌≡◌, ℕ, ◌<◌, ◌≤◌, zero, suc, Bool, true, false, ◌&&◌, nat_eq, nat_lt, nat_le, List, [], ◌∷◌, length, map, All, refl, ap, sym, ◌∙◌, subst, arith, slice_get, Option, None, Some, true≢false, ◌↔◌, IsTrue}
+use Rattle.std.proofs.Common.{◌≡◌, ℕ, ◌<◌, ◌≤◌, zero, suc, Bool, true, nat_eq, nat_lt, nat_le, List, [], ◌∷◌, length, map, All, refl, ap, sym, ◌∙◌, arith, slice_get, Option, None, Some, true≢false, ◌↔◌, IsTrue}
 use Rattle.std.proofs.lemmas.Bool.{ltb-true, leb-true, eqb-true}
 use Rattle.std.proofs.lemmas.List.Sums.{AllPass-from_list_all}
 use Rattle.std.proofs.lemmas.Option.{slice_get_within}
@@ -13,7 +13,7 @@ use Rattle.strips_task.specs.declared.actions.Pattern.{Pattern}
 use Rattle.strips_task.specs.declared.actions.Action.{Action}
 use Rattle.strips_task.specs.declared.tasks.TaskParts.{TaskParts}
 use Rattle.strips_task.specs.Types.{IsBelow, IsTypeTree, is_below}
-use Rattle.strips_task.specs.WellFormed.{IsWellFormed, are_alternatives, are_variables, term_types, is_fitting, are_fitting, is_pattern, is_action}
+use Rattle.strips_task.specs.WellFormed.{are_alternatives, are_variables, term_types, is_fitting, are_fitting, is_pattern, is_action}
 use Rattle.strips_task.specs.Within.{IsTermWithin, IsPatternWithin, IsActionWithin}
 use Rattle.strips_task.proofs.AtomEquality.{both_hold}
 use Rattle.strips_task.proofs.TypeTrees.{below_from_within, within_from_below}

@@ -18,6 +18,7 @@ mod steps;
 mod table;
 mod tasks;
 mod types;
+mod well_formed;
 mod words;
 
 pub use actions::{Action, Alternatives, Cond, Pattern, Term};

@@ -3,11 +3,14 @@
 //! An entry is numbered by its place, and found by its number or by the bytes of its name. A look-up hashes the bytes once and takes
 //! no memory.
 ghost use Rattle.std.specs.Prelude.{◌≡◌, ◌+◌, ◌<◌, ℕ, List, [], ◌∷◌, ◌++◌, length, slice_get, IsTrue, IfSome, OnOk, OnErr, IfErr, Some, None};
-ghost use Rattle.std.specs.Map.{keys_of};
+ghost use Rattle.std.specs.Map.{keys_of, values_of};
+ghost use Rattle.std.specs.Map.Iter.{ShowsInOrder, deref};
+ghost use Rattle.std.specs.Option.{option_copied};
 ghost use Rattle.strips_task.specs.Names.{number_named, are_distinct};
 
 use crate::{Name, Word};
 use indexmap::IndexMap;
+use indexmap::map::Values;
 use std::alloc::{AllocFailed, Global};
 use std::marker::Model;
 
@@ -62,6 +65,25 @@ impl<V> NameTable<V> {
         ensures { slice_get self.now number ≡ Some (result.0.now, result.1.now) }
     {
         self.entries.get_index(number).unwrap()
+    }
+
+    /// The value of the entry with a number, if there is one.
+    pub fn value(&self, number: usize) -> Option<&V>
+        ensures { option_copied result ≡ slice_get (values_of self.now) number }
+    {
+        if number < self.len() {
+            Some(self.get(number).1)
+        } else {
+            None
+        }
+    }
+
+    /// The values of all entries, in their order.
+    pub fn values(&self) -> Values<'_, Name, V>
+        ensures rest { result ≡ values_of self.now }
+        ensures runs { ShowsInOrder (deref {X = V}) }
+    {
+        self.entries.values()
     }
 }
 

@@ -3,8 +3,8 @@
 //! Types form a tree below `object` (PDDL 2.1, Fox and Long 2003, section 2). A `TypeList` holds for each type the number of its parent.
 //! A reader pushes the parents in the order of the types' numbers, and then indexes the list, so that whether one type is below
 //! another is answered by one look at a table. A list that was not indexed answers the same by a walk.
-ghost use Rattle.std.specs.Prelude.{◌≡◌, ◌+◌, ◌<◌, ◌↔◌, ℕ, List, [], ◌∷◌, ◌++◌, length, slice_index, All, IfOk, OnOk, OnErr, IfErr};
-ghost use Rattle.strips_task.specs.Types.{is_within, is_below};
+ghost use Rattle.std.specs.Prelude.{◌≡◌, ◌+◌, ◌<◌, ◌↔◌, ℕ, List, [], ◌∷◌, ◌++◌, length, slice_index, All, IsTrue, IfOk, OnOk, OnErr, IfErr};
+ghost use Rattle.strips_task.specs.Types.{is_within, is_below, IsTypeTree};
 ghost use Rattle.strips_task.specs.TypeTable.{IsRow, AreRows};
 
 use crate::Seq;
@@ -74,19 +74,50 @@ impl TypeList {
         Ok(())
     }
 
-    /// Whether a type is below another: they are the same, or the other stands some parents up.
-    /// Takes one look at the table once the list is indexed, and else a walk of as many steps as there are types.
+    /// Whether a type is below another: they are the same, or the other stands some parents up. What is no type is taken to stand
+    /// right below `object`. Takes one look at the table once the list is indexed, and else a walk of at most as many steps as there
+    /// are types.
     pub fn is_below(&self, sub: u16, sup: u16) -> bool
-        requires sub_known { sub < length self.now }
-        requires sup_known { sup < length self.now }
-        requires parents_known { All (λ parent. parent < length self.now) self.now }
         ensures { result ≡ is_below self.now sub sup }
     {
         match self.rows.get(usize::from(sub)) {
-            Some(row) => *row.get(usize::from(sup)),
-            None => stands_above(self.parents.as_slice(), sub, sup),
+            Some(row) if usize::from(sup) < row.len() => *row.get(usize::from(sup)),
+            _ => stands_above(self.parents.as_slice(), usize::from(sub), usize::from(sup)),
         }
     }
+
+    /// Whether the parents form a tree below `object`: it is its own parent, each parent is a type, and from every type the chain of
+    /// parents reaches `object`. Takes a walk up for each type, and no memory.
+    pub fn is_tree(&self) -> bool
+        ensures { IsTrue result ↔ IsTypeTree self.now }
+    {
+        is_tree(self.parents.as_slice())
+    }
+}
+
+/// Whether parents form a tree below `object`.
+fn is_tree(parents: &[u16]) -> bool
+    ensures { IsTrue result ↔ IsTypeTree parents.now }
+{
+    if parents.is_empty() {
+        return false;
+    }
+    if parents[0] != 0 {
+        return false;
+    }
+    if !are_known(parents) {
+        return false;
+    }
+    all_reach_object(parents)
+}
+
+/// Whether each parent is a type.
+fn are_known(parents: &[u16]) -> bool
+    ensures { IsTrue result ↔ All (λ parent. parent < length parents.now) parents.now }
+{
+    parents
+        .iter()
+        .all(|parent| usize::from(*parent) < parents.len())
 }
 
 /// The rows of all types.
@@ -119,10 +150,20 @@ fn row_of(alloc: Global, parents: &[u16], number: usize) -> Result<Seq<bool>, Al
     Ok(Seq::from_vec(row))
 }
 
+/// Whether the walk from each type over the parents meets `object`.
+fn all_reach_object(parents: &[u16]) -> bool
+    ensures { IsTrue result ↔ ((type : ℕ) → type < length parents.now → IsTrue (is_within parents.now (length parents.now) type 0)) }
+{
+    for number in 0..parents.len() {
+        if !stands_above(parents, number, 0) {
+            return false;
+        }
+    }
+    true
+}
+
 /// Whether a walk from one type over the parents meets the other.
-fn stands_above(parents: &[u16], sub: u16, sup: u16) -> bool
-    requires known { sub < length parents.now }
-    requires parents_known { All (λ parent. parent < length parents.now) parents.now }
+fn stands_above(parents: &[u16], sub: usize, sup: usize) -> bool
     ensures { result ≡ is_within parents.now (length parents.now) sub sup }
 {
     let mut at = sub;
@@ -130,7 +171,17 @@ fn stands_above(parents: &[u16], sub: u16, sup: u16) -> bool
         if at == sup {
             return true;
         }
-        at = parents[usize::from(at)];
+        at = parent_of(parents, at);
     }
     at == sup
+}
+
+/// The parent of a type, and `object` for what is no type.
+fn parent_of(parents: &[u16], number: usize) -> usize
+    ensures { result ≡ slice_index parents.now number }
+{
+    match parents.get(number) {
+        Some(parent) => usize::from(*parent),
+        None => 0,
+    }
 }

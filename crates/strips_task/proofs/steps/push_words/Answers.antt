@@ -1,4 +1,4 @@
-use Rattle.std.proofs.Common.{◌≡◌, ◌∷◌, take, ap, ◌∙◌, sym}
+use Rattle.std.proofs.Common.{◌∷◌, take, ◌∙◌}
 use Rattle.strips_task.proofs.steps.push_words.Goals as goal
 
 pub returns-in_err-push_folded-2-clause-kept : goal.returns-in_err-push_folded-2-clause-kept

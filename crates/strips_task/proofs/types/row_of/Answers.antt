@@ -1,4 +1,4 @@
-use Rattle.std.proofs.Common.{◌≡◌, ◌+◌, ◌-◌, ◌<◌, length, ◌∙◌, sym, arith, length-set}
+use Rattle.std.proofs.Common.{◌+◌, ◌-◌, ◌<◌, length, ◌∙◌, arith, length-set}
 use Rattle.strips_task.proofs.TypeWalks.{mark_goes_on, mark_ends}
 use Rattle.strips_task.proofs.types.row_of.Goals as goal
 

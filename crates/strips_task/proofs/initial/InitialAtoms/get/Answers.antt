@@ -1,4 +1,4 @@
-use Rattle.std.proofs.Common.{◌≡◌, ◌<◌, length, ap, sym, ◌∙◌, arith, slice_get, get_or}
+use Rattle.std.proofs.Common.{◌<◌, length, ap, sym, ◌∙◌, arith, slice_get}
 use Rattle.std.specs.Option.{option_copied}
 use Rattle.strips_task.proofs.Numbered.{length-shown, slice_get-shown}
 use Rattle.strips_task.proofs.initial.InitialAtoms.get.Goals as goal

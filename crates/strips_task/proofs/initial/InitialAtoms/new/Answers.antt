@@ -1,4 +1,4 @@
-use Rattle.std.proofs.Common.{◌≡◌, ap, length, arith}
+use Rattle.std.proofs.Common.{ap, length, arith}
 use Rattle.strips_task.specs.FirstPlaces.{first_places}
 use Rattle.strips_task.proofs.initial.InitialAtoms.new.Goals as goal
 

@@ -1,4 +1,4 @@
-use Rattle.std.proofs.Common.{◌≡◌, ◌+◌, ◌-◌, ap, ◌∙◌, sym, arith, slice_get}
+use Rattle.std.proofs.Common.{◌≡◌, ◌+◌, ◌-◌, ap, ◌∙◌, arith, slice_get}
 use Rattle.strips_task.proofs.StepWords.{args_count, arg_at}
 use Rattle.strips_task.proofs.step_view.StepView.arg.Goals as goal
 

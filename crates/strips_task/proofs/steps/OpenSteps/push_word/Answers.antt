@@ -1,8 +1,7 @@
-use Rattle.std.proofs.Common.{◌≡◌, ◌∷◌, ◌++◌, [], ap, ◌∙◌, sym, map, drop}
+use Rattle.std.proofs.Common.{◌∷◌, ◌++◌, [], ap, ◌∙◌, map, drop}
 use Rattle.std.proofs.lemmas.List.{drop-append-le}
 use Rattle.pddl_words.specs.Words.{folded}
 use Rattle.strips_task.specs.Steps.{step_at}
-use Rattle.strips_task.specs.OpenPlan.{OpenPlan}
 use Rattle.strips_task.proofs.StepWords.{steps_kept}
 use Rattle.strips_task.proofs.steps.OpenSteps.push_word.Goals as goal
 

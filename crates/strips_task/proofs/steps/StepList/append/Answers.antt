@@ -1,8 +1,7 @@
-use Rattle.std.proofs.Common.{◌≡◌, ◌≤◌, ◌<◌, ◌∷◌, ◌++◌, [], All, List, length, map, ap, ◌∙◌, sym, arith, length-append, Result, Ok, Err, OnErr}
+use Rattle.std.proofs.Common.{◌≡◌, ◌∷◌, ◌++◌, [], length, map, ap, ◌∙◌, arith, length-append, Result, Ok, Err, OnErr}
 use Rattle.std.proofs.lemmas.List.{length-map}
 use Rattle.strips_task.specs.Steps.{step_at}
-use Rattle.strips_task.specs.declared.steps.StepRange.{StepRange}
-use Rattle.strips_task.proofs.StepWords.{steps_more, ranges_more, ranges_extended, steps_extended}
+use Rattle.strips_task.proofs.StepWords.{steps_more, ranges_more, steps_extended}
 use Rattle.strips_task.proofs.steps.StepList.append.Goals as goal
 
 -- what holds whatever happens holds after a refusal

@@ -1,4 +1,4 @@
-use Rattle.std.proofs.Common.{ap, refl}
+use Rattle.std.proofs.Common.{ap}
 use Rattle.std.specs.Map.{keys_of}
 use Rattle.strips_task.specs.Names.{are_distinct}
 use Rattle.strips_task.proofs.table.NameTable.new.Goals as goal

@@ -1,4 +1,4 @@
-use Rattle.std.proofs.Common.{◌≡◌, ◌<◌, ◌≤◌, ◌∷◌, ◌-◌, ap, ◌∙◌, sym, arith, length, Some, take, drop, get_or, slice_get, slice_index}
+use Rattle.std.proofs.Common.{◌≡◌, ◌<◌, ◌∷◌, ◌-◌, ap, ◌∙◌, sym, arith, length, Some, take, drop, get_or, slice_get}
 use Rattle.strips_task.proofs.PartLemmas.{length_parts, end_within, slice_get_parts, get_or_any}
 use Rattle.strips_task.proofs.words.WordList.get.Goals as goal
 

@@ -1,6 +1,6 @@
-use Rattle.std.proofs.Common.{◌≡◌, ◌+◌, ◌++◌, ◌∷◌, [], ap, ◌∙◌, sym, subst, arith, length, length-append, ◌≤◌}
+use Rattle.std.proofs.Common.{◌≡◌, ◌++◌, ◌∷◌, [], ap, ◌∙◌, arith, length, length-append, ◌≤◌}
 use Rattle.pddl_words.specs.Words.{folded}
-use Rattle.strips_task.specs.Parts.{AreEnds, parts_from}
+use Rattle.strips_task.specs.Parts.{parts_from}
 use Rattle.strips_task.proofs.PartLemmas.{ends_push, parts_push}
 use Rattle.strips_task.proofs.words.WordList.push_folded.Goals as goal
 

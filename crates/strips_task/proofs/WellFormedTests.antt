@@ -1,0 +1,46 @@
+-- What a test of a part says in the words of the definitions.
+
+use Rattle.std.proofs.Common.{◌≡◌, ℕ, Bool, true, false, ◌&&◌, List, [], ◌∷◌, map, refl, ap, ◌∙◌, slice_get, Some, None}
+use Rattle.std.specs.List.{list_all, list_any, zip}
+use Rattle.std.specs.Option.{option_map}
+use Rattle.std.specs.Map.{values_of}
+use Rattle.strips_task.specs.declared.actions.Term.TheVariants.{Param, Object}
+use Rattle.strips_task.specs.declared.tasks.TaskParts.{TaskParts}
+use Rattle.strips_task.specs.Types.{is_below}
+use Rattle.strips_task.specs.WellFormed.{fits, term_types, is_fitting}
+
+and_true : (b : Bool) → (b && true) ≡ b
+and_true true = refl
+and_true false = refl
+
+-- a test of pairs whose first parts are mapped
+pub all_zip-map : {A B C : Type 0} (f : A → B) (test : B → C → Bool) (xs : List A) (ys : List C)
+    → list_all (λ p. test p.0 p.1) (zip (map f xs) ys) ≡ list_all (λ p. test (f p.0) p.1) (zip xs ys)
+all_zip-map f test [] ys = refl
+all_zip-map f test (x ∷ xs) [] = refl
+all_zip-map f test (x ∷ xs) (y ∷ ys) = ap (λ b. test (f x) y && b) (all_zip-map f test xs ys)
+
+module _ (task : TaskParts) (params : List (List ℕ)) (places : List ℕ) where
+  -- a parameter has the types that it was given
+  pub param_fitting : (place : ℕ) (types : List ℕ) → slice_get params place ≡ Some types
+      → is_fitting task.parents (term_types task params (Param place)) places ≡ fits task.parents types places
+  unfolding term_types is_fitting
+  param_fitting place types e = ap (λ o. is_fitting task.parents o places) e
+
+  -- and what is no parameter fits nowhere
+  pub param_unknown : (place : ℕ) → slice_get params place ≡ None → is_fitting task.parents (term_types task params (Param place)) places ≡ false
+  unfolding term_types is_fitting
+  param_unknown place e = ap (λ o. is_fitting task.parents o places) e
+
+  -- an object has its one type
+  pub object_fitting : (object type : ℕ) → slice_get (values_of task.objects) object ≡ Some type
+      → is_fitting task.parents (term_types task params (Object object)) places ≡ list_any (is_below task.parents type) places
+  unfolding term_types is_fitting fits
+  object_fitting object type e =
+      ap (λ o. is_fitting task.parents (option_map (λ t. t ∷ []) o) places) e ∙ and_true (list_any (is_below task.parents type) places)
+
+  -- and what is no object fits nowhere
+  pub object_unknown : (object : ℕ) → slice_get (values_of task.objects) object ≡ None
+      → is_fitting task.parents (term_types task params (Object object)) places ≡ false
+  unfolding term_types is_fitting
+  object_unknown object e = ap (λ o. is_fitting task.parents (option_map (λ t. t ∷ []) o) places) e

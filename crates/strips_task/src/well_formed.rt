@@ -1,0 +1,294 @@
+//! The test whether the parts of a task are well formed, for whoever fills a [`TaskParts`] by hand.
+//!
+//! The readers of this project never make it: their contracts say that what they answer is well formed. Each function here is the
+//! test of one definition, from a term up to the whole task.
+ghost use Rattle.std.specs.Prelude.{◌≡◌, ◌<◌, ◌≤◌, ◌↔◌, ℕ, IsTrue, length, slice_get, map, List, [], Some, nat_lt};
+ghost use Rattle.std.specs.List.{list_all, list_any, zip};
+ghost use Rattle.std.specs.Map.{keys_of, values_of};
+ghost use Rattle.strips_task.specs.Names.{are_distinct};
+ghost use Rattle.strips_task.specs.Types.{is_below};
+ghost use Rattle.strips_task.specs.declared.actions.Term.TheVariants.{Object};
+ghost use Rattle.strips_task.specs.WellFormed.{IsWellFormed, most_types, most_objects, most_predicates, most_actions, fits, are_alternatives, are_variables, term_types, is_fitting, are_fitting, is_pattern, is_atom, is_action};
+
+use crate::{Action, Alternatives, Atom, Cond, Pattern, TaskParts, Term, TypeList};
+
+/// The most types, `object` among them.
+const MOST_TYPES: usize = 1025;
+
+/// The most objects.
+const MOST_OBJECTS: usize = 65535;
+
+/// The most predicates.
+const MOST_PREDICATES: usize = 4096;
+
+/// The most actions.
+const MOST_ACTIONS: usize = 4096;
+
+/// The most variables of a predicate or an action.
+const MOST_VARIABLES: usize = 32;
+
+/// The most types of which a variable may be.
+const MOST_ALTERNATIVES: usize = 32;
+
+impl TaskParts {
+    /// Whether the parts are well formed: every number is in range, every arity right, every atom and pattern fits by the order of types,
+    /// from every type the chain of parents reaches `object`, names are distinct, and the limits hold. Takes no memory; the time is
+    /// proportional to the parts, with the longest chain of parents for each type, and for each alternative where the types are not indexed.
+    pub fn is_well_formed(&self) -> bool
+        ensures { IsTrue result ↔ IsWellFormed self.now }
+    {
+        if !self.parents.is_tree() {
+            return false;
+        }
+        if !is_within_limits(self) {
+            return false;
+        }
+        if !objects_are_typed(self) {
+            return false;
+        }
+        if !predicates_are_typed(self) {
+            return false;
+        }
+        if !actions_fit(self) {
+            return false;
+        }
+        if !initial_atoms_fit(self) {
+            return false;
+        }
+        goal_fits(self)
+    }
+}
+
+/// Whether there are not too many types, objects, predicates and actions. No table has a name twice.
+fn is_within_limits(parts: &TaskParts) -> bool
+    ensures limits { IsTrue result ↔ ((length parts.now.parents ≤ most_types) × (length parts.now.objects ≤ most_objects)
+        × (length parts.now.preds ≤ most_predicates) × (length parts.now.actions ≤ most_actions)) }
+    ensures objects_distinct { IsTrue (are_distinct (keys_of parts.now.objects)) }
+    ensures predicates_distinct { IsTrue (are_distinct (keys_of parts.now.preds)) }
+    ensures actions_distinct { IsTrue (are_distinct (keys_of parts.now.actions)) }
+{
+    let objects = parts.objects.len();
+    let predicates = parts.preds.len();
+    let actions = parts.actions.len();
+    parts.parents.len() <= MOST_TYPES
+        && objects <= MOST_OBJECTS
+        && predicates <= MOST_PREDICATES
+        && actions <= MOST_ACTIONS
+}
+
+/// Whether each object has a type.
+fn objects_are_typed(parts: &TaskParts) -> bool
+    ensures { result ≡ list_all (λ type. nat_lt type (length parts.now.parents)) (values_of parts.now.objects) }
+{
+    parts
+        .objects
+        .values()
+        .all(|number| usize::from(*number) < parts.parents.len())
+}
+
+/// Whether the variables of each predicate have types.
+fn predicates_are_typed(parts: &TaskParts) -> bool
+    ensures { result ≡ list_all (are_variables parts.now.parents) (values_of parts.now.preds) }
+{
+    parts.preds.values().all(|variables| are_variables(&parts.parents, variables.as_slice()))
+}
+
+/// Whether each action is one of the task.
+fn actions_fit(parts: &TaskParts) -> bool
+    ensures { result ≡ list_all (is_action parts.now) (values_of parts.now.actions) }
+{
+    parts
+        .actions
+        .values()
+        .all(|action| is_action(parts, action))
+}
+
+/// Whether each initial atom is one of the task.
+fn initial_atoms_fit(parts: &TaskParts) -> bool
+    ensures { result ≡ list_all (is_atom parts.now) parts.now.init }
+{
+    for place in 0..parts.init.len() {
+        if !is_atom(parts, parts.init.get(place)) {
+            return false;
+        }
+    }
+    true
+}
+
+/// Whether each atom of the goal is one of the task.
+fn goal_fits(parts: &TaskParts) -> bool
+    ensures { result ≡ list_all (λ cond. is_atom parts.now cond.atom) parts.now.goal }
+{
+    parts
+        .goal
+        .as_slice()
+        .iter()
+        .all(|cond| is_atom(parts, &cond.atom))
+}
+
+/// Whether an action's variables have types, and its patterns fit.
+#[tactic(auto, unfolding(crate::specs::WellFormed::is_action))]
+fn is_action(parts: &TaskParts, action: &Action) -> bool
+    ensures { result ≡ is_action parts.now action.now }
+{
+    let params = action.params.as_slice();
+    are_variables(&parts.parents, params)
+        && conditions_fit(parts, params, action.pre.as_slice())
+        && patterns_fit(parts, params, action.add.as_slice())
+        && patterns_fit(parts, params, action.del.as_slice())
+}
+
+/// Whether each condition's pattern is one of the task and these parameters.
+fn conditions_fit(parts: &TaskParts, params: &[Alternatives], conditions: &[Cond]) -> bool
+    ensures { result ≡ list_all (λ cond. is_pattern parts.now params.now cond.pattern) conditions.now }
+{
+    conditions
+        .iter()
+        .all(|cond| is_pattern(parts, params, &cond.pattern))
+}
+
+/// Whether each pattern is one of the task and these parameters.
+fn patterns_fit(parts: &TaskParts, params: &[Alternatives], patterns: &[Pattern]) -> bool
+    ensures { result ≡ list_all (is_pattern parts.now params.now) patterns.now }
+{
+    patterns
+        .iter()
+        .all(|pattern| is_pattern(parts, params, pattern))
+}
+
+/// Whether a pattern has a predicate of the task, and terms that fit its places.
+#[tactic(auto, unfolding(crate::specs::WellFormed::is_pattern, crate::specs::WellFormed::are_fitting))]
+fn is_pattern(parts: &TaskParts, params: &[Alternatives], pattern: &Pattern) -> bool
+    ensures { result ≡ is_pattern parts.now params.now pattern.now }
+{
+    match parts.preds.value(usize::from(pattern.pred)) {
+        Some(places) => terms_fit(parts, params, pattern.terms.as_slice(), places.as_slice()),
+        None => false,
+    }
+}
+
+/// Whether as many terms as there are places fit them one by one.
+#[tactic(auto, unfolding(crate::specs::WellFormed::are_fitting))]
+fn terms_fit(
+    parts: &TaskParts,
+    params: &[Alternatives],
+    terms: &[Term],
+    places: &[Alternatives],
+) -> bool
+    ensures { result ≡ are_fitting parts.now.parents (map (term_types parts.now params.now) terms.now) (Some places.now) }
+{
+    terms.len() == places.len() && terms_fit_places(parts, params, terms, places)
+}
+
+/// Whether each term fits the place beside it.
+fn terms_fit_places(
+    parts: &TaskParts,
+    params: &[Alternatives],
+    terms: &[Term],
+    places: &[Alternatives],
+) -> bool
+    ensures { result ≡ list_all (λ p. is_fitting parts.now.parents (term_types parts.now params.now p.0) p.1) (zip terms.now places.now) }
+{
+    terms.iter().zip(places).all(|(term, place)| term_fits(parts, params, *term, place.as_slice()))
+}
+
+/// Whether a term is a parameter or an object that fits a place for these types.
+fn term_fits(parts: &TaskParts, params: &[Alternatives], term: Term, place: &[u16]) -> bool
+    ensures { result ≡ is_fitting parts.now.parents (term_types parts.now params.now term) place.now }
+{
+    match term {
+        Term::Param(number) => match params.get(usize::from(number)) {
+            Some(types) => fits(&parts.parents, types.as_slice(), place),
+            None => false,
+        },
+        Term::Object(number) => object_fits(parts, number, place),
+    }
+}
+
+/// Whether an atom has a predicate of the task, and objects that fit its places.
+#[tactic(auto, unfolding(crate::specs::WellFormed::is_atom, crate::specs::WellFormed::are_fitting))]
+fn is_atom(parts: &TaskParts, atom: &Atom) -> bool
+    ensures { result ≡ is_atom parts.now atom.now }
+{
+    match parts.preds.value(usize::from(atom.pred)) {
+        Some(places) => objects_fit(parts, atom.args.as_slice(), places.as_slice()),
+        None => false,
+    }
+}
+
+/// Whether as many objects as there are places fit them one by one.
+#[tactic(auto, unfolding(crate::specs::WellFormed::are_fitting))]
+fn objects_fit(parts: &TaskParts, objects: &[u16], places: &[Alternatives]) -> bool
+    ensures { result ≡ are_fitting parts.now.parents (map (λ object. term_types parts.now [] (Object object)) objects.now) (Some places.now) }
+{
+    objects.len() == places.len() && objects_fit_places(parts, objects, places)
+}
+
+/// Whether each object fits the place beside it.
+fn objects_fit_places(parts: &TaskParts, objects: &[u16], places: &[Alternatives]) -> bool
+    ensures { result ≡ list_all (λ p. is_fitting parts.now.parents (term_types parts.now [] (Object p.0)) p.1) (zip objects.now places.now) }
+{
+    objects.iter().zip(places).all(|(object, place)| object_fits(parts, *object, place.as_slice()))
+}
+
+/// Whether there is an object with a number, and it fits a place for these types.
+#[tactic(auto, using(crate::proofs::WellFormedTests::object_fitting, crate::proofs::WellFormedTests::object_unknown))]
+fn object_fits(parts: &TaskParts, number: u16, place: &[u16]) -> bool
+    ensures { result ≡ is_fitting parts.now.parents (term_types parts.now [] (Object number)) place.now }
+{
+    match parts.objects.value(usize::from(number)) {
+        Some(object_type) => fits_some(&parts.parents, *object_type, place),
+        None => false,
+    }
+}
+
+/// Whether the variables of a predicate or an action are not too many, and each has alternatives.
+#[tactic(auto, unfolding(crate::specs::WellFormed::are_variables))]
+fn are_variables(parents: &TypeList, variables: &[Alternatives]) -> bool
+    ensures { result ≡ are_variables parents.now variables.now }
+{
+    variables.len() <= MOST_VARIABLES && have_alternatives(parents, variables)
+}
+
+/// Whether each variable has alternatives.
+fn have_alternatives(parents: &TypeList, variables: &[Alternatives]) -> bool
+    ensures { result ≡ list_all (are_alternatives parents.now) variables.now }
+{
+    variables
+        .iter()
+        .all(|types| are_alternatives(parents, types.as_slice()))
+}
+
+/// Whether the alternatives of a variable are types, and not too many.
+#[tactic(auto, unfolding(crate::specs::WellFormed::are_alternatives))]
+fn are_alternatives(parents: &TypeList, types: &[u16]) -> bool
+    ensures { result ≡ are_alternatives parents.now types.now }
+{
+    types.len() <= MOST_ALTERNATIVES && are_types(parents, types)
+}
+
+/// Whether all numbers are those of types.
+fn are_types(parents: &TypeList, numbers: &[u16]) -> bool
+    ensures { result ≡ list_all (λ type. nat_lt type (length parents.now)) numbers.now }
+{
+    numbers
+        .iter()
+        .all(|number| usize::from(*number) < parents.len())
+}
+
+/// Whether each of the first types is below some of the second.
+#[tactic(auto, unfolding(crate::specs::WellFormed::fits))]
+fn fits(parents: &TypeList, types: &[u16], places: &[u16]) -> bool
+    ensures { result ≡ fits parents.now types.now places.now }
+{
+    types
+        .iter()
+        .all(|number| fits_some(parents, *number, places))
+}
+
+/// Whether a type is below some of the others.
+fn fits_some(parents: &TypeList, number: u16, places: &[u16]) -> bool
+    ensures { result ≡ list_any (is_below parents.now number) places.now }
+{
+    places.iter().any(|place| parents.is_below(number, *place))
+}
