@@ -9,3 +9,4 @@ pub mod FoldedWords
 pub mod StepWords
 pub mod WellFormedParts
 pub mod WellFormedTests
+pub mod PairTests

@@ -8,7 +8,9 @@
 
 mod actions;
 mod atoms;
+mod equality;
 mod initial;
+pub mod laws;
 mod names;
 mod plans;
 mod seq;
@@ -34,3 +36,6 @@ pub use table::NameTable;
 pub use tasks::{Task, TaskParts};
 pub use types::TypeList;
 pub use words::WordList;
+
+#[cfg(test)]
+mod tests;
