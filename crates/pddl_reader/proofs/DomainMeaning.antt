@@ -1,41 +1,89 @@
 -- What the syntax of a domain stands for, one equation for each case.
 
-use Rattle.std.proofs.Common.{◌≡◌, [], Option, Some, None, refl}
+use Rattle.std.proofs.Common.{◌≡◌, ℕ, List, [], Option, Some, None, refl}
 use Rattle.std.specs.Global.{Vec}
+use Rattle.std.specs.Map.{keys_of}
+use Rattle.pddl_words.specs.Words.{folded}
+use Rattle.pddl_reader.specs.declared.resolution.domain.Head.{Head}
+use Rattle.pddl_reader.specs.declared.resolution.types.KnownTypes.{KnownTypes}
 use Rattle.pddl_reader.specs.declared.syntax.DomainSyntax.{DomainSyntax}
+use Rattle.pddl_reader.specs.declared.syntax.NameGroup as groups
 use Rattle.pddl_reader.specs.declared.syntax.PredicateSyntax.{PredicateSyntax}
-use Rattle.pddl_reader.specs.Forms.{predicate_forms, action_forms, given_predicates, domain_sections_form, domain_syntax_form}
+use Rattle.pddl_reader.specs.Forms.{name_groups, predicate_forms, action_forms, given_groups, given_predicates, domain_sections_form, domain_syntax_form}
 use Rattle.pddl_reader.specs.Declarations.{Predicates}
-use Rattle.pddl_reader.specs.Domain.{Actions, predicates_from, actions_from, domain_value, domain_with, domain_of}
-use Rattle.pddl_reader.specs.Syntax.{domain_form}
+use Rattle.pddl_reader.specs.Domain.{Actions, predicates_from, actions_from, head, head_typed, head_of, domain_value, domain_with, domain_headed, domain_of}
+use Rattle.pddl_reader.specs.Objects.{Objects, objects_from}
+use Rattle.pddl_reader.specs.Syntax.{DomainForm, domain_form}
+use Rattle.pddl_reader.specs.TypeOrder.{types_of}
 
-pub meant_sections : (syntax : DomainSyntax) → domain_of (domain_syntax_form syntax)
-    ≡ domain_with (domain_syntax_form syntax) (predicates_from [] (predicate_forms (given_predicates syntax.sections.predicates)))
-unfolding domain_of domain_form domain_sections_form given_predicates predicate_forms
-meant_sections syntax = by syntax.sections.predicates
+pub types_given : (syntax : DomainSyntax) → (domain_syntax_form syntax).types ≡ name_groups (given_groups syntax.sections.types)
+unfolding domain_form domain_sections_form given_groups name_groups
+types_given syntax = by syntax.sections.types
   where
-    by : (predicates : Option (Vec PredicateSyntax)) →
-        domain_of (domain_form syntax.name.text.now (domain_sections_form (record { predicates = predicates; actions = syntax.sections.actions })))
-        ≡ domain_with (domain_form syntax.name.text.now (domain_sections_form (record { predicates = predicates; actions = syntax.sections.actions })))
-        (predicates_from [] (predicate_forms (given_predicates predicates)))
+    by : (types : Option (Vec groups.NameGroup)) →
+        (domain_form syntax.name.text.now (domain_sections_form (record syntax.sections { types = types }))).types ≡ name_groups (given_groups types)
     by None = refl
     by (Some v) = refl
 
-pub no_predicates_meant : (syntax : DomainSyntax) → predicates_from [] (predicate_forms (given_predicates syntax.sections.predicates)) ≡ None →
-    domain_of (domain_syntax_form syntax) ≡ None
+pub constants_given : (syntax : DomainSyntax) → (domain_syntax_form syntax).constants ≡ name_groups (given_groups syntax.sections.constants)
+unfolding domain_form domain_sections_form given_groups name_groups
+constants_given syntax = by syntax.sections.constants
+  where
+    by : (constants : Option (Vec groups.NameGroup)) →
+        (domain_form syntax.name.text.now (domain_sections_form (record syntax.sections { constants = constants }))).constants ≡ name_groups (given_groups constants)
+    by None = refl
+    by (Some v) = refl
+
+pub predicates_given : (syntax : DomainSyntax) → (domain_syntax_form syntax).predicates ≡ predicate_forms (given_predicates syntax.sections.predicates)
+unfolding domain_form domain_sections_form given_predicates predicate_forms
+predicates_given syntax = by syntax.sections.predicates
+  where
+    by : (predicates : Option (Vec PredicateSyntax)) →
+        (domain_form syntax.name.text.now (domain_sections_form (record syntax.sections { predicates = predicates }))).predicates ≡ predicate_forms (given_predicates predicates)
+    by None = refl
+    by (Some v) = refl
+
+pub no_types : (syntax : DomainSyntax) → types_of (name_groups (given_groups syntax.sections.types)) ≡ None → head_of (domain_syntax_form syntax) ≡ None
+unfolding head_of head_typed
+no_types syntax h = rw (types_given syntax, h) refl
+
+pub no_constants : (syntax : DomainSyntax) (types : KnownTypes) → types_of (name_groups (given_groups syntax.sections.types)) ≡ Some types →
+    objects_from (keys_of types.names) [] (name_groups (given_groups syntax.sections.constants)) ≡ None → head_of (domain_syntax_form syntax) ≡ None
+unfolding head_of head_typed
+no_constants syntax types h e = rw (types_given syntax, h, constants_given syntax, e) refl
+
+pub head_meant : (syntax : DomainSyntax) (types : KnownTypes) (objects : Objects) → types_of (name_groups (given_groups syntax.sections.types)) ≡ Some types →
+    objects_from (keys_of types.names) [] (name_groups (given_groups syntax.sections.constants)) ≡ Some objects →
+    head_of (domain_syntax_form syntax) ≡ Some (head syntax.name.text.now types objects)
+unfolding head_of head_typed domain_form
+head_meant syntax types objects h e = rw (types_given syntax, h, constants_given syntax, e) refl
+
+pub ruleset head_steps = (no_types, no_constants)
+
+pub no_head : (domain : DomainForm) → head_of domain ≡ None → domain_of domain ≡ None
+unfolding domain_of domain_headed
+no_head domain h = rw h refl
+
+pub with_head : (syntax : DomainSyntax) (head : Head) → head_of (domain_syntax_form syntax) ≡ Some head →
+    domain_of (domain_syntax_form syntax) ≡ domain_with (domain_syntax_form syntax) head (predicates_from [] (predicate_forms (given_predicates syntax.sections.predicates)))
+unfolding domain_of domain_headed
+with_head syntax head h = rw (h, predicates_given syntax) refl
+
+pub ruleset domain_head_steps = (no_head, with_head)
+
+pub no_predicates_meant : (domain : DomainForm) (head : Head) (predicates : Option Predicates) → predicates ≡ None → domain_with domain head predicates ≡ None
 unfolding domain_with
-no_predicates_meant syntax h = rw (meant_sections syntax, h) refl
+no_predicates_meant domain head predicates h = rw h refl
 
-pub no_actions_meant : (syntax : DomainSyntax) (predicates : Predicates) → predicates_from [] (predicate_forms (given_predicates syntax.sections.predicates)) ≡ Some predicates →
-    actions_from predicates [] (action_forms syntax.sections.actions.items) ≡ None → domain_of (domain_syntax_form syntax) ≡ None
+pub no_actions_meant : (syntax : DomainSyntax) (head : Head) (found : Option Predicates) (predicates : Predicates) → found ≡ Some predicates →
+    actions_from predicates [] (action_forms syntax.sections.actions.items) ≡ None → domain_with (domain_syntax_form syntax) head found ≡ None
 unfolding domain_with domain_form domain_sections_form
-no_actions_meant syntax predicates h e = rw (meant_sections syntax, h, e) refl
+no_actions_meant syntax head found predicates h e = rw (h, e) refl
 
-pub domain_meant : (syntax : DomainSyntax) (predicates : Predicates) (actions : Actions) →
-    predicates_from [] (predicate_forms (given_predicates syntax.sections.predicates)) ≡ Some predicates →
+pub domain_meant : (syntax : DomainSyntax) (head : Head) (found : Option Predicates) (predicates : Predicates) (actions : Actions) → found ≡ Some predicates →
     actions_from predicates [] (action_forms syntax.sections.actions.items) ≡ Some actions →
-    domain_of (domain_syntax_form syntax) ≡ Some (domain_value syntax.name.text.now predicates actions)
+    domain_with (domain_syntax_form syntax) head found ≡ Some (domain_value head predicates actions)
 unfolding domain_with domain_form domain_sections_form
-domain_meant syntax predicates actions h e = rw (meant_sections syntax, h, e) refl
+domain_meant syntax head found predicates actions h e = rw (h, e) refl
 
 pub ruleset domain_steps = (no_predicates_meant, no_actions_meant)

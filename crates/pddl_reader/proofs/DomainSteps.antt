@@ -1,20 +1,21 @@
 -- The definitions of domains, one equation for each case.
 
-use Rattle.std.proofs.Common.{◌≡◌, ℕ, ◌++◌, true, false, List, [], ◌∷◌, Option, Some, None, refl}
+use Rattle.std.proofs.Common.{◌≡◌, ℕ, ◌++◌, Bool, true, false, List, [], ◌∷◌, Option, Some, None, refl}
 use Rattle.std.proofs.lemmas.List.{map_push}
 use Rattle.std.specs.Global.{Vec}
 use Rattle.std.specs.Option.{option_and_then}
 use Rattle.pddl_reader.specs.declared.heads.FormulaHead.TheVariants.{And, Not, Reserved, Name, Other}
 use Rattle.pddl_reader.specs.declared.heads.DomainSection.{DomainSection}
-use Rattle.pddl_reader.specs.declared.heads.DomainSection.TheVariants.{Predicates, Action}
+use Rattle.pddl_reader.specs.declared.heads.DomainSection.TheVariants.{Requirements, Types, Constants, Predicates, Action}
 use Rattle.pddl_reader.specs.declared.syntax.PredicateSyntax.{PredicateSyntax}
 use Rattle.pddl_reader.specs.declared.syntax.ActionSyntax.{ActionSyntax}
+use Rattle.pddl_reader.specs.declared.syntax.NameGroup as groups
 use Rattle.pddl_reader.specs.Heads.{formula_head, domain_section}
 use Rattle.pddl_reader.specs.Keywords.{define_word, domain_word}
 use Rattle.pddl_reader.specs.Optional.{guard}
 use Rattle.pddl_reader.specs.Forms.{predicate_form, predicate_forms, action_syntax_form, action_forms, domain_sections_form}
 use Rattle.pddl_reader.specs.Trees.{Trees, none, word, list}
-use Rattle.pddl_reader.specs.Syntax.{PredicateForm, ActionForm, DomainForm, DomainSections, ended, end_of, first_list, behind_word, header_of, lists_of, predicate_of, predicate_in, action_of, no_domain_sections, with_predicates, with_action, is_domain_section_given, domain_section_by, domain_section_headed, domain_section_in, domain_sections_of, domain_form, domain_by, domain_body, domain_in, domain_syntax}
+use Rattle.pddl_reader.specs.Syntax.{NameGroup, PredicateForm, ActionForm, DomainForm, DomainSections, ended, keywords_of, typed_names, with_requirements, with_types, with_constants, end_of, first_list, behind_word, header_of, lists_of, predicate_of, predicate_in, action_of, no_domain_sections, with_predicates, with_action, is_domain_section_given, domain_section_by, domain_section_headed, domain_section_in, domain_sections_of, domain_form, domain_by, domain_body, domain_in, domain_syntax}
 use Rattle.pddl_reader.proofs.FormulaSteps.{head_is_name}
 use Rattle.pddl_reader.proofs.ListsOf.{lists_steps}
 
@@ -73,6 +74,32 @@ predicate_forms-push ps p = map_push predicate_form ps p
 
 pub ruleset predicates_steps = (lists_steps, no_predicates, predicate_forms-push)
 
+pub requirements_body : (given : DomainSections) (k : Trees) → keywords_of k ≡ Some tt → domain_section_by Requirements given k ≡ Some (with_requirements given)
+unfolding domain_section_by
+requirements_body given k h = rw h refl
+
+pub no_requirements_body : (given : DomainSections) (k : Trees) → keywords_of k ≡ None → domain_section_by Requirements given k ≡ None
+unfolding domain_section_by
+no_requirements_body given k h = rw h refl
+
+pub types_body : (given : DomainSections) (k : Trees) (value : List NameGroup) → typed_names [] k ≡ Some value →
+    domain_section_by Types given k ≡ Some (with_types given value)
+unfolding domain_section_by
+types_body given k value h = rw h refl
+
+pub no_types_body : (given : DomainSections) (k : Trees) → typed_names [] k ≡ None → domain_section_by Types given k ≡ None
+unfolding domain_section_by
+no_types_body given k h = rw h refl
+
+pub constants_body : (given : DomainSections) (k : Trees) (value : List NameGroup) → typed_names [] k ≡ Some value →
+    domain_section_by Constants given k ≡ Some (with_constants given value)
+unfolding domain_section_by
+constants_body given k value h = rw h refl
+
+pub no_constants_body : (given : DomainSections) (k : Trees) → typed_names [] k ≡ None → domain_section_by Constants given k ≡ None
+unfolding domain_section_by
+no_constants_body given k h = rw h refl
+
 pub predicates_body : (given : DomainSections) (k : Trees) (value : List PredicateForm) → lists_of predicate_in k ≡ Some value →
     domain_section_by Predicates given k ≡ Some (with_predicates given value)
 unfolding domain_section_by
@@ -95,13 +122,14 @@ pub action_forms-push : (actions : List ActionSyntax) (a : ActionSyntax) → act
 unfolding action_forms
 action_forms-push actions a = map_push action_syntax_form actions a
 
-pub with_action_form : (p : Option (Vec PredicateSyntax)) (old new : Vec ActionSyntax) (a : ActionSyntax) → new.items ≡ old.items ++ a ∷ [] →
-    domain_sections_form (record { predicates = p; actions = new })
-    ≡ with_action (domain_sections_form (record { predicates = p; actions = old })) (action_syntax_form a)
+pub with_action_form : (r : Bool) (t c : Option (Vec groups.NameGroup)) (p : Option (Vec PredicateSyntax)) (old new : Vec ActionSyntax) (a : ActionSyntax) →
+    new.items ≡ old.items ++ a ∷ [] →
+    domain_sections_form (record { requirements = r; types = t; constants = c; predicates = p; actions = new })
+    ≡ with_action (domain_sections_form (record { requirements = r; types = t; constants = c; predicates = p; actions = old })) (action_syntax_form a)
 unfolding domain_sections_form
-with_action_form p old new a h = rw (h, action_forms-push old.items a) refl
+with_action_form r t c p old new a h = rw (h, action_forms-push old.items a) refl
 
-pub ruleset body_steps = (with_action_form, predicates_body, no_predicates_body, action_body, no_action_body, action_forms-push)
+pub ruleset body_steps = (requirements_body, no_requirements_body, types_body, no_types_body, constants_body, no_constants_body, with_action_form, predicates_body, no_predicates_body, action_body, no_action_body, action_forms-push)
 
 pub section_none : (given : DomainSections) → domain_section_in given none ≡ None
 unfolding domain_section_in
@@ -162,7 +190,7 @@ unfolding sections_behind
 some_sections_behind given f = refl
 
 pub no_sections_form : (actions : Vec ActionSyntax) → actions.items ≡ [] →
-    domain_sections_form (record { predicates = None; actions = actions }) ≡ no_domain_sections
+    domain_sections_form (record { requirements = false; types = None; constants = None; predicates = None; actions = actions }) ≡ no_domain_sections
 unfolding no_domain_sections domain_sections_form action_forms
 no_sections_form actions h = rw h refl
 

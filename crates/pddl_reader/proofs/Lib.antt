@@ -4,6 +4,14 @@ pub mod ListSteps
 pub mod FormulaSteps
 pub mod ActionSteps
 pub mod ListsOf
+pub mod TypedSteps
+pub mod Through
+pub mod TypeTests
+pub mod TypeSteps
+pub mod ObjectSteps
+pub mod KeptObjects
+pub mod MoreObjects
+pub mod ExtendedDomains
 pub mod DomainSteps
 pub mod ProblemSteps
 pub mod TableSteps

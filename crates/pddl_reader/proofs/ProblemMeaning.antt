@@ -8,10 +8,11 @@ use Rattle.strips_task.specs.declared.atoms.GroundCond.{GroundCond}
 use Rattle.pddl_reader.specs.declared.syntax.LiteralSyntax.{LiteralSyntax}
 use Rattle.pddl_reader.specs.declared.syntax.ProblemSyntax.{ProblemSyntax}
 use Rattle.pddl_reader.specs.Optional.{followed_by, with_front}
-use Rattle.pddl_reader.specs.Forms.{literal_form, literal_forms, given_literals, problem_syntax_form}
+use Rattle.pddl_reader.specs.Forms.{literal_form, literal_forms, given_groups, given_literals, name_groups, problem_syntax_form}
+use Rattle.pddl_reader.specs.declared.syntax.NameGroup as groups
 use Rattle.pddl_reader.specs.Declarations.{Predicates, predicate_number}
 use Rattle.pddl_reader.specs.Domain.{DomainValue}
-use Rattle.pddl_reader.specs.Problem.{ground_condition_of, ground_conditions_of, initial_before, initial_of, task_value, task_with, problem_of}
+use Rattle.pddl_reader.specs.Problem.{ground_condition_of, ground_conditions_of, initial_before, initial_of, task_value, task_with, domain_extended, problem_within, problem_of}
 use Rattle.pddl_reader.specs.Syntax.{LiteralForm}
 use Rattle.pddl_reader.proofs.Items.{item_steps}
 use Rattle.pddl_reader.proofs.ListsOf.{with_item, item_none, item_some, front_none, with_front-followed_by}
@@ -89,34 +90,54 @@ after_negated front given others h = rw h refl
 
 pub ruleset initial_steps = (item_steps, front_none, initial_item, initial_end, after_none, after_positive, after_negated)
 
-pub meant_parts : (domain : DomainValue) (syntax : ProblemSyntax) → problem_of domain (problem_syntax_form syntax)
+pub meant_parts : (domain : DomainValue) (syntax : ProblemSyntax) → problem_within (problem_syntax_form syntax) (Some domain)
     ≡ task_with domain syntax.name.text.now (initial_of domain.predicates (literal_forms (given_literals syntax.init)))
     (ground_conditions_of domain.predicates (literal_forms syntax.goal.items))
-unfolding problem_of given_literals literal_forms
+unfolding problem_within given_literals literal_forms
 meant_parts domain syntax = by syntax.init
   where
     by : (init : Option (Vec LiteralSyntax)) →
-        problem_of domain (problem_syntax_form (record { name = syntax.name; domain = syntax.domain; init = init; goal = syntax.goal }))
+        problem_within (problem_syntax_form (record syntax { init = init })) (Some domain)
         ≡ task_with domain syntax.name.text.now (initial_of domain.predicates (literal_forms (given_literals init)))
         (ground_conditions_of domain.predicates (literal_forms syntax.goal.items))
     by None = refl
     by (Some v) = refl
 
 pub no_initial : (domain : DomainValue) (syntax : ProblemSyntax) → initial_of domain.predicates (literal_forms (given_literals syntax.init)) ≡ None →
-    problem_of domain (problem_syntax_form syntax) ≡ None
+    problem_within (problem_syntax_form syntax) (Some domain) ≡ None
 unfolding task_with
 no_initial domain syntax h = rw (meant_parts domain syntax, h) refl
 
 pub no_goal : (domain : DomainValue) (syntax : ProblemSyntax) (init : List Atom) → initial_of domain.predicates (literal_forms (given_literals syntax.init)) ≡ Some init →
-    ground_conditions_of domain.predicates (literal_forms syntax.goal.items) ≡ None → problem_of domain (problem_syntax_form syntax) ≡ None
+    ground_conditions_of domain.predicates (literal_forms syntax.goal.items) ≡ None → problem_within (problem_syntax_form syntax) (Some domain) ≡ None
 unfolding task_with
 no_goal domain syntax init h e = rw (meant_parts domain syntax, h, e) refl
 
 pub problem_meant : (domain : DomainValue) (syntax : ProblemSyntax) (init : List Atom) (goal : List GroundCond) →
     initial_of domain.predicates (literal_forms (given_literals syntax.init)) ≡ Some init →
     ground_conditions_of domain.predicates (literal_forms syntax.goal.items) ≡ Some goal →
-    problem_of domain (problem_syntax_form syntax) ≡ Some (task_value domain syntax.name.text.now init goal)
+    problem_within (problem_syntax_form syntax) (Some domain) ≡ Some (task_value domain syntax.name.text.now init goal)
 unfolding task_with
 problem_meant domain syntax init goal h e = rw (meant_parts domain syntax, h, e) refl
 
 pub ruleset problem_steps = (no_initial, no_goal)
+
+pub objects_given : (syntax : ProblemSyntax) → (problem_syntax_form syntax).objects ≡ name_groups (given_groups syntax.objects)
+unfolding given_groups name_groups
+objects_given syntax = by syntax.objects
+  where
+    by : (objects : Option (Vec groups.NameGroup)) → (problem_syntax_form (record syntax { objects = objects })).objects ≡ name_groups (given_groups objects)
+    by None = refl
+    by (Some v) = refl
+
+pub not_extended : (domain : DomainValue) (syntax : ProblemSyntax) → domain_extended domain (name_groups (given_groups syntax.objects)) ≡ None →
+    problem_of domain (problem_syntax_form syntax) ≡ None
+unfolding problem_of problem_within
+not_extended domain syntax h = rw (objects_given syntax, h) refl
+
+pub when_extended : (domain more : DomainValue) (syntax : ProblemSyntax) → domain_extended domain (name_groups (given_groups syntax.objects)) ≡ Some more →
+    problem_of domain (problem_syntax_form syntax) ≡ problem_within (problem_syntax_form syntax) (Some more)
+unfolding problem_of
+when_extended domain more syntax h = rw (objects_given syntax, h) refl
+
+pub ruleset extended_steps = (not_extended, when_extended)

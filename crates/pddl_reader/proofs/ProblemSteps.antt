@@ -1,18 +1,19 @@
 -- The definitions of problems, one equation for each case.
 
-use Rattle.std.proofs.Common.{◌≡◌, ℕ, true, false, List, [], Option, Some, None, unwrap_or, refl}
+use Rattle.std.proofs.Common.{◌≡◌, ℕ, Bool, true, false, List, [], Option, Some, None, unwrap_or, refl}
 use Rattle.std.specs.Global.{Vec}
 use Rattle.std.specs.Option.{option_map, option_and_then}
 use Rattle.pddl_reader.specs.declared.heads.ProblemSection.{ProblemSection}
-use Rattle.pddl_reader.specs.declared.heads.ProblemSection.TheVariants.{Domain, Init, Goal}
+use Rattle.pddl_reader.specs.declared.heads.ProblemSection.TheVariants.{Domain, Requirements, Objects, Init, Goal, Metric, Length}
 use Rattle.pddl_reader.specs.declared.syntax.LiteralSyntax.{LiteralSyntax}
+use Rattle.pddl_reader.specs.declared.syntax.NameGroup as groups
 use Rattle.pddl_reader.specs.declared.walk.NameWord.{NameWord}
 use Rattle.pddl_reader.specs.Heads.{problem_section}
 use Rattle.pddl_reader.specs.Keywords.{define_word, problem_word}
 use Rattle.pddl_reader.specs.Optional.{guard}
-use Rattle.pddl_reader.specs.Forms.{literal_forms, problem_sections_form}
+use Rattle.pddl_reader.specs.Forms.{literal_forms, name_groups, problem_sections_form}
 use Rattle.pddl_reader.specs.Trees.{Trees, none, word, list}
-use Rattle.pddl_reader.specs.Syntax.{LiteralForm, ProblemForm, ProblemSections, ended, end_of, first_list, behind_word, lone_name, header_of, lists_of, literal_of, init_item_in, formula_in, goal_of, no_problem_sections, with_domain, with_init, with_goal, is_problem_section_given, problem_section_by, problem_section_headed, problem_section_in, problem_sections_of, problem_form, problem_by, problem_body, problem_in, problem_syntax}
+use Rattle.pddl_reader.specs.Syntax.{NameGroup, keywords_of, typed_names, with_problem_requirements, with_objects, with_metric, with_length, LiteralForm, ProblemForm, ProblemSections, ended, end_of, first_list, behind_word, lone_name, header_of, lists_of, literal_of, init_item_in, formula_in, goal_of, no_problem_sections, with_domain, with_init, with_goal, is_problem_section_given, problem_section_by, problem_section_headed, problem_section_in, problem_sections_of, problem_form, problem_by, problem_body, problem_in, problem_syntax}
 use Rattle.pddl_reader.proofs.FormulaSteps.{no_literals, literal_forms-push}
 use Rattle.pddl_reader.proofs.ListsOf.{lists_steps}
 
@@ -67,6 +68,31 @@ pub no_domain_body : (given : ProblemSections) (k : Trees) → lone_name k ≡ N
 unfolding problem_section_by
 no_domain_body given k h = rw h refl
 
+pub requirements_body : (given : ProblemSections) (k : Trees) → keywords_of k ≡ Some tt → problem_section_by Requirements given k ≡ Some (with_problem_requirements given)
+unfolding problem_section_by
+requirements_body given k h = rw h refl
+
+pub no_requirements_body : (given : ProblemSections) (k : Trees) → keywords_of k ≡ None → problem_section_by Requirements given k ≡ None
+unfolding problem_section_by
+no_requirements_body given k h = rw h refl
+
+pub objects_body : (given : ProblemSections) (k : Trees) (value : List NameGroup) → typed_names [] k ≡ Some value →
+    problem_section_by Objects given k ≡ Some (with_objects given value)
+unfolding problem_section_by
+objects_body given k value h = rw h refl
+
+pub no_objects_body : (given : ProblemSections) (k : Trees) → typed_names [] k ≡ None → problem_section_by Objects given k ≡ None
+unfolding problem_section_by
+no_objects_body given k h = rw h refl
+
+pub metric_body : (given : ProblemSections) (k : Trees) → problem_section_by Metric given k ≡ Some (with_metric given)
+unfolding problem_section_by
+metric_body given k = refl
+
+pub length_body : (given : ProblemSections) (k : Trees) → problem_section_by Length given k ≡ Some (with_length given)
+unfolding problem_section_by
+length_body given k = refl
+
 pub init_body : (given : ProblemSections) (k : Trees) (value : List LiteralForm) → lists_of init_item_in k ≡ Some value →
     problem_section_by Init given k ≡ Some (with_init given value)
 unfolding problem_section_by
@@ -85,7 +111,7 @@ pub no_goal_body : (given : ProblemSections) (k : Trees) → goal_of k ≡ None 
 unfolding problem_section_by
 no_goal_body given k h = rw h refl
 
-pub ruleset body_steps = (domain_body, no_domain_body, init_body, no_init_body, goal_body, no_goal_body)
+pub ruleset body_steps = (requirements_body, no_requirements_body, objects_body, no_objects_body, metric_body, length_body, domain_body, no_domain_body, init_body, no_init_body, goal_body, no_goal_body)
 
 pub section_none : (given : ProblemSections) → problem_section_in given none ≡ None
 unfolding problem_section_in
@@ -145,7 +171,7 @@ pub some_sections_behind : (given : ProblemSections) (f : Trees) → sections_be
 unfolding sections_behind
 some_sections_behind given f = refl
 
-pub no_sections_form : problem_sections_form (record { domain = None; init = None; goal = None }) ≡ no_problem_sections
+pub no_sections_form : problem_sections_form (record { domain = None; requirements = false; objects = None; init = None; goal = None; metric = false; length = false }) ≡ no_problem_sections
 unfolding problem_sections_form no_problem_sections
 no_sections_form = refl
 
@@ -191,21 +217,30 @@ pub by_no_sections : (name : List ℕ) → problem_by (Some name) None ≡ None
 unfolding problem_by
 by_no_sections name = refl
 
-pub by_no_domain : (name : List ℕ) (init goal : Option (Vec LiteralSyntax)) →
-    problem_by (Some name) (Some (problem_sections_form (record { domain = None; init = init; goal = goal }))) ≡ None
+pub by_no_domain : (name : List ℕ) (r m l : Bool) (objects : Option (Vec groups.NameGroup)) (init goal : Option (Vec LiteralSyntax)) →
+    problem_by (Some name) (Some (problem_sections_form
+    (record { domain = None; requirements = r; objects = objects; init = init; goal = goal; metric = m; length = l }))) ≡ None
 unfolding problem_by problem_sections_form problem_form
-by_no_domain name init goal = refl
+by_no_domain name r m l objects init goal = refl
 
-pub by_no_goal : (name : List ℕ) (domain : NameWord) (init : Option (Vec LiteralSyntax)) →
-    problem_by (Some name) (Some (problem_sections_form (record { domain = Some domain; init = init; goal = None }))) ≡ None
+pub by_no_goal : (name : List ℕ) (r m l : Bool) (domain : NameWord) (objects : Option (Vec groups.NameGroup)) (init : Option (Vec LiteralSyntax)) →
+    problem_by (Some name) (Some (problem_sections_form
+    (record { domain = Some domain; requirements = r; objects = objects; init = init; goal = None; metric = m; length = l }))) ≡ None
 unfolding problem_by problem_sections_form problem_form
-by_no_goal name domain init = refl
+by_no_goal name r m l domain objects init = refl
 
-pub by_all : (name : List ℕ) (domain : NameWord) (init : Option (Vec LiteralSyntax)) (goal : Vec LiteralSyntax) →
-    problem_by (Some name) (Some (problem_sections_form (record { domain = Some domain; init = init; goal = Some goal })))
-    ≡ Some (record { name = name; domain = domain.text.now; init = unwrap_or (option_map (λ v. literal_forms v.items) init) []; goal = literal_forms goal.items })
+pub by_all : (name : List ℕ) (r m l : Bool) (domain : NameWord) (objects : Option (Vec groups.NameGroup)) (init : Option (Vec LiteralSyntax)) (goal : Vec LiteralSyntax) →
+    problem_by (Some name) (Some (problem_sections_form
+    (record { domain = Some domain; requirements = r; objects = objects; init = init; goal = Some goal; metric = m; length = l })))
+    ≡ Some (record {
+      name = name;
+      domain = domain.text.now;
+      objects = unwrap_or (option_map (λ v. name_groups v.items) objects) [];
+      init = unwrap_or (option_map (λ v. literal_forms v.items) init) [];
+      goal = literal_forms goal.items;
+    })
 unfolding problem_by problem_sections_form problem_form
-by_all name domain init goal = refl
+by_all name r m l domain objects init goal = refl
 
 pub ruleset problem_steps = (problem_behind, body_behind_none, body_behind_some, no_body_list, body_list, by_no_name, by_no_sections, by_no_domain, by_no_goal, by_all)
 

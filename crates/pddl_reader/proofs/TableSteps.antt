@@ -4,11 +4,13 @@ use Rattle.std.proofs.Common.{◌≡◌, ℕ, ◌<◌, ◌≤◌, ◌&&◌, Bool
 use Rattle.std.proofs.lemmas.Bool.{le-ltb, lt-ltb}
 use Rattle.std.proofs.lemmas.Option.{slice_get-map}
 use Rattle.std.specs.List.{slice_get}
+use Rattle.std.specs.Map.{values_of}
 use Rattle.pddl_words.specs.Words.{folded}
 use Rattle.strips_task.specs.Names.{number_named}
 use Rattle.pddl_reader.specs.Optional.{guard}
 use Rattle.pddl_reader.specs.Declarations.{Predicates, may_declare, takes_terms, predicate_taking, predicate_number}
 use Rattle.pddl_reader.specs.Syntax.{AtomForm}
+use Rattle.pddl_reader.specs.Tables.{value_at, value_named}
 
 -- a name that an entry has may not be declared
 pub may_not_again : {V : Type 0} (most : ℕ) (table : List (List ℕ × V)) (name : List ℕ) → is_some (number_named table name) ≡ true → may_declare most table name ≡ false
@@ -58,3 +60,12 @@ pub places_counted : (predicates : Predicates) (number count : ℕ) (name : List
     slice_get predicates number ≡ Some (name, places) → takes_terms predicates number count ≡ nat_eq (length places) count
 unfolding takes_terms
 places_counted predicates number count name places h = rw (slice_get-map (λ (e : List ℕ × List (List ℕ)). e.1) predicates number, h) refl
+
+pub value_unnamed : {V : Type 0} (table : List (List ℕ × V)) (name : List ℕ) → number_named table name ≡ None → value_named table name ≡ None
+unfolding value_named value_at
+value_unnamed table name h = rw h refl
+
+pub value_numbered : {V : Type 0} (table : List (List ℕ × V)) (name key : List ℕ) (number : ℕ) (value : V) → number_named table name ≡ Some number →
+    slice_get table number ≡ Some (key, value) → value_named table name ≡ Some value
+unfolding value_named value_at
+value_numbered {V} table name key number value h e = rw (h, slice_get-map (λ (entry : List ℕ × V). entry.1) table number, e) refl

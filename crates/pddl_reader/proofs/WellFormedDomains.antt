@@ -1,6 +1,6 @@
 -- A domain that syntax stands for is well formed.
 
-use Rattle.std.proofs.Common.{◌≡◌, ℕ, ◌≤◌, ◌++◌, Bool, true, false, List, [], ◌∷◌, length, Option, Some, None, refl, subst, arith}
+use Rattle.std.proofs.Common.{◌≡◌, ℕ, ◌≤◌, ◌++◌, Bool, true, false, List, [], ◌∷◌, length, Option, Some, None, refl, subst, sym, ◌∙◌, arith}
 use Rattle.std.proofs.lemmas.Bool.{eqb-true}
 use Rattle.std.proofs.lemmas.List.{map-append}
 use Rattle.std.proofs.lemmas.List.Folds.{list_all-append}
@@ -13,13 +13,19 @@ use Rattle.strips_task.specs.declared.actions.Cond.{Cond}
 use Rattle.strips_task.specs.declared.actions.Pattern.{Pattern}
 use Rattle.strips_task.specs.declared.tasks.TaskParts.{TaskParts}
 use Rattle.strips_task.specs.Names.{number_named, are_distinct}
-use Rattle.strips_task.specs.Types.{IsTypeTree, ancestor}
+use Rattle.strips_task.specs.Types.{IsTypeTree}
 use Rattle.strips_task.specs.WellFormed.{IsWellFormed, are_variables, are_fitting, is_pattern, is_atom, is_action}
 use Rattle.strips_task.proofs.NameNumbers.{entries_distinct}
 use Rattle.pddl_reader.specs.declared.resolution.actions.Effects.{Effects}
 use Rattle.pddl_reader.specs.Optional.{guard, followed_by}
 use Rattle.pddl_reader.specs.Declarations.{Predicates, may_declare, declared, are_as_many, takes_terms, predicate_taking, predicate_number, condition, condition_of, conditions_of}
-use Rattle.pddl_reader.specs.Domain.{DomainValue, with_predicate, predicates_from, no_effects, lone_effect, both_effects, effects_before, effects_of, action_with, action_meant, Actions, declared_action, with_action_of, actions_from, domain_value, domain_with, domain_of, bare_task}
+use Rattle.pddl_reader.specs.Domain.{DomainValue, with_predicate, predicates_from, no_effects, lone_effect, both_effects, effects_before, effects_of, action_with, action_meant, Actions, declared_action, with_action_of, actions_from, head, head_typed, head_of, domain_value, domain_with, bare_task}
+use Rattle.pddl_reader.specs.Domains.{IsDomain}
+use Rattle.pddl_reader.specs.Objects.{Objects, objects_from}
+use Rattle.pddl_reader.specs.TypeOrder.{types_of}
+use Rattle.pddl_reader.specs.declared.resolution.domain.Head.{Head}
+use Rattle.pddl_reader.specs.declared.resolution.types.KnownTypes.{KnownTypes}
+use Rattle.pddl_reader.proofs.KeptObjects.{AreObjects, AreKnown, known_types, objects_kept, no_objects}
 use Rattle.pddl_reader.specs.Syntax.{AtomForm, LiteralForm, PredicateForm, ActionForm, DomainForm}
 use Rattle.pddl_reader.proofs.DeclarationSteps.{may_declare_new, may_declare_length}
 
@@ -54,29 +60,29 @@ unfolding declared
 kept_declared test table more name value kept passes h = kept_declared_if test table more name value (may_declare 4096 table name) refl kept passes h
 
 -- a list of no variables is allowed
-no_variables : are_variables (0 ∷ []) [] ≡ true
+no_variables : (parents : List ℕ) → are_variables parents [] ≡ true
 unfolding are_variables
-no_variables = refl
+no_variables parents = refl
 
-predicates_next : (next : Option Predicates) (ps : List PredicateForm) (more : Predicates) →
-    ((t : Predicates) → next ≡ Some t → IsKept (are_variables (0 ∷ [])) t) →
-    ((t : Predicates) → IsKept (are_variables (0 ∷ [])) t → predicates_from t ps ≡ Some more → IsKept (are_variables (0 ∷ [])) more) →
-    option_and_then (λ t. predicates_from t ps) next ≡ Some more → IsKept (are_variables (0 ∷ [])) more
-predicates_next None ps more kept rest h = cc
-predicates_next (Some t) ps more kept rest h = rest t (kept t refl) h
+predicates_next : (parents : List ℕ) (next : Option Predicates) (ps : List PredicateForm) (more : Predicates) →
+    ((t : Predicates) → next ≡ Some t → IsKept (are_variables parents) t) →
+    ((t : Predicates) → IsKept (are_variables parents) t → predicates_from t ps ≡ Some more → IsKept (are_variables parents) more) →
+    option_and_then (λ t. predicates_from t ps) next ≡ Some more → IsKept (are_variables parents) more
+predicates_next parents None ps more kept rest h = cc
+predicates_next parents (Some t) ps more kept rest h = rest t (kept t refl) h
 
 -- predicates are declared in order
-kept_predicates : (table : Predicates) (ps : List PredicateForm) (more : Predicates) → IsKept (are_variables (0 ∷ [])) table →
-    predicates_from table ps ≡ Some more → IsKept (are_variables (0 ∷ [])) more
+kept_predicates : (parents : List ℕ) (table : Predicates) (ps : List PredicateForm) (more : Predicates) → IsKept (are_variables parents) table →
+    predicates_from table ps ≡ Some more → IsKept (are_variables parents) more
 unfolding predicates_from with_predicate
-kept_predicates table [] more kept h =
-    let P : Predicates → Type 0 = λ t. IsKept (are_variables (0 ∷ [])) t in
+kept_predicates parents table [] more kept h =
+    let P : Predicates → Type 0 = λ t. IsKept (are_variables parents) t in
     let e : table ≡ more = cc in
     subst P e kept
-kept_predicates table (p ∷ ps) more kept h =
-    predicates_next (declared 4096 table (folded p.name) []) ps more
-    (λ t is. kept_declared (are_variables (0 ∷ [])) table t (folded p.name) [] kept no_variables is)
-    (λ t k e. kept_predicates t ps more k e)
+kept_predicates parents table (p ∷ ps) more kept h =
+    predicates_next parents (declared 4096 table (folded p.name) []) ps more
+    (λ t is. kept_declared (are_variables parents) table t (folded p.name) [] kept (no_variables parents) is)
+    (λ t k e. kept_predicates parents t ps more k e)
     h
 
 -- no terms fit where none are due
@@ -226,59 +232,79 @@ kept_actions task table (a ∷ forms) more kept h =
     (λ t k e. kept_actions task t forms more k e)
     h
 
--- `object` alone is a tree of types
-object_tree : IsTypeTree (0 ∷ [])
-unfolding ancestor
-object_tree = record {
-  has_object = omega arith;
-  object_on_top = refl;
-  parents_known = λ k d lt. let e : k ≡ 0 = omega arith in rw e (omega arith);
-  below_object = λ type lt. (0, omega arith);
+-- what a domain declares before its predicates is well formed
+pub record IsHead (head : Head) : Type 0 where
+  pub tree : IsTypeTree head.parents
+  pub few_types : length head.parents ≤ 1025
+  pub types_named : length (keys_of head.types) ≡ length head.parents
+  pub objects : AreObjects (length head.parents) head.objects
+
+well_formed : (head : Head) (predicates : Predicates) (actions : Actions) → IsHead head → IsKept (are_variables head.parents) predicates →
+    IsKept (is_action (bare_task (domain_value head predicates actions))) actions → IsDomain (domain_value head predicates actions)
+well_formed head predicates actions h p a = record {
+  fits = record {
+    types_form_a_tree = h.tree;
+    few_types = h.few_types;
+    few_objects = h.objects.few;
+    few_predicates = p.few;
+    few_actions = a.few;
+    objects_distinct = h.objects.distinct;
+    predicates_distinct = p.distinct;
+    actions_distinct = a.distinct;
+    objects_typed = h.objects.typed;
+    predicates_typed = p.passed;
+    actions_fit = a.passed;
+    initial_atoms_fit = refl;
+    goal_fits = refl;
+  };
+  types_named = h.types_named;
 }
 
-well_formed : (name : List ℕ) (predicates : Predicates) (actions : Actions) → IsKept (are_variables (0 ∷ [])) predicates →
-    IsKept (is_action (bare_task (domain_value name predicates actions))) actions → IsWellFormed (bare_task (domain_value name predicates actions))
-well_formed name predicates actions p a = record {
-  types_form_a_tree = object_tree;
-  few_types = omega arith;
-  few_objects = omega arith;
-  few_predicates = p.few;
-  few_actions = a.few;
-  objects_distinct = no_names_distinct;
-  predicates_distinct = p.distinct;
-  actions_distinct = a.distinct;
-  objects_typed = refl;
-  predicates_typed = p.passed;
-  actions_fit = a.passed;
-  initial_atoms_fit = refl;
-  goal_fits = refl;
-}
+domain_by_actions : (head : Head) (predicates : Predicates) (actions : Option Actions) (d : DomainValue) → IsHead head →
+    IsKept (are_variables head.parents) predicates →
+    ((t : Actions) → actions ≡ Some t → IsKept (is_action (bare_task (domain_value head predicates t))) t) →
+    option_map (domain_value head predicates) actions ≡ Some d → IsDomain d
+domain_by_actions head predicates None d is kept fits h = cc
+domain_by_actions head predicates (Some t) d is kept fits h =
+    let P : DomainValue → Type 0 = λ d. IsDomain d in
+    let e : domain_value head predicates t ≡ d = cc in
+    subst P e (well_formed head predicates t is kept (fits t refl))
 
-domain_by_actions : (name : List ℕ) (predicates : Predicates) (forms : List ActionForm) (actions : Option Actions) (d : DomainValue) →
-    IsKept (are_variables (0 ∷ [])) predicates →
-    ((t : Actions) → actions ≡ Some t → IsKept (is_action (bare_task (domain_value name predicates t))) t) →
-    option_map (domain_value name predicates) actions ≡ Some d → IsWellFormed (bare_task d)
-domain_by_actions name predicates forms None d kept fits h = cc
-domain_by_actions name predicates forms (Some t) d kept fits h =
-    let P : DomainValue → Type 0 = λ d. IsWellFormed (bare_task d) in
-    let e : domain_value name predicates t ≡ d = cc in
-    subst P e (well_formed name predicates t kept (fits t refl))
+actions_kept : (head : Head) (predicates : Predicates) (forms : List ActionForm) (actions : Actions) → actions_from predicates [] forms ≡ Some actions →
+    IsKept (is_action (bare_task (domain_value head predicates actions))) actions
+actions_kept head predicates forms actions h =
+    kept_actions (bare_task (domain_value head predicates actions)) [] forms actions (record { distinct = no_names_distinct; few = omega arith; passed = refl }) h
 
-actions_kept : (name : List ℕ) (predicates : Predicates) (forms : List ActionForm) (actions : Actions) → actions_from predicates [] forms ≡ Some actions →
-    IsKept (is_action (bare_task (domain_value name predicates actions))) actions
-actions_kept name predicates forms actions h =
-    kept_actions (bare_task (domain_value name predicates actions)) [] forms actions (record { distinct = no_names_distinct; few = omega arith; passed = refl }) h
-
-domain_by_predicates : (domain : DomainForm) (predicates : Option Predicates) (d : DomainValue) →
-    ((p : Predicates) → predicates ≡ Some p → IsKept (are_variables (0 ∷ [])) p) → domain_with domain predicates ≡ Some d → IsWellFormed (bare_task d)
+domain_by_predicates : (domain : DomainForm) (head : Head) (predicates : Option Predicates) (d : DomainValue) → IsHead head →
+    ((p : Predicates) → predicates ≡ Some p → IsKept (are_variables head.parents) p) → domain_with domain head predicates ≡ Some d → IsDomain d
 unfolding domain_with
-domain_by_predicates domain None d kept h = cc
-domain_by_predicates domain (Some p) d kept h =
-    domain_by_actions domain.name p domain.actions (actions_from p [] domain.actions) d (kept p refl) (actions_kept domain.name p domain.actions) h
+domain_by_predicates domain head None d is kept h = cc
+domain_by_predicates domain head (Some p) d is kept h =
+    domain_by_actions head p (actions_from p [] domain.actions) d is (kept p refl) (actions_kept head p domain.actions) h
+
+head_by_objects : (name : List ℕ) (types : KnownTypes) (objects : Option Objects) (found : Head) → AreKnown types →
+    ((o : Objects) → objects ≡ Some o → AreObjects (length types.parents) o) → option_map (head name types) objects ≡ Some found → IsHead found
+head_by_objects name types None found known kept h = cc
+head_by_objects name types (Some o) found known kept h =
+    let e : head name types o ≡ found = cc in
+    subst IsHead e (record { tree = known.tree; few_types = known.few; types_named = known.named; objects = kept o refl })
+
+head_by_types : (domain : DomainForm) (types : Option KnownTypes) (found : Head) → ((t : KnownTypes) → types ≡ Some t → AreKnown t) →
+    head_typed domain types ≡ Some found → IsHead found
+unfolding head_typed
+head_by_types domain None found known h = cc
+head_by_types domain (Some t) found known h =
+    let k = known t refl in
+    head_by_objects domain.name t (objects_from (keys_of t.names) [] domain.constants) found k
+    (λ o e. objects_kept (length t.parents) (keys_of t.names) [] domain.constants o k.named (no_objects (length t.parents)) e) h
+
+pub head_well_formed : (domain : DomainForm) (head : Head) → head_of domain ≡ Some head → IsHead head
+unfolding head_of
+head_well_formed domain head h = head_by_types domain (types_of domain.types) head (known_types domain.types) h
 
 -- the domain that syntax stands for is well formed
-pub domain_of-well_formed : (domain : DomainForm) (d : DomainValue) → domain_of domain ≡ Some d → IsWellFormed (bare_task d)
-unfolding domain_of
-domain_of-well_formed domain d h =
-    domain_by_predicates domain (predicates_from [] domain.predicates) d
-    (λ p e. kept_predicates [] domain.predicates p (record { distinct = no_names_distinct; few = omega arith; passed = refl }) e) h
+pub domain_well_formed : (domain : DomainForm) (head : Head) (predicates : Option Predicates) (d : DomainValue) → head_of domain ≡ Some head →
+    predicates ≡ predicates_from [] domain.predicates → domain_with domain head predicates ≡ Some d → IsDomain d
+domain_well_formed domain head predicates d h is e =
+    domain_by_predicates domain head predicates d (head_well_formed domain head h)
+    (λ p k. kept_predicates head.parents [] domain.predicates p (record { distinct = no_names_distinct; few = omega arith; passed = refl }) (sym is ∙ k)) e

@@ -1,6 +1,7 @@
 -- The domain that syntax stands for (PDDL 2.1, Fox and Long 2003, sections 2 and 3; the limits are this validator's choice).
 
-use Rattle.std.specs.Prelude.{ℕ, List, [], ◌∷◌, ◌++◌, codes, Option, Some, None, if◌then◌else◌}
+use Rattle.std.specs.Prelude.{ℕ, List, [], ◌∷◌, ◌++◌, Option, Some, None, if◌then◌else◌}
+use Rattle.std.specs.Map.{keys_of}
 use Rattle.std.specs.Option.{option_map, option_and_then}
 use Rattle.pddl_words.specs.Words.{folded}
 use Rattle.strips_task.specs.declared.actions.Action.{Action}
@@ -8,6 +9,10 @@ use Rattle.strips_task.specs.declared.actions.Cond.{Cond}
 use Rattle.strips_task.specs.declared.tasks.TaskParts.{TaskParts}
 use Rattle.strips_task.specs.WellFormed.{most_predicates, most_actions}
 use Rattle.pddl_reader.specs.declared.resolution.actions.Effects.{Effects}
+use Rattle.pddl_reader.specs.declared.resolution.domain.Head.{Head}
+use Rattle.pddl_reader.specs.declared.resolution.types.KnownTypes.{KnownTypes}
+use Rattle.pddl_reader.specs.Objects.{Objects, objects_from}
+use Rattle.pddl_reader.specs.TypeOrder.{types_of}
 use Rattle.pddl_reader.specs.Declarations.{Predicates, declared, condition_of, conditions_of}
 use Rattle.pddl_reader.specs.Syntax.{LiteralForm, PredicateForm, ActionForm, DomainForm}
 
@@ -82,19 +87,41 @@ actions_from predicates table [] = Some table
 actions_from predicates table (action ∷ actions) =
     option_and_then (λ more. actions_from predicates more actions) (with_action_of predicates table action)
 
--- a domain whose one type is `object`
-abbrev pub domain_value : List ℕ → Predicates → Actions → DomainValue
-domain_value name predicates actions =
-    record { name = folded name; types = codes "object" ∷ []; parents = 0 ∷ []; objects = []; predicates = predicates; actions = actions }
+-- what a domain declares before its predicates
+abbrev pub head : List ℕ → KnownTypes → Objects → Head
+head name types objects = record { name = folded name; types = types.names; parents = types.parents; objects = objects }
+
+-- the types of a domain, and its constants
+unfoldable pub head_typed : DomainForm → Option KnownTypes → Option Head
+head_typed domain None = None
+head_typed domain (Some types) = option_map (head domain.name types) (objects_from (keys_of types.names) [] domain.constants)
+
+unfoldable pub head_of : DomainForm → Option Head
+head_of domain = head_typed domain (types_of domain.types)
+
+-- a domain of these parts
+abbrev pub domain_value : Head → Predicates → Actions → DomainValue
+domain_value head predicates actions = record {
+  name = head.name;
+  types = keys_of head.types;
+  parents = head.parents;
+  objects = head.objects;
+  predicates = predicates;
+  actions = actions;
+}
 
 -- the domain with these predicates
-unfoldable pub domain_with : DomainForm → Option Predicates → Option DomainValue
-domain_with domain None = None
-domain_with domain (Some predicates) = option_map (domain_value domain.name predicates) (actions_from predicates [] domain.actions)
+unfoldable pub domain_with : DomainForm → Head → Option Predicates → Option DomainValue
+domain_with domain head None = None
+domain_with domain head (Some predicates) = option_map (domain_value head predicates) (actions_from predicates [] domain.actions)
 
--- the domain that syntax stands for, where each name is declared once and the names used are declared
+unfoldable pub domain_headed : DomainForm → Option Head → Option DomainValue
+domain_headed domain None = None
+domain_headed domain (Some head) = domain_with domain head (predicates_from [] domain.predicates)
+
+-- the domain that syntax stands for: types, constants, predicates and actions are declared in turn
 unfoldable pub domain_of : DomainForm → Option DomainValue
-domain_of domain = domain_with domain (predicates_from [] domain.predicates)
+domain_of domain = domain_headed domain (head_of domain)
 
 -- a task of the domain that asks and gives nothing
 abbrev pub bare_task : DomainValue → TaskParts

@@ -1,8 +1,10 @@
 -- What contracts see of a domain that is kept in tables.
 
+use Rattle.std.specs.Prelude.{◌≡◌, length}
 use Rattle.std.specs.Map.{keys_of}
 use Rattle.pddl_reader.specs.declared.resolution.domain.Domain.TheInside.{Inside}
-use Rattle.pddl_reader.specs.Domain.{DomainValue}
+use Rattle.strips_task.specs.WellFormed.{IsWellFormed}
+use Rattle.pddl_reader.specs.Domain.{DomainValue, bare_task}
 
 -- the record of what is kept
 abbrev pub domain_kept : Inside → DomainValue
@@ -14,3 +16,8 @@ domain_kept d = record {
   predicates = d.predicates;
   actions = d.actions;
 }
+
+-- what a domain says is well formed, and each type has a name
+pub record IsDomain (domain : DomainValue) : Type 0 where
+  pub fits : IsWellFormed (bare_task domain)
+  pub types_named : length domain.types ≡ length domain.parents

@@ -8,13 +8,14 @@ use Rattle.pddl_reader.specs.declared.walk.NameWord.{NameWord}
 use Rattle.pddl_reader.specs.declared.syntax.AtomSyntax.{AtomSyntax}
 use Rattle.pddl_reader.specs.declared.syntax.LiteralSyntax.{LiteralSyntax}
 use Rattle.pddl_reader.specs.declared.syntax.PredicateSyntax.{PredicateSyntax}
+use Rattle.pddl_reader.specs.declared.syntax.NameGroup as groups
 use Rattle.pddl_reader.specs.declared.syntax.ActionParts as parts
 use Rattle.pddl_reader.specs.declared.syntax.ActionSyntax.{ActionSyntax}
 use Rattle.pddl_reader.specs.declared.syntax.DomainSections as domain
 use Rattle.pddl_reader.specs.declared.syntax.DomainSyntax.{DomainSyntax}
 use Rattle.pddl_reader.specs.declared.syntax.ProblemSections as problem
 use Rattle.pddl_reader.specs.declared.syntax.ProblemSyntax.{ProblemSyntax}
-use Rattle.pddl_reader.specs.Syntax.{AtomForm, LiteralForm, PredicateForm, ActionForm, ActionParts, DomainForm, DomainSections, ProblemForm, ProblemSections, action_form, domain_form}
+use Rattle.pddl_reader.specs.Syntax.{NameGroup, AtomForm, LiteralForm, PredicateForm, ActionForm, ActionParts, DomainForm, DomainSections, ProblemForm, ProblemSections, action_form, domain_form}
 
 -- the bytes of a word
 abbrev pub word_form : Word → List ℕ
@@ -22,6 +23,15 @@ word_form w = w.text.now
 
 abbrev pub name_form : NameWord → List ℕ
 name_form w = w.text.now
+
+unfoldable pub name_forms : List NameWord → List (List ℕ)
+name_forms ws = map name_form ws
+
+abbrev pub name_group_form : groups.NameGroup → NameGroup
+name_group_form g = record { names = name_forms g.names.items; type = g.kind.text.now }
+
+unfoldable pub name_groups : List groups.NameGroup → List NameGroup
+name_groups gs = map name_group_form gs
 
 unfoldable pub word_forms : List Word → List (List ℕ)
 word_forms ws = map word_form ws
@@ -56,6 +66,9 @@ action_forms actions = map action_syntax_form actions
 
 unfoldable pub domain_sections_form : domain.DomainSections → DomainSections
 domain_sections_form s = record {
+  requirements = s.requirements;
+  types = option_map (λ v. name_groups v.items) s.types;
+  constants = option_map (λ v. name_groups v.items) s.constants;
   predicates = option_map (λ v. predicate_forms v.items) s.predicates;
   actions = action_forms s.actions.items;
 }
@@ -66,14 +79,19 @@ domain_syntax_form d = domain_form d.name.text.now (domain_sections_form d.secti
 unfoldable pub problem_sections_form : problem.ProblemSections → ProblemSections
 problem_sections_form s = record {
   domain = option_map name_form s.domain;
+  requirements = s.requirements;
+  objects = option_map (λ v. name_groups v.items) s.objects;
   init = option_map (λ v. literal_forms v.items) s.init;
   goal = option_map (λ v. literal_forms v.items) s.goal;
+  metric = s.metric;
+  length = s.length;
 }
 
 abbrev pub problem_syntax_form : ProblemSyntax → ProblemForm
 problem_syntax_form p = record {
   name = p.name.text.now;
   domain = p.domain.text.now;
+  objects = unwrap_or (option_map (λ v. name_groups v.items) p.objects) [];
   init = unwrap_or (option_map (λ v. literal_forms v.items) p.init) [];
   goal = literal_forms p.goal.items;
 }
@@ -87,3 +105,8 @@ given_literals (Some literals) = literals.items
 unfoldable pub given_predicates : Option (Vec PredicateSyntax) → List PredicateSyntax
 given_predicates None = []
 given_predicates (Some predicates) = predicates.items
+
+-- the groups kept of a section, where it is given
+unfoldable pub given_groups : Option (Vec groups.NameGroup) → List groups.NameGroup
+given_groups None = []
+given_groups (Some found) = found.items

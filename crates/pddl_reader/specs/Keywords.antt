@@ -18,6 +18,34 @@ and_word = codes "and"
 abbrev pub not_word : List ℕ
 not_word = codes "not"
 
+abbrev pub either_word : List ℕ
+either_word = codes "either"
+
+abbrev pub object_word : List ℕ
+object_word = codes "object"
+
+-- what stands before a type
+abbrev pub dash_word : List ℕ
+dash_word = codes "-"
+
+abbrev pub requirements_keyword : List ℕ
+requirements_keyword = codes ":requirements"
+
+abbrev pub types_keyword : List ℕ
+types_keyword = codes ":types"
+
+abbrev pub constants_keyword : List ℕ
+constants_keyword = codes ":constants"
+
+abbrev pub objects_keyword : List ℕ
+objects_keyword = codes ":objects"
+
+abbrev pub metric_keyword : List ℕ
+metric_keyword = codes ":metric"
+
+abbrev pub length_keyword : List ℕ
+length_keyword = codes ":length"
+
 abbrev pub predicates_keyword : List ℕ
 predicates_keyword = codes ":predicates"
 

@@ -10,6 +10,9 @@ pub mod Optional
 pub mod Syntax
 pub mod Reading
 pub mod Forms
+pub mod Tables
+pub mod TypeOrder
+pub mod Objects
 pub mod Declarations
 pub mod Domain
 pub mod Domains

@@ -1,7 +1,7 @@
 -- Values that may be missing, put together.
 
-use Rattle.std.specs.Prelude.{Bool, List, ◌∷◌, ◌++◌, Option, Some, None, if◌then◌else◌}
-use Rattle.std.specs.Option.{option_map}
+use Rattle.std.specs.Prelude.{Bool, List, [], ◌∷◌, ◌++◌, Option, Some, None, if◌then◌else◌}
+use Rattle.std.specs.Option.{option_map, option_and_then}
 
 -- the value where the test holds, and else none
 unfoldable pub guard : {A : Type 0} → Bool → Option A → Option A
@@ -21,3 +21,8 @@ with_front front (Some others) = Some (front ++ others)
 unfoldable pub joined : {A : Type 0} → Option (List A) → Option (List A) → Option (List A)
 joined None others = None
 joined (Some xs) others = with_front xs others
+
+-- a state taken through a list, item by item, where each step is allowed
+unfoldable pub through : {S X : Type 0} → (S → X → Option S) → S → List X → Option S
+through step state [] = Some state
+through step state (x ∷ xs) = option_and_then (λ next. through step next xs) (step state x)

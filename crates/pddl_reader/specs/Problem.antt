@@ -9,7 +9,8 @@ use Rattle.strips_task.specs.declared.tasks.TaskParts.{TaskParts}
 use Rattle.pddl_reader.specs.Optional.{followed_by}
 use Rattle.pddl_reader.specs.Declarations.{Predicates, predicate_number}
 use Rattle.pddl_reader.specs.Domain.{DomainValue}
-use Rattle.pddl_reader.specs.Syntax.{LiteralForm, ProblemForm}
+use Rattle.pddl_reader.specs.Objects.{Objects, objects_from}
+use Rattle.pddl_reader.specs.Syntax.{LiteralForm, NameGroup, ProblemForm}
 
 -- a ground condition on an atom without arguments
 abbrev pub ground_condition : Bool → ℕ → GroundCond
@@ -57,7 +58,20 @@ unfoldable pub task_with : DomainValue → List ℕ → Option (List Atom) → O
 task_with domain problem None goal = None
 task_with domain problem (Some init) goal = option_map (task_value domain problem init) goal
 
--- the task that the syntax stands for, where the names used are declared
-unfoldable pub problem_of : DomainValue → ProblemForm → Option TaskParts
-problem_of domain problem =
+-- the domain with other objects
+abbrev pub domain_over : DomainValue → Objects → DomainValue
+domain_over domain objects = record domain { objects = objects }
+
+-- the domain with the objects of a problem behind its constants
+unfoldable pub domain_extended : DomainValue → List NameGroup → Option DomainValue
+domain_extended domain groups = option_map (domain_over domain) (objects_from domain.types domain.objects groups)
+
+-- the task of a problem beside a domain that has its objects
+unfoldable pub problem_within : ProblemForm → Option DomainValue → Option TaskParts
+problem_within problem None = None
+problem_within problem (Some domain) =
     task_with domain problem.name (initial_of domain.predicates problem.init) (ground_conditions_of domain.predicates problem.goal)
+
+-- the task that the syntax stands for, where objects are declared once and the names used are declared
+unfoldable pub problem_of : DomainValue → ProblemForm → Option TaskParts
+problem_of domain problem = problem_within problem (domain_extended domain problem.objects)

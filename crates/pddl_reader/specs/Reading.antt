@@ -3,9 +3,12 @@
 use Rattle.std.specs.Prelude.{ℕ, Bool, true, false, ◌≡◌, ◌≢◌, List, Option, Some, None, Result, Ok, Err}
 use Rattle.pddl_reader.specs.declared.fault.FaultKind.TheVariants.{OutOfMemory}
 use Rattle.pddl_reader.specs.declared.fault.ReadFault.{ReadFault}
+use Rattle.pddl_words.specs.Words.{is_name}
+use Rattle.pddl_reader.specs.declared.walk.NameWord.{NameWord}
 use Rattle.pddl_reader.specs.ReadFault.{out_of_memory}
 use Rattle.pddl_reader.specs.Optional.{with_front}
-use Rattle.pddl_reader.specs.Trees.{Trees, list}
+use Rattle.pddl_reader.specs.Trees.{Trees, word, list}
+use Rattle.pddl_reader.specs.Syntax.{leading_name}
 use Rattle.pddl_reader.specs.Levels.{Levels, behind}
 
 -- a fault is want of memory, which has no place, or it says that the fact holds
@@ -32,6 +35,11 @@ abbrev pub Enters : Result (Unit {0}) ReadFault → (Trees → Option Trees) →
 Enters (Ok _) read old new = (old.top ≡ list new.top (behind new.below).top) × (old.below ≡ (behind new.below).below)
 Enters (Err e) read old new = Refuses e (read old.top ≡ None)
 
+-- the walk steps over the name at the front
+abbrev pub TakesName : Result NameWord ReadFault → Levels → Levels → Type 0
+TakesName (Ok name) old new = (old.top ≡ word name.text.now new.top) × (is_name name.text.now ≡ true) × (new.below ≡ old.below)
+TakesName (Err e) old new = Refuses e (leading_name old.top ≡ None)
+
 -- as `ReadsList`, where what is read is put behind `front`, which makes it `all`
 abbrev pub ReadsOnto : {Y : Type 0} → Result (Unit {0}) ReadFault → (Trees → Option (List Y)) → Levels → Levels → List Y → List Y → Type 0
 ReadsOnto (Ok _) read old new front all = (with_front front (read old.top) ≡ Some all) × (new ≡ behind old.below)
@@ -56,3 +64,8 @@ Gives view (Err e) defined = Refuses e (defined ≡ None)
 abbrev pub Puts : {Y : Type 0} → Result (Unit {0}) ReadFault → Option Y → Y → Type 0
 Puts (Ok _) defined after = defined ≡ Some after
 Puts (Err e) defined after = Refuses e (defined ≡ None)
+
+-- the number is found, or there is none, or memory ran out
+abbrev pub GivesOption : {X : Type 0} → Result (Option X) ReadFault → Option X → Type 0
+GivesOption (Ok x) defined = defined ≡ x
+GivesOption (Err e) defined = e ≡ out_of_memory

@@ -13,8 +13,8 @@ use Rattle.pddl_reader.specs.declared.heads.ActionPart.{ActionPart}
 use Rattle.pddl_reader.specs.declared.heads.ActionPart.TheVariants as part
 use Rattle.pddl_reader.specs.declared.heads.ProblemSection.{ProblemSection}
 use Rattle.pddl_reader.specs.declared.heads.ProblemSection.TheVariants as problem
-use Rattle.pddl_reader.specs.Keywords.{define_word, domain_word, problem_word}
-use Rattle.pddl_reader.specs.Heads.{is_and, formula_head, domain_section, action_part, problem_section}
+use Rattle.pddl_reader.specs.Keywords.{define_word, domain_word, problem_word, object_word}
+use Rattle.pddl_reader.specs.Heads.{is_and, is_dash, is_keyword, formula_head, domain_section, action_part, problem_section}
 use Rattle.pddl_reader.specs.Optional.{guard, followed_by, joined}
 use Rattle.pddl_reader.specs.Trees.{Trees, none, word, list}
 
@@ -37,9 +37,16 @@ pub record ActionForm : Type 0 where
   pub precondition : List LiteralForm
   pub effect : List LiteralForm
 
+-- a group of a list of typed names: its names, and the name of their type
+pub record NameGroup : Type 0 where
+  pub names : List (List ℕ)
+  pub type : List ℕ
+
 -- a domain
 pub record DomainForm : Type 0 where
   pub name : List ℕ
+  pub types : List NameGroup
+  pub constants : List NameGroup
   pub predicates : List PredicateForm
   pub actions : List ActionForm
 
@@ -47,6 +54,7 @@ pub record DomainForm : Type 0 where
 pub record ProblemForm : Type 0 where
   pub name : List ℕ
   pub domain : List ℕ
+  pub objects : List NameGroup
   pub init : List LiteralForm
   pub goal : List LiteralForm
 
@@ -56,16 +64,23 @@ pub record ActionParts : Type 0 where
   pub precondition : Option (List LiteralForm)
   pub effect : Option (List LiteralForm)
 
--- the sections of a domain that are given
+-- the sections of a domain that are given; of the requirements it only counts that they are
 pub record DomainSections : Type 0 where
+  pub requirements : Bool
+  pub types : Option (List NameGroup)
+  pub constants : Option (List NameGroup)
   pub predicates : Option (List PredicateForm)
   pub actions : List ActionForm
 
--- the sections of a problem that are given
+-- the sections of a problem that are given; of the requirements, the metric and the length it only counts that they are
 pub record ProblemSections : Type 0 where
   pub domain : Option (List ℕ)
+  pub requirements : Bool
+  pub objects : Option (List NameGroup)
   pub init : Option (List LiteralForm)
   pub goal : Option (List LiteralForm)
+  pub metric : Bool
+  pub length : Bool
 
 -- each tree is a list, and this is what they are read as
 unfoldable pub lists_of : {A : Type 0} → (Trees → Option A) → Trees → Option (List A)
@@ -100,6 +115,42 @@ unfoldable pub lone_name : Trees → Option (List ℕ)
 lone_name none = None
 lone_name (word w others) = guard (is_name w) (ended others (Some w))
 lone_name (list inside others) = None
+
+-- K*
+unfoldable pub keywords_of : Trees → Option (Unit {0})
+keywords_of none = Some tt
+keywords_of (word w others) = guard (is_keyword w) (keywords_of others)
+keywords_of (list inside others) = None
+
+-- the last group of a list of typed names, if it has a name: its type is `object`
+unfoldable pub last_names : List (List ℕ) → List NameGroup
+last_names [] = []
+last_names (name ∷ names) = record { names = name ∷ names; type = object_word } ∷ []
+
+-- a group, which has a name at least
+unfoldable pub name_group : List (List ℕ) → List ℕ → Option NameGroup
+name_group [] type = None
+name_group (name ∷ names) type = Some (record { names = name ∷ names; type = type })
+
+-- Typed(N): groups `N+ - N`, and then possibly a last group `N+` of type `object`; behind the names of a group that has begun
+unfoldable mutual
+  pub typed_names : List (List ℕ) → Trees → Option (List NameGroup)
+  typed_names names none = Some (last_names names)
+  typed_names names (word w others) =
+      (if is_dash w then names_typed names others else guard (is_name w) (typed_names (names ++ w ∷ []) others))
+  typed_names names (list inside others) = None
+
+  -- the type behind the dash, and the groups behind it
+  pub names_typed : List (List ℕ) → Trees → Option (List NameGroup)
+  names_typed names none = None
+  names_typed names (word w others) = guard (is_name w) (followed_by (name_group names w) (typed_names [] others))
+  names_typed names (list inside others) = None
+
+-- the name at the front
+unfoldable pub leading_name : Trees → Option (List ℕ)
+leading_name none = None
+leading_name (word w others) = guard (is_name w) (Some w)
+leading_name (list inside others) = None
 
 -- an atom: its predicate, and its terms, of which this reader takes none
 unfoldable pub atom_of : List ℕ → Trees → Option AtomForm
@@ -227,7 +278,16 @@ action_of (list inside others) = None
 
 -- a domain of which no section is given
 unfoldable pub no_domain_sections : DomainSections
-no_domain_sections = record { predicates = None; actions = [] }
+no_domain_sections = record { requirements = false; types = None; constants = None; predicates = None; actions = [] }
+
+abbrev pub with_requirements : DomainSections → DomainSections
+with_requirements given = record given { requirements = true }
+
+abbrev pub with_types : DomainSections → List NameGroup → DomainSections
+with_types given value = record given { types = Some value }
+
+abbrev pub with_constants : DomainSections → List NameGroup → DomainSections
+with_constants given value = record given { constants = Some value }
 
 abbrev pub with_predicates : DomainSections → List PredicateForm → DomainSections
 with_predicates given value = record given { predicates = Some value }
@@ -237,11 +297,17 @@ with_action given value = record given { actions = given.actions ++ value ∷ []
 
 -- whether a section is given already that may stand once
 unfoldable pub is_domain_section_given : DomainSection → DomainSections → Bool
+is_domain_section_given section.Requirements given = given.requirements
+is_domain_section_given section.Types given = is_some given.types
+is_domain_section_given section.Constants given = is_some given.constants
 is_domain_section_given section.Predicates given = is_some given.predicates
 is_domain_section_given section.Action given = false
 
 -- the sections with this one
 unfoldable pub domain_section_by : DomainSection → DomainSections → Trees → Option DomainSections
+domain_section_by section.Requirements given trees = option_map (λ _. with_requirements given) (keywords_of trees)
+domain_section_by section.Types given trees = option_map (with_types given) (typed_names [] trees)
+domain_section_by section.Constants given trees = option_map (with_constants given) (typed_names [] trees)
 domain_section_by section.Predicates given trees = option_map (with_predicates given) (lists_of predicate_in trees)
 domain_section_by section.Action given trees = option_map (with_action given) (action_of trees)
 
@@ -250,7 +316,7 @@ unfoldable pub domain_section_headed : Option DomainSection → DomainSections �
 domain_section_headed None given trees = None
 domain_section_headed (Some headed) given trees = guard (not (is_domain_section_given headed given)) (domain_section_by headed given trees)
 
--- DomSection = `(:predicates (N)*)` | `(:action N` ActPart*`)`
+-- DomSection = `(:requirements K*)` | `(:types Typed(N))` | `(:constants Typed(N))` | `(:predicates (N)*)` | `(:action N` ActPart*`)`
 unfoldable pub domain_section_in : DomainSections → Trees → Option DomainSections
 domain_section_in given none = None
 domain_section_in given (word w others) = domain_section_headed (domain_section w) given others
@@ -268,7 +334,13 @@ header_of kind trees = option_and_then lone_name (behind_word kind trees)
 
 -- a domain with its name; a section that is not given holds nothing
 unfoldable pub domain_form : List ℕ → DomainSections → DomainForm
-domain_form name sections = record { name = name; predicates = unwrap_or sections.predicates []; actions = sections.actions }
+domain_form name sections = record {
+  name = name;
+  types = unwrap_or sections.types [];
+  constants = unwrap_or sections.constants [];
+  predicates = unwrap_or sections.predicates [];
+  actions = sections.actions;
+}
 
 unfoldable pub domain_by : Option (List ℕ) → Option DomainSections → Option DomainForm
 domain_by None sections = None
@@ -292,10 +364,22 @@ domain_syntax (list inside others) = ended others (domain_in inside)
 
 -- a problem of which no section is given
 unfoldable pub no_problem_sections : ProblemSections
-no_problem_sections = record { domain = None; init = None; goal = None }
+no_problem_sections = record { domain = None; requirements = false; objects = None; init = None; goal = None; metric = false; length = false }
 
 abbrev pub with_domain : ProblemSections → List ℕ → ProblemSections
 with_domain given value = record given { domain = Some value }
+
+abbrev pub with_problem_requirements : ProblemSections → ProblemSections
+with_problem_requirements given = record given { requirements = true }
+
+abbrev pub with_objects : ProblemSections → List NameGroup → ProblemSections
+with_objects given value = record given { objects = Some value }
+
+abbrev pub with_metric : ProblemSections → ProblemSections
+with_metric given = record given { metric = true }
+
+abbrev pub with_length : ProblemSections → ProblemSections
+with_length given = record given { length = true }
 
 abbrev pub with_init : ProblemSections → List LiteralForm → ProblemSections
 with_init given value = record given { init = Some value }
@@ -312,21 +396,30 @@ goal_of (list inside others) = ended others (formula_in inside)
 -- whether a section is given already
 unfoldable pub is_problem_section_given : ProblemSection → ProblemSections → Bool
 is_problem_section_given problem.Domain given = is_some given.domain
+is_problem_section_given problem.Requirements given = given.requirements
+is_problem_section_given problem.Objects given = is_some given.objects
 is_problem_section_given problem.Init given = is_some given.init
 is_problem_section_given problem.Goal given = is_some given.goal
+is_problem_section_given problem.Metric given = given.metric
+is_problem_section_given problem.Length given = given.length
 
 -- the sections with this one
 unfoldable pub problem_section_by : ProblemSection → ProblemSections → Trees → Option ProblemSections
 problem_section_by problem.Domain given trees = option_map (with_domain given) (lone_name trees)
+problem_section_by problem.Requirements given trees = option_map (λ _. with_problem_requirements given) (keywords_of trees)
+problem_section_by problem.Objects given trees = option_map (with_objects given) (typed_names [] trees)
 problem_section_by problem.Init given trees = option_map (with_init given) (lists_of init_item_in trees)
 problem_section_by problem.Goal given trees = option_map (with_goal given) (goal_of trees)
+problem_section_by problem.Metric given trees = Some (with_metric given)
+problem_section_by problem.Length given trees = Some (with_length given)
 
 -- the sections with the one that a word heads, each at most once
 unfoldable pub problem_section_headed : Option ProblemSection → ProblemSections → Trees → Option ProblemSections
 problem_section_headed None given trees = None
 problem_section_headed (Some headed) given trees = guard (not (is_problem_section_given headed given)) (problem_section_by headed given trees)
 
--- ProbSection = `(:domain N)` | `(:init` InitItem*`)` | `(:goal` Formula`)`
+-- ProbSection = `(:domain N)` | `(:requirements K*)` | `(:objects Typed(N))` | `(:init` InitItem*`)` | `(:goal` Formula`)` | `(:metric ..)` |
+-- `(:length ..)`; in the last two stands anything
 unfoldable pub problem_section_in : ProblemSections → Trees → Option ProblemSections
 problem_section_in given none = None
 problem_section_in given (word w others) = problem_section_headed (problem_section w) given others
@@ -339,15 +432,16 @@ problem_sections_of given (word w others) = None
 problem_sections_of given (list inside others) = option_and_then (λ more. problem_sections_of more others) (problem_section_in given inside)
 
 -- a problem with its name; `:domain` and `:goal` must be given
-unfoldable pub problem_form : List ℕ → Option (List ℕ) → Option (List LiteralForm) → Option (List LiteralForm) → Option ProblemForm
-problem_form name None init goal = None
-problem_form name (Some domain) init None = None
-problem_form name (Some domain) init (Some goal) = Some (record { name = name; domain = domain; init = unwrap_or init []; goal = goal })
+unfoldable pub problem_form : List ℕ → ProblemSections → Option (List ℕ) → Option (List LiteralForm) → Option ProblemForm
+problem_form name given None goal = None
+problem_form name given (Some domain) None = None
+problem_form name given (Some domain) (Some goal) =
+    Some (record { name = name; domain = domain; objects = unwrap_or given.objects []; init = unwrap_or given.init []; goal = goal })
 
 unfoldable pub problem_by : Option (List ℕ) → Option ProblemSections → Option ProblemForm
 problem_by None sections = None
 problem_by (Some name) None = None
-problem_by (Some name) (Some given) = problem_form name given.domain given.init given.goal
+problem_by (Some name) (Some given) = problem_form name given given.domain given.goal
 
 -- `(problem N)` ProbSection*
 unfoldable pub problem_body : Trees → Option ProblemForm

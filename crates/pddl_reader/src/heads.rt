@@ -3,7 +3,7 @@
 ghost use Rattle.std.specs.Prelude.{◌≡◌};
 ghost use Rattle.pddl_words.specs.Words.{is_name};
 ghost use Rattle.pddl_reader.specs.Keywords.{is_connective, is_quantifier, is_comparison, is_other_reserved};
-ghost use Rattle.pddl_reader.specs.Heads.{is_and, formula_head, domain_section, action_part, problem_section};
+ghost use Rattle.pddl_reader.specs.Heads.{is_and, is_dash, is_either, is_keyword, is_variable, formula_head, domain_section, action_part, problem_section};
 
 use pddl_tokens::{WordKind, same_folded, word_kind};
 
@@ -21,6 +21,9 @@ pub(crate) enum FormulaHead {
 /// The sections of a domain.
 #[derive(Clone, Copy, Debug)]
 pub(crate) enum DomainSection {
+    Requirements,
+    Types,
+    Constants,
     Predicates,
     Action,
 }
@@ -37,8 +40,12 @@ pub(crate) enum ActionPart {
 #[derive(Clone, Copy, Debug)]
 pub(crate) enum ProblemSection {
     Domain,
+    Requirements,
+    Objects,
     Init,
     Goal,
+    Metric,
+    Length,
 }
 
 /// Whether a word heads a conjunction.
@@ -47,6 +54,50 @@ pub(crate) fn is_and(word: &[u8]) -> bool
     ensures { result ≡ is_and word.now }
 {
     same_folded(word, b"and")
+}
+
+/// Whether the word is the dash before a type.
+#[tactic(auto, unfolding(crate::specs::Heads::is_dash))]
+pub(crate) fn is_dash(word: &[u8]) -> bool
+    ensures { result ≡ is_dash word.now }
+{
+    same_folded(word, b"-")
+}
+
+/// Whether the word heads a choice of types.
+#[tactic(auto, unfolding(crate::specs::Heads::is_either))]
+pub(crate) fn is_either(word: &[u8]) -> bool
+    ensures { result ≡ is_either word.now }
+{
+    same_folded(word, b"either")
+}
+
+/// Whether the word is a keyword: `:` and a name.
+#[tactic(auto, unfolding(crate::specs::Heads::is_keyword))]
+pub(crate) fn is_keyword(word: &[u8]) -> bool
+    ensures { result ≡ is_keyword word.now }
+{
+    match word_kind(word) {
+        WordKind::Keyword => true,
+        WordKind::Name => false,
+        WordKind::Variable => false,
+        WordKind::Dash => false,
+        WordKind::Other => false,
+    }
+}
+
+/// Whether the word is a variable: `?` and a name.
+#[tactic(auto, unfolding(crate::specs::Heads::is_variable))]
+pub(crate) fn is_variable(word: &[u8]) -> bool
+    ensures { result ≡ is_variable word.now }
+{
+    match word_kind(word) {
+        WordKind::Variable => true,
+        WordKind::Name => false,
+        WordKind::Keyword => false,
+        WordKind::Dash => false,
+        WordKind::Other => false,
+    }
 }
 
 /// What the word heads.
@@ -72,7 +123,13 @@ pub(crate) fn formula_head(word: &[u8]) -> FormulaHead
 pub(crate) fn domain_section(word: &[u8]) -> Option<DomainSection>
     ensures { result ≡ domain_section word.now }
 {
-    if same_folded(word, b":predicates") {
+    if same_folded(word, b":requirements") {
+        Some(DomainSection::Requirements)
+    } else if same_folded(word, b":types") {
+        Some(DomainSection::Types)
+    } else if same_folded(word, b":constants") {
+        Some(DomainSection::Constants)
+    } else if same_folded(word, b":predicates") {
         Some(DomainSection::Predicates)
     } else if same_folded(word, b":action") {
         Some(DomainSection::Action)
@@ -104,10 +161,18 @@ pub(crate) fn problem_section(word: &[u8]) -> Option<ProblemSection>
 {
     if same_folded(word, b":domain") {
         Some(ProblemSection::Domain)
+    } else if same_folded(word, b":requirements") {
+        Some(ProblemSection::Requirements)
+    } else if same_folded(word, b":objects") {
+        Some(ProblemSection::Objects)
     } else if same_folded(word, b":init") {
         Some(ProblemSection::Init)
     } else if same_folded(word, b":goal") {
         Some(ProblemSection::Goal)
+    } else if same_folded(word, b":metric") {
+        Some(ProblemSection::Metric)
+    } else if same_folded(word, b":length") {
+        Some(ProblemSection::Length)
     } else {
         None
     }

@@ -5,4 +5,6 @@
 pub(crate) mod actions;
 pub(crate) mod domain;
 pub(crate) mod names;
+pub(crate) mod objects;
 pub(crate) mod problem;
+pub(crate) mod types;

@@ -9,6 +9,7 @@ pub(crate) mod formula;
 pub(crate) mod lists;
 pub(crate) mod problem;
 pub(crate) mod refusals;
+pub(crate) mod typed;
 
 use crate::walk::{NameWord, Word};
 
@@ -46,9 +47,19 @@ pub(crate) struct ActionSyntax<'a> {
     pub(crate) parts: ActionParts<'a>,
 }
 
+/// A group of a list of typed names, with the name of their type.
+#[derive(Drop)]
+pub(crate) struct NameGroup<'a> {
+    pub(crate) names: Vec<NameWord<'a>>,
+    pub(crate) kind: NameWord<'a>,
+}
+
 /// The sections of a domain that are given.
 #[derive(Drop)]
 pub(crate) struct DomainSections<'a> {
+    pub(crate) requirements: bool,
+    pub(crate) types: Option<Vec<NameGroup<'a>>>,
+    pub(crate) constants: Option<Vec<NameGroup<'a>>>,
     pub(crate) predicates: Option<Vec<PredicateSyntax<'a>>>,
     pub(crate) actions: Vec<ActionSyntax<'a>>,
 }
@@ -64,8 +75,12 @@ pub(crate) struct DomainSyntax<'a> {
 #[derive(Drop)]
 pub(crate) struct ProblemSections<'a> {
     pub(crate) domain: Option<NameWord<'a>>,
+    pub(crate) requirements: bool,
+    pub(crate) objects: Option<Vec<NameGroup<'a>>>,
     pub(crate) init: Option<Vec<LiteralSyntax<'a>>>,
     pub(crate) goal: Option<Vec<LiteralSyntax<'a>>>,
+    pub(crate) metric: bool,
+    pub(crate) length: bool,
 }
 
 /// A problem with its name, and the name that it gives for its domain.
@@ -73,6 +88,7 @@ pub(crate) struct ProblemSections<'a> {
 pub(crate) struct ProblemSyntax<'a> {
     pub(crate) name: NameWord<'a>,
     pub(crate) domain: NameWord<'a>,
+    pub(crate) objects: Option<Vec<NameGroup<'a>>>,
     pub(crate) init: Option<Vec<LiteralSyntax<'a>>>,
     pub(crate) goal: Vec<LiteralSyntax<'a>>,
 }

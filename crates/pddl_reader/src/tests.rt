@@ -112,10 +112,10 @@ fn what_is_not_read(rt: HostRuntime) {
     assert!(rt;
         refuses_domain(
             alloc,
-            b"(define (domain t) (:requirements :strips))",
+            b"(define (domain t) (:functions (c)))",
             FaultKind::Unsupported,
             20,
-            33
+            30
         )
     );
     assert!(rt;
@@ -245,15 +245,175 @@ fn faults_of_problems(rt: HostRuntime) {
             34
         )
     );
-    assert!(rt;
-        refuses_problem(
-            alloc,
-            b"(define (problem x) (:domain lamp) (:goal (lit)) (:metric minimize (t)))",
-            FaultKind::Unsupported,
-            50,
-            57
-        )
-    );
+}
+
+/// A text, and the fault that it is refused for.
+#[derive(Clone, Copy)]
+struct Case {
+    text: &'static str,
+    kind: FaultKind,
+    start: u32,
+    end: u32,
+}
+
+/// How many of the cases are refused as domains with another fault, or not at all.
+fn other_domains(alloc: Global, cases: &[Case]) -> usize {
+    let mut others = 0;
+    for case in cases {
+        if !refuses_domain(alloc, case.text.as_bytes(), case.kind, case.start, case.end)
+            && others < 100
+        {
+            others += 1;
+        }
+    }
+    others
+}
+
+/// How many of the cases are refused as problems of the small domain with another fault, or not at all.
+fn other_problems(alloc: Global, cases: &[Case]) -> usize {
+    let mut others = 0;
+    for case in cases {
+        if !refuses_problem(alloc, case.text.as_bytes(), case.kind, case.start, case.end)
+            && others < 100
+        {
+            others += 1;
+        }
+    }
+    others
+}
+
+#[test]
+fn types_and_constants(rt: HostRuntime) {
+    let cases = [
+        Case {
+            text: "(define (domain t) (:types a - b c - a a - c))",
+            kind: FaultKind::Repeated,
+            start: 39,
+            end: 40,
+        },
+        Case {
+            text: "(define (domain t) (:types a - b b - a))",
+            kind: FaultKind::TypeCycle,
+            start: 27,
+            end: 28,
+        },
+        Case {
+            text: "(define (domain t) (:types a - a))",
+            kind: FaultKind::TypeCycle,
+            start: 27,
+            end: 28,
+        },
+        Case {
+            text: "(define (domain t) (:types d - a a - b b - a))",
+            kind: FaultKind::TypeCycle,
+            start: 33,
+            end: 34,
+        },
+        Case {
+            text: "(define (domain t) (:types object - a))",
+            kind: FaultKind::TypeCycle,
+            start: 27,
+            end: 33,
+        },
+        Case {
+            text: "(define (domain t) (:types a - (either b c)))",
+            kind: FaultKind::Unsupported,
+            start: 32,
+            end: 38,
+        },
+        Case {
+            text: "(define (domain t) (:types a - (foo b)))",
+            kind: FaultKind::Expected,
+            start: 31,
+            end: 32,
+        },
+        Case {
+            text: "(define (domain t) (:types a - ()))",
+            kind: FaultKind::Expected,
+            start: 31,
+            end: 32,
+        },
+        Case {
+            text: "(define (domain t) (:types - a))",
+            kind: FaultKind::Expected,
+            start: 27,
+            end: 28,
+        },
+        Case {
+            text: "(define (domain t) (:types a -))",
+            kind: FaultKind::Expected,
+            start: 30,
+            end: 31,
+        },
+        Case {
+            text: "(define (domain t) (:types a - b a))",
+            kind: FaultKind::Repeated,
+            start: 33,
+            end: 34,
+        },
+        Case {
+            text: "(define (domain t) (:types ?a))",
+            kind: FaultKind::Expected,
+            start: 27,
+            end: 29,
+        },
+        Case {
+            text: "(define (domain t) (:requirements strips))",
+            kind: FaultKind::Expected,
+            start: 34,
+            end: 40,
+        },
+        Case {
+            text: "(define (domain t) (:constants a - b))",
+            kind: FaultKind::UnknownName,
+            start: 35,
+            end: 36,
+        },
+        Case {
+            text: "(define (domain t) (:types b) (:constants a - b a))",
+            kind: FaultKind::Repeated,
+            start: 48,
+            end: 49,
+        },
+        Case {
+            text: "(define (domain t) (:types) (:types))",
+            kind: FaultKind::Repeated,
+            start: 29,
+            end: 35,
+        },
+    ];
+    assert_eq!(rt; other_domains(rt.alloc(), &cases), 0);
+}
+
+#[test]
+fn objects_and_what_is_skipped(rt: HostRuntime) {
+    let cases = [
+        Case {
+            text: "(define (problem x) (:domain d) (:goal ()) (:objects a - b))",
+            kind: FaultKind::UnknownName,
+            start: 57,
+            end: 58,
+        },
+        Case {
+            text: "(define (problem x) (:domain d) (:metric m (n (:k))) (:goal))",
+            kind: FaultKind::Expected,
+            start: 59,
+            end: 60,
+        },
+        Case {
+            text: "(define (problem x) (:metric) (:metric))",
+            kind: FaultKind::Repeated,
+            start: 31,
+            end: 38,
+        },
+        Case {
+            text: "(define (problem x) (:length) (:requirements) (:types))",
+            kind: FaultKind::Unsupported,
+            start: 47,
+            end: 53,
+        },
+    ];
+    assert_eq!(rt; other_problems(rt.alloc(), &cases), 0);
 }
 
 #[test]

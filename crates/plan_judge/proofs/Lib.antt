@@ -1,5 +1,11 @@
 pub mod Planners
+pub mod Reading
+pub mod Refusals
 pub mod Rendering
 pub mod RunAnswers
+pub mod TextFaults
 pub mod TooLarge
 pub mod Writing
+pub mod Tallies
+pub mod PlanCounts
+pub mod Files

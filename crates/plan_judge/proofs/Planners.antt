@@ -1,32 +1,12 @@
--- The lines of a planner with one plan, and of one planner more.
+-- The lines of one planner more.
 
-use Rattle.std.proofs.Common.{◌≡◌, ◌≢◌, ℕ, ◌+◌, ◌<◌, zero, suc, List, [], ◌∷◌, ◌++◌, take, length, map, slice_get, Option, None, Some, Result, Ok, Err, IfOk, IfErr, refl, ap, sym, ◌∙◌, append-nil, append_assoc, arith}
+use Rattle.std.proofs.Common.{◌≡◌, ℕ, ◌+◌, suc, List, [], ◌∷◌, ◌++◌, take, map, slice_get, Some, Result, Ok, Err, IfOk, IfErr, OnOk, ap, sym, ◌∙◌, append-nil, append_assoc, arith}
 use Rattle.std.proofs.lemmas.List.{map-append}
 use Rattle.std.proofs.lemmas.Grind.{flat_map-append}
-use Rattle.std.specs.List.{flat_map, cons_option}
-use Rattle.strips_task.specs.declared.plans.Plan.{Plan}
+use Rattle.std.specs.List.{flat_map}
 use Rattle.strips_task.specs.declared.tasks.TaskParts.{TaskParts}
-use Rattle.strips_judge.specs.declared.verdict.Verdict.{Verdict}
-use Rattle.plan_judge.specs.Bundle.{BundleValue}
-use Rattle.plan_judge.specs.Report.{Planner, report, header_line, planner_lines, plan_line, summary_line, summary_text, least, lone_plan, steps_if_valid}
+use Rattle.plan_judge.specs.Report.{Planner, report, header_line, planner_lines}
 use Rattle.plan_judge.proofs.Rendering.{take_one_more}
-
--- the line of the plan, and the last line
-pub valid_lines : (task : TaskParts) (name : List ℕ) (plan : Plan) (verdict : Verdict) (steps : ℕ) → steps_if_valid verdict ≡ Some steps
-    → planner_lines task (lone_plan name plan verdict)
-    ≡ plan_line task name 1 (record { plan = plan; verdict = verdict }) ++ summary_text name 1 1 (Some steps)
-valid_lines task name plan verdict steps e =
-    let line = plan_line task name 1 (record { plan = plan; verdict = verdict }) in
-    ap (λ l. l ++ summary_line name (record { plan = plan; verdict = verdict } ∷ [])) (append-nil line)
-    ∙ ap (λ o. line ++ summary_text name 1 (length (cons_option o [])) (least (cons_option o []))) e
-
-pub invalid_lines : (task : TaskParts) (name : List ℕ) (plan : Plan) (verdict : Verdict) → steps_if_valid verdict ≡ None
-    → planner_lines task (lone_plan name plan verdict)
-    ≡ plan_line task name 1 (record { plan = plan; verdict = verdict }) ++ summary_text name 1 0 None
-invalid_lines task name plan verdict e =
-    let line = plan_line task name 1 (record { plan = plan; verdict = verdict }) in
-    ap (λ l. l ++ summary_line name (record { plan = plan; verdict = verdict } ∷ [])) (append-nil line)
-    ∙ ap (λ o. line ++ summary_text name 1 (length (cons_option o [])) (least (cons_option o []))) e
 
 -- one planner more behind the others
 pub report_more : {B : Type 0} (task : TaskParts) (planner : B → Planner) (bundles : List B) (i : ℕ) (bundle : B) → slice_get bundles i ≡ Some bundle
@@ -48,3 +28,7 @@ if_ok_more (Err e) f h = tt
 pub if_err_more : {T E : Type 0} {P Q : E → Type 0} (r : Result T E) → ((e : E) → P e → Q e) → IfErr r P → IfErr r Q
 if_err_more (Ok x) f h = tt
 if_err_more (Err e) f h = f e h
+
+pub on_ok_more : {T E P Q : Type 0} (r : Result T E) → (P → Q) → OnOk r P → OnOk r Q
+on_ok_more (Ok x) f h = f h
+on_ok_more (Err e) f h = tt

@@ -1,6 +1,6 @@
 -- Bytes that go out piece by piece.
 
-use Rattle.std.proofs.Common.{◌≡◌, ℕ, ◌+◌, ◌-◌, ◌<◌, ◌≤◌, List, ◌++◌, Option, None, Some, Bool, true, false, refl, ◌||◌, ◌&&◌, length, take, drop, nat_eq, nat_lt, ap, sym, ◌∙◌, arith, append_assoc, length-drop, subst}
+use Rattle.std.proofs.Common.{◌≡◌, ℕ, ◌+◌, ◌-◌, ◌<◌, ◌≤◌, List, ◌++◌, Option, None, Some, Bool, true, false, refl, ◌||◌, ◌&&◌, length, take, drop, nat_eq, ap, sym, ◌∙◌, arith, append_assoc, length-drop, subst}
 use Rattle.std.proofs.lemmas.Bool.{eqb-true}
 use Rattle.std.proofs.lemmas.List.{take_all}
 use Rattle.std.proofs.Math.Seq.{take-add}

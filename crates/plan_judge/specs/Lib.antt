@@ -2,5 +2,8 @@ pub mod Answer
 pub mod Bundle
 pub mod Inlet
 pub mod Outlet
+pub mod Refusal
 pub mod Report
+pub mod Run
 pub mod Status
+pub mod Tally

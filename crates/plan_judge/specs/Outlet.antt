@@ -1,8 +1,15 @@
--- Outlets: when a put has failed.
+-- Outlets: when a put has failed, and what went out where one has.
 
-use Rattle.std.specs.Prelude.{ℕ, Bool, true, ◌&&◌, nat_eq, nat_lt, List, length, Result, Ok, Err}
+use Rattle.std.specs.Io.KnownBytes.{Appends}
+use Rattle.std.specs.Prelude.{◌<◌, take, Option, ℕ, Bool, true, ◌&&◌, nat_eq, nat_lt, List, length, Result, Ok, Err}
 
 -- a put fails where it is refused, and where it takes none of some bytes
 abbrev pub put_fails : {E : Type 0} → Result ℕ E → List ℕ → Bool
 put_fails (Ok count) bytes = nat_eq count 0 && nat_lt 0 (length bytes)
 put_fails (Err _) bytes = true
+
+-- some bytes at the front of these went out, and not all
+pub record AppendsFront (old new : Option (List ℕ)) (bytes : List ℕ) : Type 0 where
+  pub count : ℕ
+  pub short : count < length bytes
+  pub front : Appends old new (take count bytes)

@@ -1,6 +1,6 @@
 -- The report of a run: the text that stands for a task, the planners, their plans and the verdicts (this validator's choice).
 
-use Rattle.std.specs.Prelude.{ℕ, ◌+◌, ◌-◌, Bool, List, [], ◌∷◌, ◌++◌, Option, None, Some, codes, decimal, map, length, slice_get, unwrap_or, if◌then◌else◌, min}
+use Rattle.std.specs.Prelude.{ℕ, ◌-◌, List, [], ◌∷◌, ◌++◌, Option, None, Some, codes, decimal, map, length, slice_get, unwrap_or, if◌then◌else◌, min}
 use Rattle.std.specs.List.{flat_map, filter_map, enumerate_from}
 use Rattle.std.specs.Option.{option_map}
 use Rattle.std.specs.Map.{keys_of}
@@ -111,10 +111,13 @@ pub record Planner : Type 0 where
   pub name : List ℕ
   pub plans : List Judged
 
+-- the lines of plans, of which the first has this number
+abbrev pub plan_lines : TaskParts → List ℕ → ℕ → List Judged → List ℕ
+plan_lines task name number plans = flat_map (λ e. plan_line task name e.0 e.1) (enumerate_from number plans)
+
 -- the lines of a planner
 abbrev pub planner_lines : TaskParts → Planner → List ℕ
-planner_lines task planner =
-    flat_map (λ e. plan_line task planner.name e.0 e.1) (enumerate_from 1 planner.plans) ++ summary_line planner.name planner.plans
+planner_lines task planner = plan_lines task planner.name 1 planner.plans ++ summary_line planner.name planner.plans
 
 -- the first line
 abbrev pub header_line : TaskParts → List ℕ
@@ -123,7 +126,3 @@ header_line task = codes "domain " ++ task.domain ++ codes " problem " ++ task.p
 -- the report
 abbrev pub report : TaskParts → List Planner → List ℕ
 report task planners = header_line task ++ flat_map (planner_lines task) planners
-
--- a planner with one plan
-abbrev pub lone_plan : List ℕ → Plan → Verdict → Planner
-lone_plan name plan verdict = record { name = name; plans = record { plan = plan; verdict = verdict } ∷ [] }

@@ -14,9 +14,12 @@ const AFTER_HELP: &str =
 3 no memory; 4 the report could not be written.";
 
 const JUDGE_ABOUT: &str =
-    "Judges the plan of a file for a domain and a problem in PDDL, and writes a report.";
+    "Judges the plans of planners for a domain and a problem in PDDL, and writes a report.";
 
 const JUDGE_AFTER_HELP: &str = "\
+Each file has the plans of one planner, one or more. Between two plans stands a line of three dashes:
+  ---
+
 The report, on standard output:
   domain X problem Y                         the folded names
   FILE K valid N                             plan K is valid and has N steps
@@ -27,18 +30,19 @@ The report, on standard output:
 
 Exit status:
   0  the report was written, whatever the verdicts
-  1  a file could not be read, is too large, or holds no domain or problem that this judge reads
+  1  a file could not be read, is too large, or holds no domain or problem that this judge reads; or there are
+     more than 64 planners or 65536 plans
   2  the command line was refused
   3  memory ran out
   4  the report could not be written
 
 Example:
-  plan_judge judge --domain domain.pddl --problem problem.pddl plan.txt";
+  plan_judge judge --domain domain.pddl --problem problem.pddl plans.txt other-planner.txt";
 
 /// What a command line asks for.
 #[derive(Debug, Drop)]
 pub(crate) enum Request<'a> {
-    /// Judge the plans of a file.
+    /// Judge the plans of planners.
     Judge(JudgeRequest<'a>),
     /// Show a text, as help.
     Show(String),
@@ -47,11 +51,14 @@ pub(crate) enum Request<'a> {
 }
 
 /// The files of a run.
-#[derive(Clone, Copy, Debug)]
-pub(crate) struct JudgeRequest<'a> {
-    pub(crate) domain: &'a str,
-    pub(crate) problem: &'a str,
-    pub(crate) plans: &'a str,
+#[derive(Debug, Drop)]
+pub struct JudgeRequest<'a> {
+    /// The name of the file of the domain.
+    pub domain: &'a str,
+    /// The name of the file of the problem.
+    pub problem: &'a str,
+    /// The names of the files of plans, one for each planner, who has the name of the file.
+    pub plans: Vec<&'a str>,
 }
 
 /// What the words of a command line ask for; the first is the program's name.
@@ -61,12 +68,12 @@ pub(crate) fn parse<'a>(alloc: Global, words: &'a [String]) -> Result<Request<'a
             if let Some(judge) = matches.subcommand_matches("judge")
                 && let Some(domain) = judge.get_str("domain")
                 && let Some(problem) = judge.get_str("problem")
-                && let Some(plans) = judge.get_str("plans")
+                && let Some(plans) = judge.get_strs("plans")
             {
                 return Ok(Request::Judge(JudgeRequest {
                     domain,
                     problem,
-                    plans,
+                    plans: plans.to_vec(alloc)?,
                 }));
             }
             let text = String::from_str(alloc, "a command is missing; try --help\n")?;
@@ -121,10 +128,11 @@ fn judge_command<'a>(alloc: Global) -> Result<Command<'a>, AllocError> {
         .value_parser(value_parser!(u8).range(1..=32))
         .default_value("4");
     let plans = Arg::new(alloc, "plans")
-        .value_name("FILE")
-        .help("The planner's file, with one plan")
+        .value_name("PLANS")
+        .help("The planners' files, each with the plans of one planner")
         .required(true)
-        .action(ArgAction::Set);
+        .num_args(1..)
+        .action(ArgAction::Append);
     Command::new(alloc, "judge")
         .about(JUDGE_ABOUT)
         .after_help(JUDGE_AFTER_HELP)

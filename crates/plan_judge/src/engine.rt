@@ -1,50 +1,76 @@
 //! The engine: texts in, report out.
 //!
-//! [`judge_plain`] reads the domain and the problem, reads and judges each planner's plan, and makes the whole report. Its contract says
+//! [`judge_plain`] reads the domain and the problem, reads and judges the plans of each planner, and makes the whole report. Its contract says
 //! that the report is the stated function of the bytes that came in.
-ghost use Rattle.std.specs.Prelude.{◌≡◌, ◌≢◌, ◌++◌, ◌<◌, ◌≤◌, ◌^◌, ℕ, List, length, map, IfOk, IfErr, OnOk, Some, None};
-ghost use Rattle.plan_judge.specs.Answer.{answer, task_of, planner_of, too_large};
-ghost use Rattle.plan_judge.specs.Report.{report, planner_lines, lone_plan, steps_if_valid};
-ghost use Rattle.plan_judge.specs.declared.fault.JudgeFault.TheVariants.{OutOfMemory, TooLarge};
+ghost use Rattle.std.specs.Prelude.{◌≡◌, ◌≢◌, ◌↔◌, ◌+◌, ◌<◌, ◌≤◌, ◌^◌, ◌⊎◌, ℕ, List, length, map, IfOk, IfErr, Some, None, Err, MatchBool};
+ghost use Rattle.pddl_reader.specs.declared.fault.ReadFault as read_fault;
+ghost use Rattle.pddl_reader.specs.Trees.{text_fault};
+ghost use Rattle.plan_judge.specs.Answer.{answer, task_of, planner_of, too_large, plan_count, most_planners, most_plans};
+ghost use Rattle.plan_judge.specs.Refusal.{ReadingCallsFor, TextsCallFor};
+ghost use Rattle.plan_judge.specs.Report.{report};
+ghost use Rattle.plan_judge.specs.declared.fault.JudgeFault.TheVariants.{OutOfMemory, TooLarge, TooManyPlanners, TooManyPlans, Domain};
 
 use crate::bundle::Bundle;
 use crate::fault::JudgeFault;
 use crate::inlet::FILE_LIMIT;
-use crate::lines::{push_header, push_plan_line, push_summary};
+use crate::lines::push_header;
+use crate::planner::push_planner;
 use crate::report::Report;
 use crate::text::Text;
 use pddl_reader::{FaultKind, ReadFault, read_domain, read_problem};
-use plan_text::read_plan;
+use plan_text::count_parts;
 use std::alloc::{AllocError, Global};
-use strips_judge::{Verdict, judge};
-use strips_task::{Plan, Task};
+use strips_task::Task;
 
-/// The report of a run over a domain text, a problem text and the file of one planner.
+/// The most planners of a run.
+pub const MOST_PLANNERS: usize = 64;
+
+/// The most plans of a run, of all planners together.
+pub const MOST_PLANS: usize = 65536;
+
+/// The report of a run over a domain text, a problem text and the files of planners.
 ///
-/// The file is one plan. Its reading and judging never refuse: a file that is no plan is a verdict. The whole report is made before
-/// anything is written.
+/// A file holds one plan or more (`plan_text::Parts`). Their reading and judging never refuse: a text that is no plan is a verdict. The
+/// whole report is made before anything is written; without planners it is the first line alone.
+///
+/// A run without a report is refused for the first cause in the order of `JudgeFault`. The plans are counted before any is read. Which kind
+/// of fault a text has, and where, once its bytes and parentheses are right, is the reader's to say. Want of memory can come in place of any
+/// cause but those that take no memory to find: that a text is too large, too many planners, and the wrong bytes and parentheses of the
+/// domain.
 pub fn judge_plain(
     alloc: Global,
     domain: &[u8],
     problem: &[u8],
     bundles: &[Bundle],
 ) -> Result<Report, JudgeFault>
-    requires { length bundles.now ≡ 1 }
+    requires { length bundles.now + 2 ≤ 2 ^ 32 }
     ensures answer { IfOk result (λ report. answer domain.now problem.now bundles.now ≡ Some report) }
     ensures refusal { IfErr result (λ fault. fault ≢ OutOfMemory → answer domain.now problem.now bundles.now ≡ None) }
+    ensures cause { IfErr result (λ fault. fault ≢ OutOfMemory → TextsCallFor domain.now problem.now bundles.now fault) }
+
+    // What takes no memory to find is always told.
+    ensures large { (place : ℕ) → (result ≡ Err (TooLarge place)) ↔ (too_large domain.now problem.now bundles.now ≡ Some place) }
+    ensures planners { too_large domain.now problem.now bundles.now ≡ None → most_planners < length bundles.now → result ≡ Err TooManyPlanners }
+    ensures domain_text { (e : read_fault.ReadFault) → too_large domain.now problem.now bundles.now ≡ None → length bundles.now ≤ most_planners
+        → text_fault domain.now ≡ Some e → result ≡ Err (Domain e) }
 {
     match too_large(domain, problem, bundles) {
         Some(place) => Err(JudgeFault::TooLarge(place)),
-        None => match read_task(alloc, domain, problem) {
-            Ok(task) => report_of(alloc, &task, bundles),
-            Err(fault) => Err(fault),
-        },
+        None => {
+            if bundles.len() > MOST_PLANNERS {
+                return Err(JudgeFault::TooManyPlanners);
+            }
+            match read_task(alloc, domain, problem) {
+                Ok(task) => judge_planners(alloc, &task, bundles),
+                Err(fault) => Err(fault),
+            }
+        }
     }
 }
 
-/// The place of the first text that is over the limit of a file.
+/// The place of the first text that is over the limit of a file: 0 is the domain, 1 the problem, and 2 + k the k-th file from 0.
 fn too_large(domain: &[u8], problem: &[u8], bundles: &[Bundle]) -> Option<u32>
-    requires { length bundles.now ≡ 1 }
+    requires { length bundles.now + 2 ≤ 2 ^ 32 }
     ensures { result ≡ too_large domain.now problem.now bundles.now }
 {
     if domain.len() > FILE_LIMIT {
@@ -53,8 +79,10 @@ fn too_large(domain: &[u8], problem: &[u8], bundles: &[Bundle]) -> Option<u32>
     if problem.len() > FILE_LIMIT {
         return Some(1);
     }
-    if bundles[0].bytes().len() > FILE_LIMIT {
-        return Some(2);
+    for (number, bundle) in bundles.iter().enumerate() {
+        if bundle.bytes().len() > FILE_LIMIT {
+            return Some(number as u32 + 2);
+        }
     }
     None
 }
@@ -63,6 +91,9 @@ fn too_large(domain: &[u8], problem: &[u8], bundles: &[Bundle]) -> Option<u32>
 fn read_task(alloc: Global, domain: &[u8], problem: &[u8]) -> Result<Task, JudgeFault>
     ensures task { IfOk result (λ task. task_of domain.now problem.now ≡ Some task) }
     ensures refusal { IfErr result (λ fault. fault ≢ OutOfMemory → task_of domain.now problem.now ≡ None) }
+    ensures cause { IfErr result (λ fault. fault ≢ OutOfMemory → ReadingCallsFor domain.now problem.now fault) }
+    ensures domain_text { (e : read_fault.ReadFault) → text_fault domain.now ≡ Some e → result ≡ Err (Domain e) }
+    ensures reader { IfErr result (λ fault. (place : ℕ) → fault ≢ TooLarge place) }
 {
     let domain = match read_domain(alloc, domain) {
         Ok(domain) => domain,
@@ -76,7 +107,8 @@ fn read_task(alloc: Global, domain: &[u8], problem: &[u8]) -> Result<Task, Judge
 
 /// Why a run stops at a reader's refusal: want of memory is one wherever it comes.
 fn refusal(fault: ReadFault, other: JudgeFault) -> JudgeFault
-    ensures { result ≢ OutOfMemory → fault.kind ≢ FaultKind.OutOfMemory }
+    ensures memory { fault.kind ≡ FaultKind.OutOfMemory → result ≡ OutOfMemory }
+    ensures other { fault.kind ≢ FaultKind.OutOfMemory → result ≡ other }
 {
     match fault.kind {
         FaultKind::OutOfMemory => JudgeFault::OutOfMemory,
@@ -84,10 +116,39 @@ fn refusal(fault: ReadFault, other: JudgeFault) -> JudgeFault
     }
 }
 
+/// The report of a task's plans, unless there are too many.
+fn judge_planners(alloc: Global, task: &Task, bundles: &[Bundle]) -> Result<Report, JudgeFault>
+    ensures report { IfOk result (λ text. (plan_count bundles.now ≤ most_plans) × (text ≡ report task.now (map (planner_of task.now) bundles.now))) }
+    ensures refusal { IfErr result (λ fault. (fault ≡ OutOfMemory) ⊎ ((fault ≡ TooManyPlans) × (most_plans < plan_count bundles.now))) }
+{
+    if have_too_many_plans(bundles) {
+        return Err(JudgeFault::TooManyPlans);
+    }
+    match report_of(alloc, task, bundles) {
+        Ok(report) => Ok(report),
+        Err(error) => Err(JudgeFault::from(error)),
+    }
+}
+
+/// Whether the planners' files hold too many plans. They are counted, and none is read.
+fn have_too_many_plans(bundles: &[Bundle]) -> bool
+    ensures { MatchBool result (most_plans < plan_count bundles.now) (plan_count bundles.now ≤ most_plans) }
+{
+    let mut room = MOST_PLANS;
+    for bundle in bundles {
+        let count = count_parts(bundle.bytes());
+        if count > room {
+            return true;
+        }
+        room -= count;
+    }
+    false
+}
+
 /// The report of a task's plans.
-fn report_of(alloc: Global, task: &Task, bundles: &[Bundle]) -> Result<Report, JudgeFault>
-    ensures report { IfOk result (λ text. text ≡ report task.now (map (planner_of task.now) bundles.now)) }
-    ensures refusal { IfErr result (λ fault. fault ≡ OutOfMemory) }
+fn report_of(alloc: Global, task: &Task, bundles: &[Bundle]) -> Result<Report, AllocError>
+    requires { plan_count bundles.now ≤ most_plans }
+    ensures { IfOk result (λ text. text ≡ report task.now (map (planner_of task.now) bundles.now)) }
 {
     let mut text = Text::new(alloc);
     push_header(&mut text, task)?;
@@ -95,53 +156,4 @@ fn report_of(alloc: Global, task: &Task, bundles: &[Bundle]) -> Result<Report, J
         push_planner(alloc, &mut text, task, bundle)?;
     }
     Ok(Report::from_bytes(text.into_bytes()))
-}
-
-/// Adds the lines of a planner.
-fn push_planner(
-    alloc: Global,
-    text: &mut Text,
-    task: &Task,
-    bundle: &Bundle,
-) -> Result<(), AllocError>
-    ensures { OnOk result (text.new ≡ text.old ++ planner_lines task.now (planner_of task.now bundle.now)) }
-{
-    let plan = read_plan(alloc, bundle.bytes())?;
-    let verdict = judge(alloc, task, &plan)?;
-    push_judged(text, task, bundle.name(), &plan, &verdict)
-}
-
-/// Adds the lines of a planner with one plan.
-fn push_judged(
-    text: &mut Text,
-    task: &Task,
-    name: &[u8],
-    plan: &Plan,
-    verdict: &Verdict,
-) -> Result<(), AllocError>
-    ensures { OnOk result (text.new ≡ text.old ++ planner_lines task.now (lone_plan name.now plan.now verdict.now)) }
-{
-    push_plan_line(text, task, name, 1, plan, verdict)?;
-    match valid_steps(verdict) {
-        Some(steps) => {
-            push_summary(text, name, 1, 1, Some(steps))?;
-            Ok(())
-        }
-        None => {
-            push_summary(text, name, 1, 0, None)?;
-            Ok(())
-        }
-    }
-}
-
-/// The number of steps, where the verdict is that the plan is valid.
-fn valid_steps(verdict: &Verdict) -> Option<u32>
-    ensures { result ≡ steps_if_valid verdict.now }
-{
-    match verdict {
-        Verdict::Valid { steps } => Some(*steps),
-        Verdict::Fails { step: _, why: _ } => None,
-        Verdict::Goal { missing: _ } => None,
-        Verdict::Unreadable { line: _ } => None,
-    }
 }

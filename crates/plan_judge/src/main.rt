@@ -8,6 +8,7 @@ pub mod fault;
 pub mod inlet;
 mod lines;
 pub mod outlet;
+mod planner;
 pub mod program;
 mod render;
 pub mod report;
@@ -17,22 +18,24 @@ mod text;
 
 use inlet::Files;
 use outlet::Sink;
-use program::main_with;
+use program::{main_with, out_of_memory};
 use std::env;
 use std::io::ErrorKind;
 use std::process::ExitCode;
 
 fn main(rt: HostRuntime) -> ExitCode {
+    let mut err = Sink::new(rt.stderr());
     let words = match env::args(&rt) {
         Ok(words) => words,
-        Err(error) if error.kind() == ErrorKind::OutOfMemory => return ExitCode::from(3),
+        Err(error) if error.kind() == ErrorKind::OutOfMemory => {
+            return ExitCode::from(out_of_memory(&mut err));
+        }
         Err(_) => return ExitCode::from(2),
     };
     let words: Vec<String> = match words.collect(rt.alloc()) {
         Ok(words) => words,
-        Err(_) => return ExitCode::from(3),
+        Err(_) => return ExitCode::from(out_of_memory(&mut err)),
     };
     let mut out = Sink::new(rt.stdout());
-    let mut err = Sink::new(rt.stderr());
     ExitCode::from(main_with(&rt, words.as_slice(), &Files::new(&rt), &mut out, &mut err))
 }

@@ -1,7 +1,10 @@
 //! The program: the words of the command line in, bytes and an exit status out.
 //!
 //! [`main_with`] does all that `main` does, over sources and outlets that are handed in, so that tests can make them fail.
-ghost use Rattle.std.specs.Prelude.{◌≡◌, ◌≤◌, false};
+ghost use Rattle.std.specs.Prelude.{◌≡◌, ◌↔◌, ◌⊎◌, ◌<◌, ◌≤◌, true, false, map, length, IfOk};
+ghost use Rattle.std.specs.Io.KnownBytes.{Appends};
+ghost use Rattle.plan_judge.specs.Outlet.{AppendsFront};
+ghost use Rattle.plan_judge.specs.Run.{IsReportOver, WritesReport, CutsReport, IsFile, AreFiles};
 
 use crate::bundle::Bundle;
 use crate::command::{JudgeRequest, Request, parse};
@@ -13,15 +16,16 @@ use crate::report::Report;
 use crate::text::Text;
 use pddl_reader::ReadFault;
 use pddl_tokens::line_of;
-use std::alloc::{AllocError, Global};
+use std::alloc::{AllocError, AllocFailed, Global};
 
-/// Why the program stops without a report.
+/// The most files of plans of a command line; no system passes as many words.
+const MOST_FILES: usize = 1 << 31;
+
+/// Why a run over files stops without a report.
 #[derive(Debug, Drop)]
 enum Stop {
     /// An input is refused; this is told.
     Input(Vec<u8>),
-    /// The command line is refused; this is told.
-    Usage(Vec<u8>),
     /// Something that the run needs is missing; this is told.
     Lacking(Vec<u8>),
     /// Memory ran out.
@@ -30,6 +34,12 @@ enum Stop {
 
 impl From<AllocError> for Stop {
     fn from(_error: AllocError) -> Stop {
+        Stop::OutOfMemory
+    }
+}
+
+impl<T: Drop> From<AllocFailed<T>> for Stop {
+    fn from(_error: AllocFailed<T>) -> Stop {
         Stop::OutOfMemory
     }
 }
@@ -48,33 +58,74 @@ pub fn main_with<R: AllocGlobal, S: Sources, O: Outlet, E: Outlet>(
 ) -> u8
     requires { O.failed out.old ≡ false }
     ensures status { result ≤ 4 }
-    ensures written { result ≡ 0 → O.failed out.new ≡ false }
+    ensures unwritten { (result ≡ 4) ↔ (O.failed out.new ≡ true) }
+    ensures untouched { 0 < result → result < 4 → out.new ≡ out.old }
 {
-    match answer(rt.alloc(), words, sources) {
-        Ok(report) => {
-            if write_report(&report, out).is_ok() {
-                return 0;
-            }
-            tell(err, b"cannot write the report\n");
-            4
+    match parse(rt.alloc(), words) {
+        Ok(Request::Judge(files)) => judge_with(rt.alloc(), &files, sources, out, err),
+        Ok(Request::Show(text)) => write_out(&Report::from_bytes(text.into_bytes()), out, err),
+        Ok(Request::Refused(text)) => {
+            tell(err, text.as_bytes());
+            2
         }
+        Err(AllocError) => out_of_memory(err),
+    }
+}
+
+/// Judges the plans of files, one for each planner, and answers the exit status, as `main_with` does for a command line that names these files.
+pub fn judge_with<S: Sources, O: Outlet, E: Outlet>(
+    alloc: Global,
+    files: &JudgeRequest<'_>,
+    sources: &S,
+    out: &mut O,
+    err: &mut E,
+) -> u8
+    requires { O.failed out.old ≡ false }
+    ensures status { result ≤ 4 }
+    ensures written { result ≡ 0 → WritesReport (S.may_hold sources.now) files.now.domain.now files.now.problem.now (map (λ name. name.now) files.now.plans.items)
+        (O.taken out.old) (O.taken out.new) }
+    ensures cut { result ≡ 4 → CutsReport (S.may_hold sources.now) files.now.domain.now files.now.problem.now (map (λ name. name.now) files.now.plans.items)
+        (O.taken out.old) (O.taken out.new) }
+    ensures unwritten { (result ≡ 4) ↔ (O.failed out.new ≡ true) }
+    ensures untouched { 0 < result → result < 4 → out.new ≡ out.old }
+{
+    match judge_files(alloc, files, sources) {
+        Ok(report) => write_out(&report, out, err),
         Err(Stop::Input(text)) => {
             tell(err, text.as_slice());
             1
-        }
-        Err(Stop::Usage(text)) => {
-            tell(err, text.as_slice());
-            2
         }
         Err(Stop::Lacking(text)) => {
             tell(err, text.as_slice());
             3
         }
-        Err(Stop::OutOfMemory) => {
-            tell(err, b"out of memory\n");
-            3
+        Err(Stop::OutOfMemory) => out_of_memory(err),
+    }
+}
+
+/// Writes a report or help, and answers the exit status: 0 where all of it went out, and else 4.
+fn write_out<O: Outlet, E: Outlet>(report: &Report, out: &mut O, err: &mut E) -> u8
+    requires { O.failed out.old ≡ false }
+    ensures status { (result ≡ 0) ⊎ (result ≡ 4) }
+    ensures whole { result ≡ 0 → Appends (O.taken out.old) (O.taken out.new) report.now }
+    ensures cut { result ≡ 4 → AppendsFront (O.taken out.old) (O.taken out.new) report.now }
+    ensures unwritten { (result ≡ 4) ↔ (O.failed out.new ≡ true) }
+{
+    match write_report(report, out) {
+        Ok(()) => 0,
+        Err(_) => {
+            tell(err, b"cannot write the report\n");
+            4
         }
     }
+}
+
+/// Tells that memory ran out, and answers the exit status for it. Takes no memory.
+pub(crate) fn out_of_memory<E: Outlet>(err: &mut E) -> u8
+    ensures { result ≡ 3 }
+{
+    tell(err, b"out of memory\n");
+    3
 }
 
 /// Writes bytes to the outlet for errors; a fault there is ignored.
@@ -84,34 +135,56 @@ fn tell<E: Outlet>(err: &mut E, bytes: &[u8]) {
     }
 }
 
-/// What goes to the outlet: the report, or help.
-fn answer<S: Sources>(alloc: Global, words: &[String], sources: &S) -> Result<Report, Stop> {
-    match parse(alloc, words)? {
-        Request::Show(text) => Ok(Report::from_bytes(text.into_bytes())),
-        Request::Refused(text) => Err(Stop::Usage(text.into_bytes())),
-        Request::Judge(files) => judge_files(alloc, &files, sources),
-    }
-}
-
 /// The report of a run over files. They are read in the order of domain, problem and plans.
 fn judge_files<S: Sources>(
     alloc: Global,
     files: &JudgeRequest<'_>,
     sources: &S,
-) -> Result<Report, Stop> {
+) -> Result<Report, Stop>
+    ensures { IfOk result (IsReportOver (S.may_hold sources.now) files.now.domain.now files.now.problem.now (map (λ name. name.now) files.now.plans.items)) }
+{
+    if files.plans.len() > MOST_FILES {
+        return Err(judge_stop(alloc, JudgeFault::TooManyPlanners, files, &[], &[])?);
+    }
     let domain = read(alloc, sources, files.domain)?;
     let problem = read(alloc, sources, files.problem)?;
-    let bytes = read(alloc, sources, files.plans)?;
-    let name = String::from_str(alloc, files.plans)?;
-    let bundles = [Bundle { name, bytes }];
-    match judge_plain(alloc, domain.as_slice(), problem.as_slice(), &bundles) {
+    let bundles = read_bundles(alloc, sources, files.plans.as_slice())?;
+    match judge_plain(
+        alloc,
+        domain.as_slice(),
+        problem.as_slice(),
+        bundles.as_slice(),
+    ) {
         Ok(report) => Ok(report),
         Err(fault) => Err(judge_stop(alloc, fault, files, domain.as_slice(), problem.as_slice())?),
     }
 }
 
+/// The files of planners, in the order of their names. A planner has the name of its file.
+fn read_bundles<S: Sources>(alloc: Global, sources: &S, names: &[&str]) -> Result<Vec<Bundle>, Stop>
+    ensures files { IfOk result (λ bundles. AreFiles (S.may_hold sources.now) (map (λ name. name.now) names.now) bundles.items) }
+    ensures count { IfOk result (λ bundles. length bundles.items ≡ length names.now) }
+{
+    let mut bundles = Vec::with_capacity(alloc, names.len())?;
+    for name in names {
+        bundles.push(read_bundle(alloc, sources, name)?)?;
+    }
+    Ok(bundles)
+}
+
+/// The file of a planner.
+fn read_bundle<S: Sources>(alloc: Global, sources: &S, name: &str) -> Result<Bundle, Stop>
+    ensures { IfOk result (IsFile (S.may_hold sources.now) name.now) }
+{
+    let bytes = read(alloc, sources, name)?;
+    let name = String::from_str(alloc, name)?;
+    Ok(Bundle { name, bytes })
+}
+
 /// The text of a file.
-fn read<S: Sources>(alloc: Global, sources: &S, name: &str) -> Result<Vec<u8>, Stop> {
+fn read<S: Sources>(alloc: Global, sources: &S, name: &str) -> Result<Vec<u8>, Stop>
+    ensures { IfOk result (λ bytes. S.may_hold sources.now name.now bytes.items) }
+{
     match sources.text(name) {
         Ok(bytes) => Ok(bytes),
         Err(InFault::OutOfMemory) => Err(Stop::OutOfMemory),
@@ -159,12 +232,15 @@ fn judge_stop(
     }
 }
 
-/// The name of the file with a place: 0 is the domain, 1 the problem.
+/// The name of the file with a place: 0 is the domain, 1 the problem, and 2 + k the k-th file of plans.
 fn file_name<'a>(files: &JudgeRequest<'a>, place: u32) -> &'a str {
     match place {
         0 => files.domain,
         1 => files.problem,
-        _ => files.plans,
+        _ => match files.plans.get(place as usize - 2) {
+            Some(name) => name,
+            None => files.problem,
+        },
     }
 }
 

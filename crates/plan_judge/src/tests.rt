@@ -1,11 +1,18 @@
-//! The first worked run from bytes to bytes, what is told where a run stops, and outlets and inlets that fail.
+//! Runs of the program from words and files to bytes and statuses, and outlets and inlets that fail.
+//!
+//! The files are held in memory. What is expected was written by hand.
+ghost use Rattle.std.specs.Prelude.{◌≡◌, false};
+
 use crate::bundle::Bundle;
 use crate::engine::judge_plain;
 use crate::fault::JudgeFault;
-use crate::inlet::{Feed, read_file};
+use crate::inlet::{Feed, InFault, Sources, read_file};
 use crate::outlet::{Failed, Outlet, write_report};
+use crate::program::main_with;
 use crate::report::Report;
-use std::alloc::Global;
+use std::alloc::{AllocError, Global};
+use std::io;
+use std::io::{ErrorKind, Read};
 
 const LAMP: &[u8] = b"(define (domain lamp)
   (:predicates (lit) (dark))
@@ -16,6 +23,340 @@ const LAMP: &[u8] = b"(define (domain lamp)
 
 const LAMP_1: &[u8] = b"(define (problem lamp-1) (:domain lamp) (:init (dark)) (:goal (lit)))
 ";
+
+/// A domain whose last `)` is missing.
+const OPEN: &[u8] = b"(define (domain t)";
+
+/// A problem with a predicate that the lamp domain does not declare.
+const DRAK: &[u8] = b"(define (problem x) (:domain lamp) (:init (drak)) (:goal (lit)))";
+
+const LAMP_REPORT: &[u8] = b"domain lamp problem lamp-1\np 1 valid 1\np plans 1 valid 1 best 1\n";
+
+/// The words of a run over the files `d`, `q` and `p`.
+const JUDGE: &str = "plan_judge judge --domain d --problem q p";
+
+/// What a file holds.
+#[derive(Clone, Copy)]
+enum Content {
+    Text(&'static [u8]),
+    Spaces(usize),
+    Missing,
+}
+
+/// The files `d`, `q` and `p`.
+#[derive(Drop)]
+struct Shelf {
+    alloc: Global,
+    domain: Content,
+    problem: Content,
+    plans: Content,
+}
+
+impl Sources for Shelf {
+    ghost use Rattle.std.specs.Prelude.{⊤};
+
+    ghost may_hold = { λ _ _ _. ⊤ };
+
+    fn text(&self, name: &str) -> Result<Vec<u8>, InFault> {
+        let content = match name {
+            "d" => self.domain,
+            "q" => self.problem,
+            "p" => self.plans,
+            _ => Content::Missing,
+        };
+        let bytes = match content {
+            Content::Text(bytes) => bytes.to_vec(self.alloc),
+            Content::Spaces(count) => vec![in self.alloc; b' '; count],
+            Content::Missing => return Err(InFault::Unreadable),
+        };
+        match bytes {
+            Ok(bytes) => Ok(bytes),
+            Err(AllocError) => Err(InFault::OutOfMemory),
+        }
+    }
+}
+
+/// An outlet that takes so many bytes at a time, and so many in all. Then it fails, or takes none.
+#[derive(Drop)]
+struct Narrow {
+    taken: Vec<u8>,
+    piece: usize,
+    room: usize,
+    fails: bool,
+    failed: bool,
+}
+
+impl Narrow {
+    /// An outlet that has taken nothing yet.
+    fn new(alloc: Global, piece: usize, room: usize, fails: bool) -> Self
+        ensures { result.failed ≡ false }
+    {
+        Narrow {
+            taken: Vec::new(alloc),
+            piece,
+            room,
+            fails,
+            failed: false,
+        }
+    }
+
+    /// An outlet that takes all.
+    fn wide(alloc: Global) -> Self
+        ensures { result.failed ≡ false }
+    {
+        Narrow::new(alloc, 1 << 20, 1 << 20, true)
+    }
+}
+
+impl Outlet for Narrow {
+    ghost use Rattle.std.specs.Prelude.{Some};
+
+    ghost taken = { λ n. Some n.taken.items };
+
+    ghost failed = { λ n. n.failed };
+
+    fn put(&mut self, bytes: &[u8]) -> Result<usize, Failed> {
+        let count = bytes.len().min(self.piece).min(self.room);
+        if count == 0 && !bytes.is_empty() {
+            self.failed = true;
+            return if self.fails { Err(Failed) } else { Ok(0) };
+        }
+        if self.taken.extend_from_slice(&bytes[..count]).is_err() {
+            self.failed = true;
+            return Err(Failed);
+        }
+        self.room -= count;
+        Ok(count)
+    }
+
+    fn has_failed(&self) -> bool {
+        self.failed
+    }
+}
+
+/// The words of a command line, one space apart.
+fn line(alloc: Global, words: &str) -> Result<Vec<String>, AllocError> {
+    let mut line = Vec::new(alloc);
+    for word in words.split(' ') {
+        line.push(String::from_str(alloc, word)?)?;
+    }
+    Ok(line)
+}
+
+/// The status of a run of these words over these files; 9 where memory ran out before it.
+fn run(rt: &HostRuntime, words: &str, shelf: &Shelf, out: &mut Narrow, err: &mut Narrow) -> u8
+    requires { out.old.failed ≡ false }
+{
+    match line(rt.alloc(), words) {
+        Ok(words) => main_with(rt, words.as_slice(), shelf, out, err),
+        Err(AllocError) => 9,
+    }
+}
+
+/// The files of the first worked run.
+fn lamp_shelf(alloc: Global) -> Shelf {
+    Shelf {
+        alloc,
+        domain: Content::Text(LAMP),
+        problem: Content::Text(LAMP_1),
+        plans: Content::Text(b"(light)\n"),
+    }
+}
+
+/// Whether a run over these files ends with this status, and writes this.
+fn answers(rt: &HostRuntime, files: [Content; 3], status: u8, out: &[u8], err: &[u8]) -> bool {
+    let [domain, problem, plans] = files;
+    let shelf = Shelf {
+        alloc: rt.alloc(),
+        domain,
+        problem,
+        plans,
+    };
+    let mut to_out = Narrow::wide(rt.alloc());
+    let mut to_err = Narrow::wide(rt.alloc());
+    let answered = run(rt, JUDGE, &shelf, &mut to_out, &mut to_err);
+    answered == status && to_out.taken.as_slice() == out && to_err.taken.as_slice() == err
+}
+
+#[test]
+fn the_first_cause_is_told(rt: HostRuntime) {
+    use Content::{Missing, Text};
+    let plan = Text(b"(light");
+    assert!(rt; answers(&rt, [Missing, Missing, Missing], 1, b"", b"cannot read d\n"));
+    assert!(rt;
+        answers(
+            &rt,
+            [Text(OPEN), Missing, Missing],
+            1,
+            b"",
+            b"cannot read q\n"
+        )
+    );
+    assert!(rt;
+        answers(
+            &rt,
+            [Text(OPEN), Text(DRAK), Missing],
+            1,
+            b"",
+            b"cannot read p\n"
+        )
+    );
+    let open: &[u8] = b"domain line 1 bytes 18-18: Unbalanced\n";
+    assert!(rt; answers(&rt, [Text(OPEN), Text(DRAK), plan], 1, b"", open));
+    let drak: &[u8] = b"problem line 1 bytes 43-47: UnknownName\n";
+    assert!(rt; answers(&rt, [Text(LAMP), Text(DRAK), plan], 1, b"", drak));
+    let unreadable: &[u8] =
+        b"domain lamp problem lamp-1\np 1 unreadable line 1\np plans 1 valid 0 best -\n";
+    assert!(rt; answers(&rt, [Text(LAMP), Text(LAMP_1), plan], 0, unreadable, b""));
+}
+
+#[test]
+fn a_large_file_comes_before_wrong_texts(rt: HostRuntime) {
+    use Content::{Spaces, Text};
+    let large = Spaces(16_777_217);
+    assert!(rt; answers(&rt, [Text(OPEN), large, large], 1, b"", b"q is too large\n"));
+    assert!(rt;
+        answers(
+            &rt,
+            [Text(OPEN), Text(DRAK), large],
+            1,
+            b"",
+            b"p is too large\n"
+        )
+    );
+}
+
+/// Whether a command line is refused, and something is told.
+fn refuses(rt: &HostRuntime, words: &str) -> bool {
+    let mut out = Narrow::wide(rt.alloc());
+    let mut err = Narrow::wide(rt.alloc());
+    let status = run(rt, words, &lamp_shelf(rt.alloc()), &mut out, &mut err);
+    status == 2 && out.taken.is_empty() && !err.taken.is_empty()
+}
+
+#[test]
+fn wrong_command_lines(rt: HostRuntime) {
+    for words in [
+        "plan_judge",
+        "plan_judge validate --domain d --problem q p",
+        "plan_judge judge --domain d --problem q",
+        "plan_judge judge --problem q p",
+        "plan_judge judge --domain d --problem q --domain d p",
+        "plan_judge judge --domain d --problem q --workers 0 p",
+        "plan_judge judge --domain d --problem q --workers 33 p",
+        "plan_judge judge --domain d --problem q --workers 1x p",
+    ] {
+        assert!(rt; refuses(&rt, words), "{words}");
+    }
+}
+
+/// Whether a run to an outlet that takes one byte at a time, and so many in all, writes this front of a text and stops as it should.
+fn writes_front(rt: &HostRuntime, words: &str, text: &[u8], room: usize, fails: bool) -> bool {
+    let mut out = Narrow::new(rt.alloc(), 1, room, fails);
+    let mut err = Narrow::wide(rt.alloc());
+    let status = run(rt, words, &lamp_shelf(rt.alloc()), &mut out, &mut err);
+    let told: &[u8] = if room < text.len() {
+        b"cannot write the report\n"
+    } else {
+        b""
+    };
+    let expected = if room < text.len() { 4 } else { 0 };
+    status == expected
+        && out.taken.len() == room.min(text.len())
+        && text.starts_with(out.taken.as_slice())
+        && err.taken.as_slice() == told
+}
+
+/// Whether a text is written whole and, where the outlet stops, from its front, wherever that is.
+fn writes_fronts(rt: &HostRuntime, words: &str, text: &[u8]) -> bool {
+    for room in 0..=text.len() {
+        if !writes_front(rt, words, text, room, true)
+            || !writes_front(rt, words, text, room, false)
+        {
+            return false;
+        }
+    }
+    true
+}
+
+#[test]
+fn outlets_that_stop(rt: HostRuntime) {
+    assert!(rt; writes_fronts(&rt, JUDGE, LAMP_REPORT));
+    let help = "plan_judge --help";
+    let mut out = Narrow::wide(rt.alloc());
+    let mut err = Narrow::wide(rt.alloc());
+    let status = run(&rt, help, &lamp_shelf(rt.alloc()), &mut out, &mut err);
+    assert!(rt; status == 0 && !out.taken.is_empty() && err.taken.is_empty());
+    assert!(rt; writes_fronts(&rt, help, out.taken.as_slice()));
+}
+
+/// The status of a run whose outlet for errors takes so many bytes, and whose other outlet takes so many.
+fn status_with(rt: &HostRuntime, words: &str, room: usize, told: usize, fails: bool) -> u8 {
+    let mut out = Narrow::new(rt.alloc(), 100, room, fails);
+    let mut err = Narrow::new(rt.alloc(), 5, told, fails);
+    run(rt, words, &lamp_shelf(rt.alloc()), &mut out, &mut err)
+}
+
+#[test]
+fn faults_of_the_outlet_for_errors_are_ignored(rt: HostRuntime) {
+    let missing = "plan_judge judge --domain d --problem x p";
+    for told in [0, 1, 7] {
+        for fails in [true, false] {
+            assert_eq!(rt; status_with(&rt, JUDGE, 1000, told, fails), 0);
+            assert_eq!(rt; status_with(&rt, missing, 1000, told, fails), 1);
+            assert_eq!(rt; status_with(&rt, "plan_judge", 1000, told, fails), 2);
+            assert_eq!(rt; status_with(&rt, JUDGE, 20, told, fails), 4);
+        }
+    }
+}
+
+/// A reader that gives one byte at a time, and fails behind the last one or ends there.
+#[derive(Drop)]
+struct Drip<'a> {
+    left: &'a [u8],
+    fails: bool,
+}
+
+impl Read for Drip<'_> {
+    fn read(&mut self, buffer: &mut [u8]) -> io::Result<usize> {
+        if buffer.is_empty() {
+            return Ok(0);
+        }
+        match self.left.split_first() {
+            Some((first, rest)) => {
+                buffer[0] = *first;
+                self.left = rest;
+                Ok(1)
+            }
+            None if self.fails => Err(io::Error::from(ErrorKind::Interrupted)),
+            None => Ok(0),
+        }
+    }
+}
+
+#[test]
+fn readers_that_stop(rt: HostRuntime) {
+    let text: &[u8] = b"(light)";
+    for count in 0..=text.len() {
+        let front = &text[..count];
+        let whole = read_file(
+            rt.alloc(),
+            &mut Feed::new(Drip {
+                left: front,
+                fails: false,
+            }),
+        );
+        assert!(rt; whole.is_ok_and(|bytes| bytes.as_slice() == front));
+        let failed = read_file(
+            rt.alloc(),
+            &mut Feed::new(Drip {
+                left: front,
+                fails: true,
+            }),
+        );
+        assert!(rt; failed.is_err_and(|fault| fault == InFault::Unreadable));
+    }
+}
 
 /// The report of the lamp domain and problem for a planner `p` with this file.
 fn lamp_report(alloc: Global, plan: &[u8]) -> Result<Report, JudgeFault> {
@@ -60,43 +401,9 @@ fn statuses(rt: HostRuntime) {
     assert_eq!(rt; JudgeFault::Held(7).status(), 3);
 }
 
-/// An outlet that takes a number of bytes and then fails.
-#[derive(Drop)]
-struct Narrow {
-    taken: Vec<u8>,
-    room: usize,
-    failed: bool,
-}
-
-impl Outlet for Narrow {
-    ghost use Rattle.std.specs.Prelude.{Option, None};
-
-    ghost taken = { λ _. None };
-
-    ghost failed = { λ n. n.failed };
-
-    fn put(&mut self, bytes: &[u8]) -> Result<usize, Failed> {
-        let count = bytes.len().min(self.room);
-        if count == 0 || self.taken.extend_from_slice(&bytes[..count]).is_err() {
-            self.failed = true;
-            return Err(Failed);
-        }
-        self.room -= count;
-        Ok(count)
-    }
-
-    fn has_failed(&self) -> bool {
-        self.failed
-    }
-}
-
 #[test]
 fn a_writer_that_stops_after_ten_bytes(rt: HostRuntime) {
-    let mut narrow = Narrow {
-        taken: Vec::new(rt.alloc()),
-        room: 10,
-        failed: false,
-    };
+    let mut narrow = Narrow::new(rt.alloc(), 100, 10, true);
     match lamp_report(rt.alloc(), b"(light)\n") {
         Ok(report) => match write_report(&report, &mut narrow) {
             Ok(()) => assert!(rt; false, "ten bytes are not the report"),
@@ -108,11 +415,77 @@ fn a_writer_that_stops_after_ten_bytes(rt: HostRuntime) {
     assert!(rt; narrow.taken.as_slice() == front);
 }
 
+/// The file of a planner.
+fn bundle(alloc: Global, name: &str, bytes: &[u8]) -> Result<Bundle, AllocError> {
+    Ok(Bundle {
+        name: String::from_str(alloc, name)?,
+        bytes: bytes.to_vec(alloc)?,
+    })
+}
+
+/// The report of three planners, the second of whom has two plans.
+fn three_planners(alloc: Global) -> Result<Report, JudgeFault> {
+    let bundles = [
+        bundle(alloc, "p", b"(light)\n")?,
+        bundle(alloc, "q", b"(light)\n---\n(light) (light)\n")?,
+        bundle(alloc, "r", b"(fly)\n")?,
+    ];
+    judge_plain(alloc, LAMP, LAMP_1, &bundles)
+}
+
 #[test]
-fn a_file_is_read_whole(rt: HostRuntime) {
-    let text: &[u8] = b"(light)";
-    match read_file(rt.alloc(), &mut Feed::new(text)) {
-        Ok(bytes) => assert!(rt; bytes.as_slice() == text),
-        Err(_) => assert!(rt; false, "the text was there"),
+fn several_planners(rt: HostRuntime) {
+    let expected: &[u8] = b"domain lamp problem lamp-1
+p 1 valid 1
+p plans 1 valid 1 best 1
+q 1 valid 1
+q 2 fails at 2 (light): missing (dark)
+q plans 2 valid 1 best 1
+r 1 fails at 1 (fly): unknown action
+r plans 1 valid 0 best -
+";
+    match three_planners(rt.alloc()) {
+        Ok(report) => assert!(rt; report.bytes() == expected),
+        Err(_) => assert!(rt; false, "memory was ample"),
     }
+}
+
+/// A run of so many planners with empty files.
+fn empty_files(alloc: Global, count: usize) -> Result<Report, JudgeFault> {
+    let mut bundles = Vec::new(alloc);
+    for _ in 0..count {
+        if bundles.push(bundle(alloc, "p", b"")?).is_err() {
+            return Err(JudgeFault::OutOfMemory);
+        }
+    }
+    if bundles.len() > 100 {
+        return Err(JudgeFault::OutOfMemory);
+    }
+    judge_plain(alloc, LAMP, LAMP_1, bundles.as_slice())
+}
+
+/// A run of a planner whose file has so many separators.
+fn separators(alloc: Global, count: usize) -> Result<Report, JudgeFault> {
+    let mut bytes = Vec::new(alloc);
+    for _ in 0..count {
+        bytes.extend_from_slice(b"---\n")?;
+    }
+    let bundles = [bundle(alloc, "p", bytes.as_slice())?];
+    judge_plain(alloc, LAMP, LAMP_1, &bundles)
+}
+
+#[test]
+fn limits_of_a_run(rt: HostRuntime) {
+    match empty_files(rt.alloc(), 0) {
+        Ok(report) => assert!(rt; report.bytes() == b"domain lamp problem lamp-1\n".as_slice()),
+        Err(_) => assert!(rt; false, "memory was ample"),
+    }
+    assert!(rt; empty_files(rt.alloc(), 64).is_ok());
+    assert!(rt;
+        empty_files(rt.alloc(), 65).is_err_and(|fault| fault == JudgeFault::TooManyPlanners)
+    );
+    assert!(rt; separators(rt.alloc(), 65535).is_ok());
+    assert!(rt;
+        separators(rt.alloc(), 65536).is_err_and(|fault| fault == JudgeFault::TooManyPlans)
+    );
 }

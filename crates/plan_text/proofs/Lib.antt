@@ -1,5 +1,12 @@
-mod Runs
-mod PlanLaws
-mod OnlyPlan
+mod Lines
+mod Bundles
+mod PartCounts
+mod Digits
+mod DecimalLaws
 mod Names
 mod Steps
+mod Stamps
+mod Runs
+mod Reached
+mod PlanLaws
+mod OnlyPlan

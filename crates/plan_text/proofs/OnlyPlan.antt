@@ -8,11 +8,12 @@ use Rattle.strips_task.specs.declared.plans.Plan.{Plan}
 use Rattle.strips_task.specs.declared.plans.Plan.TheVariants.{Steps, Unreadable}
 use Rattle.strips_task.specs.declared.steps.StepText.{StepText}
 use Rattle.plan_text.specs.declared.want.Want.{Want}
-use Rattle.plan_text.specs.declared.want.Want.TheVariants.{Step, Action, Argument}
+use Rattle.plan_text.specs.declared.want.Want.TheVariants.{Step, Number, Opening, Action, Argument}
 use Rattle.plan_text.specs.PlanGrammar.{Symbol, symbol_of, symbols, IsPlanText, IsViable}
 use Rattle.plan_text.specs.PlanReading.{Reading, nothing_read, read_on, at_end, behind, unreadable, plan_from, plan_of}
 use Rattle.plan_text.specs.PlanFaults.{AreTokens, place_of, Refuses, IsFaultAt, EndsTooEarly, IsFaultLine, IsPlanOf}
-use Rattle.plan_text.proofs.Runs.{run, run-append, run_plan, IsReached, reached_start, reached_on, viable_reached}
+use Rattle.plan_text.proofs.Runs.{reading, run, run-append, IsBetween, run_plan}
+use Rattle.plan_text.proofs.Reached.{IsReached, reached_start, reached_on, viable_reached, plan_reached}
 use Rattle.plan_text.proofs.Steps.{plan_bad, plan_refused, plan_too_long, plan_short}
 
 -- tokens that are read lead to where reading them leads
@@ -55,7 +56,7 @@ viable_by tokens more end (Some r) is ran = record { reading = r; ran = is }
 viable_read : (tokens : List Symbol) → IsViable tokens → IsRead tokens
 viable_read tokens viable =
     viable_by tokens viable.more _ (run nothing_read tokens) refl
-    (sym (run-append nothing_read tokens viable.more) ∙ run_plan (tokens ++ viable.more) viable.steps viable.completed)
+    (sym (run-append nothing_read tokens viable.more) ∙ (run_plan (tokens ++ viable.more) viable.steps viable.completed).ran)
 
 -- a token that leaves nothing viable is not read on
 refused_by : (tokens : List Symbol) (r : Reading) (s : Symbol) (o : Option Reading) → read_on r s ≡ o → IsReached tokens r → (IsViable (tokens ++ s ∷ []) → ⊥) → o ≡ None
@@ -68,10 +69,20 @@ fault_read text tokens r (token kind span bytes) ps ran refused =
     plan_refused text r kind span bytes ps (refused_by tokens r (symbol_of kind bytes) (read_on r (symbol_of kind bytes)) refl (is_reached tokens r ran) refused)
 
 -- at the end inside a step
-end_read : (text : List ℕ) (tokens : List Symbol) (want : Want) (steps : List StepText) (words : List (List ℕ)) → IsReached tokens (record { want = want; steps = steps; words = words }) → ((ss : List StepText) → IsPlanText tokens ss → ⊥) → at_end want text steps ≡ unreadable text (length text)
-end_read text tokens Step steps words reached none = absurd (none steps reached.0)
-end_read text tokens Action steps words reached none = refl
-end_read text tokens Argument steps words reached none = refl
+end_read : (text : List ℕ) (tokens : List Symbol) (want : Want) (least : ℕ) (steps : List StepText) (words : List (List ℕ)) → IsReached tokens (reading want least steps words) → ((ss : List StepText) → IsPlanText tokens ss → ⊥) → at_end want text steps ≡ unreadable text (length text)
+end_read text tokens Step least steps words reached none = absurd (none steps (plan_reached Step tokens least steps words tt reached))
+end_read text tokens Number least steps words reached none = absurd (none steps (plan_reached Number tokens least steps words tt reached))
+end_read text tokens Opening least steps words reached none = refl
+end_read text tokens Action least steps words reached none = refl
+end_read text tokens Argument least steps words reached none = refl
+
+-- at the end between steps
+end_whole : (want : Want) (text : List ℕ) (steps : List StepText) → IsBetween want → at_end want text steps ≡ Steps steps
+end_whole Step text steps between = refl
+end_whole Number text steps between = refl
+end_whole Opening text steps between = absurd between
+end_whole Action text steps between = absurd between
+end_whole Argument text steps between = absurd between
 
 reads_whole : (text : List ℕ) (end : Reading) → length text < 2 ^ 31 → AreTokens (pieces text) → run nothing_read (symbols (pieces text)) ≡ Some end → plan_of text ≡ at_end end.want text end.steps
 unfolding plan_from
@@ -90,7 +101,7 @@ only_end : (text : List ℕ) → length text < 2 ^ 31 → EndsTooEarly text → 
 only_end text short early =
     let at = viable_read (symbols (pieces text)) early.viable in
     reads_whole text at.reading short early.tokens at.ran
-    ∙ end_read text (symbols (pieces text)) at.reading.want at.reading.steps at.reading.words (is_reached _ at.reading at.ran) early.no_plan
+    ∙ end_read text (symbols (pieces text)) at.reading.want at.reading.least at.reading.steps at.reading.words (is_reached _ at.reading at.ran) early.no_plan
 
 only_line : (text : List ℕ) (line : ℕ) (fault : IsFaultLine text line) → plan_of text ≡ unreadable text fault.place
 only_line text line fault =
@@ -101,7 +112,9 @@ only_line text line fault =
 
 -- a text stands for the plan that is read of it, and for no other
 pub only_plan : (text : List ℕ) (plan : Plan) → IsPlanOf text plan → plan ≡ plan_of text
-only_plan text (Steps steps) is = sym (reads_whole text (record { want = Step; steps = steps; words = [] }) is.short is.tokens (run_plan _ _ is.plan))
+only_plan text (Steps steps) is =
+    let whole = run_plan (symbols (pieces text)) steps is.plan in
+    sym (reads_whole text (reading whole.want whole.least steps []) is.short is.tokens whole.ran ∙ end_whole whole.want text steps whole.between)
 only_plan text (Unreadable line) is =
     ⊎_elim
     (λ (long : (2 ^ 31 ≤ length text) × (line ≡ 1)). ap Unreadable long.1 ∙ sym (plan_too_long text long.0))

@@ -8,14 +8,15 @@ use Rattle.pddl_tokens.specs.declared.spans.Span.{Span}
 use Rattle.pddl_tokens.specs.declared.spans.TokenKind.{TokenKind}
 use Rattle.pddl_tokens.specs.Tokens.{Piece, token, bad, pieces}
 use Rattle.pddl_tokens.specs.Lines.{line_of}
-use Rattle.strips_task.specs.declared.plans.Plan.TheVariants.{Unreadable}
+use Rattle.strips_task.specs.declared.plans.Plan.TheVariants.{Steps, Unreadable}
 use Rattle.strips_task.specs.declared.steps.StepText.{StepText}
 use Rattle.plan_text.specs.declared.want.Want.{Want}
-use Rattle.plan_text.specs.declared.want.Want.TheVariants.{Step, Action, Argument}
+use Rattle.plan_text.specs.declared.want.Want.TheVariants.{Step, Number, Opening, Action, Argument}
 use Rattle.plan_text.specs.PlanGrammar.{Symbol, symbol_of, symbols, IsPlanText, IsViable}
 use Rattle.plan_text.specs.PlanReading.{Reading, nothing_read, read_on, at_end, behind, plan_from, plan_of}
 use Rattle.plan_text.specs.PlanFaults.{AreTokens, place_of, Refuses, IsFaultLine, IsPlanOf}
-use Rattle.plan_text.proofs.Runs.{run, IsReached, reached_start, reached_on, viable_reached, not_viable, run_more, no_plan}
+use Rattle.plan_text.proofs.Runs.{run, IsBetween}
+use Rattle.plan_text.proofs.Reached.{IsReached, reached_start, reached_on, viable_reached, plan_reached, not_viable, run_more, no_plan}
 
 symbols-append : (before ps : List Piece) → AreTokens before → symbols (before ++ ps) ≡ symbols before ++ symbols ps
 unfolding symbols
@@ -41,7 +42,7 @@ pub record IsReadBefore (text : List ℕ) (before ps : List Piece) (r : Reading)
   pub reached : IsReached (symbols before) r
 
 -- at the end, inside a step
-ends_early : (text : List ℕ) (before : List Piece) (r : Reading) → IsReadBefore text before [] r → (r.want ≡ Step → ⊥) → IsFaultLine text (line_of text (length text))
+ends_early : (text : List ℕ) (before : List Piece) (r : Reading) → IsReadBefore text before [] r → (IsBetween r.want → ⊥) → IsFaultLine text (line_of text (length text))
 ends_early text before r read unended =
     let all : before ≡ pieces text = sym (read.split ∙ append-nil before) in
     record {
@@ -58,17 +59,23 @@ ends_early text before r read unended =
       in_line = refl;
     }
 
--- at the end
-plan_at_end : (text : List ℕ) (before : List Piece) (want : Want) (steps : List StepText) (words : List (List ℕ)) → IsReadBefore text before [] (record { want = want; steps = steps; words = words }) → IsPlanOf text (at_end want text steps)
-plan_at_end text before Step steps words read =
+-- at the end, where no step is begun
+ends_well : (text : List ℕ) (before : List Piece) (want : Want) (least : ℕ) (steps : List StepText) (words : List (List ℕ)) → IsBetween want → IsReadBefore text before [] (record { want = want; least = least; steps = steps; words = words }) → IsPlanOf text (Steps steps)
+ends_well text before want least steps words between read =
     let all : before ≡ pieces text = sym (read.split ∙ append-nil before) in
     record {
       short = read.short;
       tokens = subst AreTokens all read.tokens;
-      plan = subst (λ (ps : List Piece). IsPlanText (symbols ps) steps) all read.reached.0;
+      plan = subst (λ (ps : List Piece). IsPlanText (symbols ps) steps) all (plan_reached want (symbols before) least steps words between read.reached);
     }
-plan_at_end text before Action steps words read = inr (ends_early text before _ read (λ e. cc))
-plan_at_end text before Argument steps words read = inr (ends_early text before _ read (λ e. cc))
+
+-- at the end
+plan_at_end : (text : List ℕ) (before : List Piece) (want : Want) (least : ℕ) (steps : List StepText) (words : List (List ℕ)) → IsReadBefore text before [] (record { want = want; least = least; steps = steps; words = words }) → IsPlanOf text (at_end want text steps)
+plan_at_end text before Step least steps words read = ends_well text before Step least steps words tt read
+plan_at_end text before Number least steps words read = ends_well text before Number least steps words tt read
+plan_at_end text before Opening least steps words read = inr (ends_early text before _ read (λ between. between))
+plan_at_end text before Action least steps words read = inr (ends_early text before _ read (λ between. between))
+plan_at_end text before Argument least steps words read = inr (ends_early text before _ read (λ between. between))
 
 -- a piece that is refused
 fault_line : (text : List ℕ) (before : List Piece) (fault : Piece) (ps : List Piece) (r : Reading) → IsReadBefore text before (fault ∷ ps) r → Refuses (symbols before) fault → IsFaultLine text (line_of text (place_of fault))
@@ -109,7 +116,7 @@ plan_behind text before kind span bytes ps r read rest (Some next) is =
 -- the rest of a text is read as the plan for which the whole stands
 plan_rest : (text : List ℕ) (ps before : List Piece) (r : Reading) → IsReadBefore text before ps r → IsPlanOf text (plan_from text r ps)
 unfolding plan_from
-plan_rest text [] before r read = plan_at_end text before r.want r.steps r.words read
+plan_rest text [] before r read = plan_at_end text before r.want r.least r.steps r.words read
 plan_rest text (bad at ∷ ps) before r read = inr (fault_line text before (bad at) ps r read tt)
 plan_rest text (token kind span bytes ∷ ps) before r read =
     plan_behind text before kind span bytes ps r read (λ b next h. plan_rest text ps b next h) (read_on r (symbol_of kind bytes)) refl

@@ -1,23 +1,26 @@
--- Reading token by token accepts exactly the plan texts, and goes on exactly while some plan text begins so.
+-- Plan texts are read as the steps for which they stand.
 
-use Rattle.std.proofs.Common.{◌≡◌, ℕ, ◌+◌, ◌<◌, ◌≤◌, Bool, true, false, List, [], ◌∷◌, ◌++◌, length, map, Option, Some, None, refl, sym, ap, ◌∙◌, subst, arith, append_assoc, length-append}
-use Rattle.std.specs.Prelude.{All, IsTrue, nat_lt, cond}
+use Rattle.std.proofs.Common.{◌≡◌, ℕ, ◌+◌, ◌<◌, ◌≤◌, Bool, true, List, [], ◌∷◌, ◌++◌, length, map, Option, Some, None, refl, sym, ap, ◌∙◌, arith, append_assoc, length-append}
+use Rattle.std.specs.Prelude.{All, IsTrue, IfSome, cond}
 use Rattle.std.specs.List.{flat_map}
 use Rattle.std.specs.Option.{option_and_then}
-use Rattle.std.proofs.lemmas.Grind.{flat_map-append}
-use Rattle.std.proofs.lemmas.List.{append-nil, length-map, map_push}
-use Rattle.std.proofs.lemmas.List.Elements.{All-nil, All-head, All-tail, All-push}
-use Rattle.std.proofs.lemmas.Bool.{lt-ltb, ltb-true}
+use Rattle.std.proofs.lemmas.List.{append-nil}
+use Rattle.std.proofs.lemmas.List.Elements.{All-head, All-tail}
+use Rattle.std.proofs.lemmas.Bool.{lt-ltb, le-leb}
 use Rattle.pddl_words.specs.Words.{is_name, folded}
 use Rattle.strips_task.specs.declared.steps.StepText.{StepText}
 use Rattle.strips_task.specs.Steps.{step_of}
 use Rattle.plan_text.specs.declared.want.Want.{Want}
-use Rattle.plan_text.specs.declared.want.Want.TheVariants.{Step, Action, Argument}
-use Rattle.plan_text.specs.PlanGrammar.{Symbol, left, right, word, WrittenStep, step_symbols, HasNames, meant, IsPlanText, IsViable}
-use Rattle.plan_text.specs.PlanReading.{Reading, nothing_read, opened, named, closed, by_want, read_on}
+use Rattle.plan_text.specs.declared.want.Want.TheVariants.{Step, Number, Opening, Action, Argument}
+use Rattle.plan_text.specs.Decimals.{Decimal, IsDecimal, IsDigit, behind_whole, billionths}
+use Rattle.plan_text.specs.DecimalReading.{number_before}
+use Rattle.plan_text.specs.PlanGrammar.{Symbol, left, right, word, stamp_word, bracket_word, perhaps, WrittenStep, step_symbols, IsStep, meant, IsPlanText}
+use Rattle.plan_text.specs.PlanReading.{Reading, nothing_read, begun, risen, stamped, numbered, followed, named, read_on}
+use Rattle.plan_text.proofs.DecimalLaws.{number_read, no_bracket}
+use Rattle.plan_text.proofs.Stamps.{least_after, RisesAt, Rises, least_at, rises, want_after, want_at}
 
-abbrev pub reading : Want → List StepText → List (List ℕ) → Reading
-reading want steps words = record { want = want; steps = steps; words = words }
+abbrev pub reading : Want → ℕ → List StepText → List (List ℕ) → Reading
+reading want least steps words = record { want = want; least = least; steps = steps; words = words }
 
 -- behind several tokens
 abbrev pub run : Reading → List Symbol → Option Reading
@@ -33,216 +36,118 @@ pub run-append : (r : Reading) (a b : List Symbol) → run r (a ++ b) ≡ option
 run-append r [] b = refl
 run-append r (s ∷ a) b = run-append_by (read_on r s) a b (λ next. run-append next a b)
 
--- a word of a step that is a name is read on
-pub read_name : (r : Reading) (text : List ℕ) → is_name text ≡ true → named r text ≡ Some (reading Argument r.steps (r.words ++ folded text ∷ []))
-read_name r text is = ap (λ (t : Bool). cond t (Some (reading Argument r.steps (r.words ++ folded text ∷ []))) None) is
+-- a step may begin, or the text end
+abbrev pub IsBetween : Want → Type 0
+IsBetween Step = Unit {0}
+IsBetween Number = Unit {0}
+IsBetween Opening = ⊥
+IsBetween Action = ⊥
+IsBetween Argument = ⊥
 
--- a `(` is read on where a step may begin
-pub read_left : (r : Reading) → length r.steps < 1000000 → opened r ≡ Some (reading Action r.steps r.words)
-read_left r few = ap (λ (t : Bool). cond t (Some (reading Action r.steps r.words)) None) (lt-ltb (length r.steps) 1000000 few)
+pub between_after : (number : Option Decimal) → IsBetween (want_after number)
+between_after None = tt
+between_after (Some d) = tt
+
+pub between_at : (want : Want) (written : List WrittenStep) → IsBetween want → IsBetween (want_at want written)
+between_at want [] between = between
+between_at want (s ∷ written) between = between_at (want_after s.number) written (between_after s.number)
+
+-- a word of a step that is a name is read on
+read_name : (r : Reading) (text : List ℕ) → is_name text ≡ true → named r text ≡ Some (reading Argument r.least r.steps (r.words ++ folded text ∷ []))
+read_name r text is = ap (λ (t : Bool). cond t (Some (reading Argument r.least r.steps (r.words ++ folded text ∷ []))) None) is
+
+has_room : (r : Reading) (next : Option Reading) → length r.steps < 1000000 → begun r next ≡ next
+has_room r next few = ap (λ (t : Bool). cond t next None) (lt-ltb (length r.steps) 1000000 few)
+
+-- a `(` between steps is read on
+read_left : (want : Want) (least : ℕ) (steps : List StepText) → IsBetween want → length steps < 1000000 → read_on (reading want least steps []) left ≡ Some (reading Action least steps [])
+unfolding read_on
+read_left Step least steps between few = has_room (reading Step least steps []) _ few
+read_left Number least steps between few = has_room (reading Number least steps []) _ few
+read_left Opening least steps between few = absurd between
+read_left Action least steps between few = absurd between
+read_left Argument least steps between few = absurd between
+
+-- a stamp that rises is read on
+read_stamp : (r : Reading) (number : Decimal) → length r.steps < 1000000 → IsDecimal number → r.least ≤ billionths number → stamped r (stamp_word number) ≡ Some (reading Opening (billionths number + 1) r.steps r.words)
+read_stamp r number few is rise =
+    has_room r _ few ∙ ap (risen r) (number_read 58 number is)
+    ∙ ap (λ (t : Bool). cond t (Some (reading Opening (billionths number + 1) r.steps r.words)) None) (le-leb r.least (billionths number) rise)
+
+-- a stamp is no bracketed number
+stamp_follows : (r : Reading) (whole fraction : List ℕ) → IsDecimal (record { whole = whole; fraction = fraction }) → followed r ((whole ++ behind_whole fraction) ++ 58 ∷ []) ≡ stamped r ((whole ++ behind_whole fraction) ++ 58 ∷ [])
+stamp_follows r [] fraction is = absurd (omega (arith, is.some))
+stamp_follows r (b ∷ whole) fraction is =
+    ap (λ (t : Bool). cond t (numbered r (number_before 93 ((whole ++ behind_whole fraction) ++ 58 ∷ []))) (stamped r ((b ∷ (whole ++ behind_whole fraction)) ++ 58 ∷ []))) (no_bracket b (All-head IsDigit b whole is.whole))
+
+read_stamp_between : (want : Want) (least : ℕ) (steps : List StepText) (number : Decimal) → IsBetween want → length steps < 1000000 → IsDecimal number → least ≤ billionths number → read_on (reading want least steps []) (word (stamp_word number)) ≡ Some (reading Opening (billionths number + 1) steps [])
+unfolding read_on
+read_stamp_between Step least steps number between few is rise = read_stamp (reading Step least steps []) number few is rise
+read_stamp_between Number least steps number between few is rise =
+    stamp_follows (reading Number least steps []) number.whole number.fraction is ∙ read_stamp (reading Number least steps []) number few is rise
+read_stamp_between Opening least steps number between few is rise = absurd between
+read_stamp_between Action least steps number between few is rise = absurd between
+read_stamp_between Argument least steps number between few is rise = absurd between
+
+-- the stamp and the `(` of a step are read on
+run_opening : (want : Want) (least : ℕ) (steps : List StepText) (stamp : Option Decimal) (more : List Symbol) → IsBetween want → length steps < 1000000 → IfSome stamp IsDecimal → RisesAt least stamp → run (reading want least steps []) (perhaps stamp_word stamp ++ left ∷ more) ≡ run (reading Action (least_after least stamp) steps []) more
+unfolding read_on
+run_opening want least steps None more between few is rise = ap (option_and_then (λ next. run next more)) (read_left want least steps between few)
+run_opening want least steps (Some number) more between few is rise =
+    ap (option_and_then (λ next. run next (left ∷ more))) (read_stamp_between want least steps number between few is rise)
 
 -- the arguments of a step are read on
-run_args : (steps : List StepText) (words args : List (List ℕ)) (more : List Symbol) → All (λ name. IsTrue (is_name name)) args → run (reading Argument steps words) (map word args ++ more) ≡ run (reading Argument steps (words ++ map folded args)) more
+run_args : (least : ℕ) (steps : List StepText) (words args : List (List ℕ)) (more : List Symbol) → All (λ name. IsTrue (is_name name)) args → run (reading Argument least steps words) (map word args ++ more) ≡ run (reading Argument least steps (words ++ map folded args)) more
 unfolding read_on
-run_args steps words [] more names = ap (λ (ws : List (List ℕ)). run (reading Argument steps ws) more) (sym (append-nil words))
-run_args steps words (arg ∷ args) more names =
-    ap (option_and_then (λ next. run next (map word args ++ more))) (read_name (reading Argument steps words) arg (All-head (λ name. IsTrue (is_name name)) arg args names))
-    ∙ run_args steps (words ++ folded arg ∷ []) args more (All-tail (λ name. IsTrue (is_name name)) arg args names)
-    ∙ ap (λ (ws : List (List ℕ)). run (reading Argument steps ws) more) (append_assoc words (folded arg ∷ []) (map folded args))
+run_args least steps words [] more names = ap (λ (ws : List (List ℕ)). run (reading Argument least steps ws) more) (sym (append-nil words))
+run_args least steps words (arg ∷ args) more names =
+    ap (option_and_then (λ next. run next (map word args ++ more))) (read_name (reading Argument least steps words) arg (All-head (λ name. IsTrue (is_name name)) arg args names))
+    ∙ run_args least steps (words ++ folded arg ∷ []) args more (All-tail (λ name. IsTrue (is_name name)) arg args names)
+    ∙ ap (λ (ws : List (List ℕ)). run (reading Argument least steps ws) more) (append_assoc words (folded arg ∷ []) (map folded args))
+
+-- the number behind a step is read on
+run_number : (least : ℕ) (steps : List StepText) (number : Option Decimal) (more : List Symbol) → IfSome number IsDecimal → run (reading Number least steps []) (perhaps bracket_word number ++ more) ≡ run (reading (want_after number) least steps []) more
+unfolding read_on
+run_number least steps None more is = refl
+run_number least steps (Some number) more is =
+    ap (λ (o : Option ℕ). option_and_then (λ next. run next more) (numbered (reading Number least steps []) o)) (number_read 93 number is)
 
 -- a step is read as what it means
-run_step : (steps : List StepText) (s : WrittenStep) (more : List Symbol) → length steps < 1000000 → HasNames s → run (reading Step steps []) (step_symbols s ++ more) ≡ run (reading Step (steps ++ meant s ∷ []) []) more
+run_step : (want : Want) (least : ℕ) (steps : List StepText) (s : WrittenStep) (more : List Symbol) → IsBetween want → length steps < 1000000 → IsStep s → RisesAt least s.stamp → run (reading want least steps []) (step_symbols s ++ more) ≡ run (reading (want_after s.number) (least_after least s.stamp) (steps ++ meant s ∷ []) []) more
 unfolding read_on step_of
-run_step steps s more few names =
-    ap (option_and_then (λ next. run next (word s.action ∷ ((map word s.args ++ right ∷ []) ++ more)))) (read_left (reading Step steps []) few)
-    ∙ ap (option_and_then (λ next. run next ((map word s.args ++ right ∷ []) ++ more))) (read_name (reading Action steps []) s.action names.action)
-    ∙ ap (run (reading Argument steps (folded s.action ∷ []))) (append_assoc (map word s.args) (right ∷ []) more)
-    ∙ run_args steps (folded s.action ∷ []) s.args (right ∷ more) names.args
+run_step want least steps s more between few is rise =
+    let behind = right ∷ perhaps bracket_word s.number in
+    let next = least_after least s.stamp in
+    ap (run (reading want least steps [])) (append_assoc (perhaps stamp_word s.stamp) (left ∷ word s.action ∷ (map word s.args ++ behind)) more)
+    ∙ run_opening want least steps s.stamp (word s.action ∷ ((map word s.args ++ behind) ++ more)) between few is.stamp rise
+    ∙ ap (option_and_then (λ r. run r ((map word s.args ++ behind) ++ more))) (read_name (reading Action next steps []) s.action is.action)
+    ∙ ap (run (reading Argument next steps (folded s.action ∷ []))) (append_assoc (map word s.args) behind more)
+    ∙ run_args next steps (folded s.action ∷ []) s.args (behind ++ more) is.args
+    ∙ run_number next (steps ++ meant s ∷ []) s.number more is.number
 
 -- the steps of a plan are read as what they mean
-run_written : (steps : List StepText) (written : List WrittenStep) → length steps + length written ≤ 1000000 → All HasNames written → run (reading Step steps []) (flat_map step_symbols written) ≡ Some (reading Step (steps ++ map meant written) [])
-run_written steps [] few names = ap (λ (ss : List StepText). Some (reading Step ss [])) (sym (append-nil steps))
-run_written steps (s ∷ written) few names =
-    run_step steps s (flat_map step_symbols written) (omega arith) (All-head HasNames s written names)
-    ∙ run_written (steps ++ meant s ∷ []) written (omega (arith, length-append steps (meant s ∷ []))) (All-tail HasNames s written names)
-    ∙ ap (λ (ss : List StepText). Some (reading Step ss [])) (append_assoc steps (meant s ∷ []) (map meant written))
+run_written : (want : Want) (least : ℕ) (steps : List StepText) (written : List WrittenStep) → IsBetween want → length steps + length written ≤ 1000000 → All IsStep written → Rises least written → run (reading want least steps []) (flat_map step_symbols written) ≡ Some (reading (want_at want written) (least_at least written) (steps ++ map meant written) [])
+run_written want least steps [] between few are rise = ap (λ (ss : List StepText). Some (reading want least ss [])) (sym (append-nil steps))
+run_written want least steps (s ∷ written) between few are rise =
+    run_step want least steps s (flat_map step_symbols written) between (omega arith) (All-head IsStep s written are) rise.0
+    ∙ run_written (want_after s.number) (least_after least s.stamp) (steps ++ meant s ∷ []) written (between_after s.number) (omega (arith, length-append steps (meant s ∷ []))) (All-tail IsStep s written are) rise.1
+    ∙ ap (λ (ss : List StepText). Some (reading (want_at (want_after s.number) written) (least_at (least_after least s.stamp) written) ss [])) (append_assoc steps (meant s ∷ []) (map meant written))
+
+-- tokens are read to their end as these steps, and no step is begun there
+pub record IsReadWhole (symbols : List Symbol) (steps : List StepText) : Type 0 where
+  pub want : Want
+  pub least : ℕ
+  pub between : IsBetween want
+  pub ran : run nothing_read symbols ≡ Some (reading want least steps [])
 
 -- a plan text is read as its steps
-pub run_plan : (symbols : List Symbol) (steps : List StepText) → IsPlanText symbols steps → run nothing_read symbols ≡ Some (reading Step steps [])
-run_plan symbols steps plan =
-    ap (run nothing_read) plan.spelled ∙ run_written [] plan.written (omega (arith, plan.few)) plan.named
-    ∙ ap (λ (ss : List StepText). Some (reading Step ss [])) (sym plan.read)
-
--- inside a step that has begun: a plan text stands before it
-pub record IsOpened (done : List Symbol) (steps : List StepText) (words : List (List ℕ)) : Type 0 where
-  pub front : List Symbol
-  pub plan : IsPlanText front steps
-  pub spelled : done ≡ front ++ left ∷ []
-  pub none : words ≡ []
-  pub few : length steps < 1000000
-
--- behind the action's name
-pub record IsNamed (done : List Symbol) (steps : List StepText) (words : List (List ℕ)) : Type 0 where
-  pub front : List Symbol
-  pub plan : IsPlanText front steps
-  pub begun : WrittenStep
-  pub names : HasNames begun
-  pub spelled : done ≡ front ++ left ∷ word begun.action ∷ map word begun.args
-  pub read : words ≡ folded begun.action ∷ map folded begun.args
-  pub few : length steps < 1000000
-
--- what the tokens so far are, by what may come next
-abbrev pub Reached : Want → List Symbol → List StepText → List (List ℕ) → Type 0
-Reached Step done steps words = IsPlanText done steps × (words ≡ [])
-Reached Action done steps words = IsOpened done steps words
-Reached Argument done steps words = IsNamed done steps words
-
-abbrev pub IsReached : List Symbol → Reading → Type 0
-IsReached done r = Reached r.want done r.steps r.words
-
-no_tokens : IsPlanText [] []
-no_tokens = record { written = []; spelled = refl; named = All-nil HasNames; read = refl; few = omega arith }
-
-pub reached_start : IsReached [] nothing_read
-reached_start = (no_tokens, refl)
-
-reached_left : (done : List Symbol) (steps : List StepText) (words : List (List ℕ)) → Reached Step done steps words → length steps < 1000000 → Reached Action (done ++ left ∷ []) steps words
-reached_left done steps words reached few = record { front = done; plan = reached.0; spelled = refl; none = reached.1; few = few }
-
-reached_action : (done : List Symbol) (steps : List StepText) (words : List (List ℕ)) (text : List ℕ) → Reached Action done steps words → is_name text ≡ true → Reached Argument (done ++ word text ∷ []) steps (words ++ folded text ∷ [])
-reached_action done steps words text reached is = record {
-  front = reached.front;
-  plan = reached.plan;
-  begun = record { action = text; args = [] };
-  names = record { action = is; args = All-nil (λ name. IsTrue (is_name name)) };
-  spelled = ap (λ (ss : List Symbol). ss ++ word text ∷ []) reached.spelled ∙ append_assoc reached.front (left ∷ []) (word text ∷ []);
-  read = ap (λ (ws : List (List ℕ)). ws ++ folded text ∷ []) reached.none;
-  few = reached.few;
+pub run_plan : (symbols : List Symbol) (steps : List StepText) → IsPlanText symbols steps → IsReadWhole symbols steps
+run_plan symbols steps plan = record {
+  want = want_at Step plan.written;
+  least = least_at 0 plan.written;
+  between = between_at Step plan.written tt;
+  ran =
+      ap (run nothing_read) plan.spelled
+      ∙ run_written Step 0 [] plan.written tt (omega (arith, plan.few)) plan.are_steps (rises 0 plan.written plan.rising (λ some. omega arith))
+      ∙ ap (λ (ss : List StepText). Some (reading (want_at Step plan.written) (least_at 0 plan.written) ss [])) (sym plan.read);
 }
-
-reached_argument : (done : List Symbol) (steps : List StepText) (words : List (List ℕ)) (text : List ℕ) → Reached Argument done steps words → is_name text ≡ true → Reached Argument (done ++ word text ∷ []) steps (words ++ folded text ∷ [])
-reached_argument done steps words text reached is =
-    let args = reached.begun.args in
-    record {
-      front = reached.front;
-      plan = reached.plan;
-      begun = record { action = reached.begun.action; args = args ++ text ∷ [] };
-      names = record { action = reached.names.action; args = All-push (λ name. IsTrue (is_name name)) args text reached.names.args is };
-      spelled =
-          ap (λ (ss : List Symbol). ss ++ word text ∷ []) reached.spelled
-          ∙ append_assoc reached.front (left ∷ word reached.begun.action ∷ map word args) (word text ∷ [])
-          ∙ ap (λ (ss : List Symbol). reached.front ++ left ∷ word reached.begun.action ∷ ss) (sym (map_push word args text));
-      read = ap (λ (ws : List (List ℕ)). ws ++ folded text ∷ []) reached.read ∙ ap (λ (ws : List (List ℕ)). folded reached.begun.action ∷ ws) (sym (map_push folded args text));
-      few = reached.few;
-    }
-
-plan_more : (front : List Symbol) (steps : List StepText) (s : WrittenStep) → IsPlanText front steps → HasNames s → length steps < 1000000 → IsPlanText (front ++ step_symbols s) (steps ++ meant s ∷ [])
-plan_more front steps s plan names few = record {
-  written = plan.written ++ s ∷ [];
-  spelled =
-      ap (λ (ss : List Symbol). ss ++ step_symbols s) plan.spelled
-      ∙ ap (λ (ss : List Symbol). flat_map step_symbols plan.written ++ ss) (sym (append-nil (step_symbols s)))
-      ∙ sym (flat_map-append step_symbols plan.written (s ∷ []));
-  named = All-push HasNames plan.written s plan.named names;
-  read = ap (λ (ss : List StepText). ss ++ meant s ∷ []) plan.read ∙ sym (map_push meant plan.written s);
-  few = omega (arith, ap length plan.read, length-map plan.written meant, length-append plan.written (s ∷ []));
-}
-
-reached_right : (done : List Symbol) (steps : List StepText) (words : List (List ℕ)) → Reached Argument done steps words → Reached Step (done ++ right ∷ []) (steps ++ step_of words ∷ []) []
-unfolding step_of
-reached_right done steps words reached =
-    let spelled : reached.front ++ step_symbols reached.begun ≡ done ++ right ∷ [] =
-    sym (append_assoc reached.front (left ∷ word reached.begun.action ∷ map word reached.begun.args) (right ∷ []))
-    ∙ ap (λ (ss : List Symbol). ss ++ right ∷ []) (sym reached.spelled) in
-    let step : step_of words ≡ meant reached.begun = ap step_of reached.read in (
-      subst (λ (ss : List Symbol). IsPlanText ss (steps ++ step_of words ∷ [])) spelled
-          (subst (λ (s : StepText). IsPlanText (reached.front ++ step_symbols reached.begun) (steps ++ s ∷ [])) (sym step)
-          (plan_more reached.front steps reached.begun reached.plan reached.names reached.few)),
-      refl,
-    )
-
--- `Some` on one side of a test
-some_chosen : {A : Type 0} (b : Bool) (x next : A) → cond b (Some x) None ≡ Some next → (b ≡ true) × (x ≡ next)
-some_chosen true x next is = (refl, cc)
-some_chosen false x next is = cc
-
--- what was reached is kept by each token that is read on
-reached_step : (want : Want) (steps : List StepText) (words : List (List ℕ)) (done : List Symbol) (s : Symbol) (next : Reading) → Reached want done steps words → by_want want (reading want steps words) s ≡ Some next → IsReached (done ++ s ∷ []) next
-reached_step Step steps words done left next reached is =
-    let (few, same) = some_chosen (nat_lt (length steps) 1000000) (reading Action steps words) next is in
-    subst (IsReached (done ++ left ∷ [])) same (reached_left done steps words reached (ltb-true _ _ few))
-reached_step Step steps words done right next reached is = absurd cc
-reached_step Step steps words done (word text) next reached is = absurd cc
-reached_step Action steps words done left next reached is = absurd cc
-reached_step Action steps words done right next reached is = absurd cc
-reached_step Action steps words done (word text) next reached is =
-    let (name, same) = some_chosen (is_name text) (reading Argument steps (words ++ folded text ∷ [])) next is in
-    subst (IsReached (done ++ word text ∷ [])) same (reached_action done steps words text reached name)
-reached_step Argument steps words done left next reached is = absurd cc
-reached_step Argument steps words done right next reached is =
-    let same : closed (reading Argument steps words) ≡ next = cc in
-    subst (IsReached (done ++ right ∷ [])) same (reached_right done steps words reached)
-reached_step Argument steps words done (word text) next reached is =
-    let (name, same) = some_chosen (is_name text) (reading Argument steps (words ++ folded text ∷ [])) next is in
-    subst (IsReached (done ++ word text ∷ [])) same (reached_argument done steps words text reached name)
-
-pub reached_on : (r : Reading) (done : List Symbol) (s : Symbol) (next : Reading) → IsReached done r → read_on r s ≡ Some next → IsReached (done ++ s ∷ []) next
-unfolding read_on
-reached_on r done s next reached is = reached_step r.want r.steps r.words done s next reached is
-
--- behind an action's name a step can end
-viable_named : (done : List Symbol) (steps : List StepText) (words : List (List ℕ)) → Reached Argument done steps words → IsViable done
-viable_named done steps words reached = record {
-  more = right ∷ [];
-  steps = steps ++ step_of words ∷ [];
-  completed = (reached_right done steps words reached).0;
-}
-
--- behind a `(` a name can follow
-a_name : is_name (97 ∷ []) ≡ true
-unfolding is_name
-a_name = refl
-
-viable_opened : (done : List Symbol) (steps : List StepText) (words : List (List ℕ)) → Reached Action done steps words → IsViable done
-viable_opened done steps words reached =
-    let then = viable_named _ _ _ (reached_action done steps words (97 ∷ []) reached a_name) in
-    record {
-      more = word (97 ∷ []) ∷ then.more;
-      steps = then.steps;
-      completed = subst (λ (ss : List Symbol). IsPlanText ss then.steps) (append_assoc done (word (97 ∷ []) ∷ []) then.more) then.completed;
-    }
-
-viable_by : (want : Want) (done : List Symbol) (steps : List StepText) (words : List (List ℕ)) → Reached want done steps words → IsViable done
-viable_by Step done steps words reached = record {
-  more = [];
-  steps = steps;
-  completed = subst (λ (ss : List Symbol). IsPlanText ss steps) (sym (append-nil done)) reached.0;
-}
-viable_by Action done steps words reached = viable_opened done steps words reached
-viable_by Argument done steps words reached = viable_named done steps words reached
-
--- tokens that were read on are viable
-pub viable_reached : (done : List Symbol) (r : Reading) → IsReached done r → IsViable done
-viable_reached done r reached = viable_by r.want done r.steps r.words reached
-
--- a token that is not read on leaves nothing viable
-pub not_viable : (done : List Symbol) (r : Reading) (s : Symbol) → run nothing_read done ≡ Some r → read_on r s ≡ None → IsViable (done ++ s ∷ []) → ⊥
-not_viable done r s ran stuck viable =
-    let whole : run nothing_read ((done ++ s ∷ []) ++ viable.more) ≡ Some (reading Step viable.steps []) = run_plan _ _ viable.completed in
-    let first : run nothing_read (done ++ s ∷ []) ≡ None =
-    run-append nothing_read done (s ∷ []) ∙ ap (option_and_then (λ next. run next (s ∷ []))) ran ∙ ap (option_and_then (λ next. Some next)) stuck in
-    let none : run nothing_read ((done ++ s ∷ []) ++ viable.more) ≡ None =
-    run-append nothing_read (done ++ s ∷ []) viable.more ∙ ap (option_and_then (λ next. run next viable.more)) first in
-    cc (whole, none)
-
--- one more token
-pub run_more : (done : List Symbol) (r : Reading) (s : Symbol) (next : Reading) → run nothing_read done ≡ Some r → read_on r s ≡ Some next → run nothing_read (done ++ s ∷ []) ≡ Some next
-run_more done r s next ran is =
-    run-append nothing_read done (s ∷ []) ∙ ap (option_and_then (λ n. run n (s ∷ []))) ran ∙ ap (option_and_then (λ n. Some n)) is
-
--- tokens that don't end a step are no plan text
-pub no_plan : (done : List Symbol) (r : Reading) → run nothing_read done ≡ Some r → (r.want ≡ Step → ⊥) → (steps : List StepText) → IsPlanText done steps → ⊥
-no_plan done r ran unended steps plan =
-    let same : Some r ≡ Some (reading Step steps []) = sym ran ∙ run_plan done steps plan in
-    let is : r ≡ reading Step steps [] = cc in
-    unended (ap (λ (x : Reading). x.want) is)

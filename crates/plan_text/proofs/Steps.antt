@@ -1,22 +1,27 @@
--- How the plan of a text goes on behind each piece.
+-- Single steps of the reader.
 
-use Rattle.std.proofs.Common.{◌≡◌, ℕ, ◌<◌, ◌≤◌, ◌^◌, Bool, true, false, List, [], ◌∷◌, ◌++◌, length, Option, Some, None, refl, sym, ap, subst, arith, length-append}
-use Rattle.std.specs.Prelude.{cond, Result, Ok, Err, IfOk}
+use Rattle.std.proofs.Common.{◌≡◌, ℕ, ◌<◌, ◌≤◌, ◌^◌, Bool, true, false, List, [], ◌∷◌, ◌++◌, length, take, drop, nat_eq, Option, Some, None, refl, sym, ap, ◌∙◌, subst, arith, length-append}
+use Rattle.std.specs.Prelude.{cond, nat_lt, Result, Ok, Err, IfOk}
 use Rattle.std.specs.declared.alloc.AllocError.{AllocError}
-use Rattle.std.proofs.lemmas.Bool.{lt-ltb, le-ltb}
+use Rattle.std.specs.Cmp.Lexicographic.{pointwise}
+use Rattle.std.proofs.Math.Bool.{and-true}
+use Rattle.std.proofs.lemmas.Bool.{lt-ltb, le-ltb, and_parts}
+use Rattle.pddl_words.specs.Words.{is_name, folded}
 use Rattle.pddl_tokens.specs.declared.spans.Span.{Span}
 use Rattle.pddl_tokens.specs.declared.spans.TokenKind.{TokenKind}
 use Rattle.pddl_tokens.specs.Tokens.{Piece, token, bad, pieces}
 use Rattle.strips_task.specs.declared.plans.Plan.TheVariants.{Unreadable}
 use Rattle.strips_task.specs.OpenPlan.{OpenPlan}
 use Rattle.strips_task.specs.Steps.{step_of}
-use Rattle.pddl_words.specs.Words.{is_name, folded}
 use Rattle.plan_text.specs.declared.want.Want.{Want}
-use Rattle.plan_text.specs.declared.want.Want.TheVariants.{Step, Action, Argument}
-use Rattle.plan_text.specs.PlanGrammar.{left, right, word, symbol_of}
-use Rattle.plan_text.specs.PlanReading.{Reading, read_on, nothing_read, named, at_end, behind, unreadable, plan_from, plan_of}
-use Rattle.plan_text.specs.PlanSteps.{reading, IsReady, ReadsOn, IsOpened, PushesName}
-use Rattle.plan_text.proofs.Runs.{read_left, read_name}
+use Rattle.plan_text.specs.declared.want.Want.TheVariants.{Step, Number, Opening, Action, Argument}
+use Rattle.plan_text.specs.declared.want.Expected.{Expected}
+use Rattle.plan_text.specs.DecimalReading.{number_before}
+use Rattle.plan_text.specs.PlanGrammar.{Symbol, left, right, word, symbol_of}
+use Rattle.plan_text.specs.PlanReading.{Reading, begun, risen, stamped, numbered, followed, named, by_want, read_on, nothing_read, at_end, behind, unreadable, plan_from, plan_of}
+use Rattle.plan_text.specs.Wants.{takes_name}
+use Rattle.plan_text.specs.PlanSteps.{reading, IsReady, LeadsTo, ReadsOn}
+use Rattle.plan_text.proofs.Digits.{no_last}
 
 pub plan_end : (text : List ℕ) (r : Reading) → plan_from text r [] ≡ at_end r.want text r.steps
 unfolding plan_from
@@ -42,57 +47,116 @@ pub plan_short : (text : List ℕ) → length text < 2 ^ 31 → plan_from text n
 unfolding plan_of
 plan_short text short = sym (ap (λ (t : Bool). cond t (plan_from text nothing_read (pieces text)) (Unreadable 1)) (lt-ltb (length text) (2 ^ 31) short))
 
--- a `(` between steps
-pub opened_reads : (plan : OpenPlan) (o : Option Want) → IsReady Step plan → IsOpened o plan → ReadsOn o Step plan left plan
+-- reading a token on, by what may come
+pub read_by : (want : Want) (expected : Expected) (plan new : OpenPlan) (s : Symbol) (next : Option Expected) → expected.want ≡ want → LeadsTo next new (by_want want (reading expected plan) s) → ReadsOn next expected plan s new
 unfolding read_on
-opened_reads plan None ready is = ap (λ (t : Bool). cond t (Some (reading Action plan)) None) (le-ltb (length plan.steps) 1000000 is)
-opened_reads plan (Some Action) ready is = (read_left (reading Step plan) is, (ready, is))
-opened_reads plan (Some Step) ready is = absurd is
-opened_reads plan (Some Argument) ready is = absurd is
+read_by want expected plan new s next is leads = subst (λ (w : Want). LeadsTo next new (by_want w (reading expected plan) s)) (sym is) leads
 
--- a parenthesis or a word where it may not stand
-pub left_refused : (want : Want) (plan : OpenPlan) → (want ≡ Step → ⊥) → read_on (reading want plan) left ≡ None
-unfolding read_on
-left_refused Step plan other = absurd (other refl)
-left_refused Action plan other = refl
-left_refused Argument plan other = refl
+-- a word where a name may come
+name_wanted : (want : Want) (r : Reading) (text : List ℕ) → takes_name want ≡ true → by_want want r (word text) ≡ named r text
+name_wanted Step r text takes = absurd cc
+name_wanted Number r text takes = absurd cc
+name_wanted Opening r text takes = absurd cc
+name_wanted Action r text takes = refl
+name_wanted Argument r text takes = refl
 
-pub right_refused : (want : Want) (plan : OpenPlan) → (want ≡ Argument → ⊥) → read_on (reading want plan) right ≡ None
-unfolding read_on
-right_refused Step plan other = refl
-right_refused Action plan other = refl
-right_refused Argument plan other = absurd (other refl)
+pub reads_name : (r : Result (Option Expected) AllocError) (expected : Expected) (plan new : OpenPlan) (text : List ℕ) → takes_name expected.want ≡ true → IfOk r (λ next. LeadsTo next new (named (reading expected plan) text)) → IfOk r (λ next. ReadsOn next expected plan (word text) new)
+reads_name (Ok next) expected plan new text takes leads =
+    read_by expected.want expected plan new (word text) next refl (subst (LeadsTo next new) (sym (name_wanted expected.want (reading expected plan) text takes)) leads)
+reads_name (Err e) expected plan new text takes leads = tt
 
-pub word_refused : (plan : OpenPlan) (text : List ℕ) → read_on (reading Step plan) (word text) ≡ None
+pub room_for_name : (want : Want) (plan : OpenPlan) → takes_name want ≡ true → IsReady want plan → length plan.steps < 1000000
+room_for_name Step plan takes ready = absurd cc
+room_for_name Number plan takes ready = absurd cc
+room_for_name Opening plan takes ready = absurd cc
+room_for_name Action plan takes ready = ready.1
+room_for_name Argument plan takes ready = ready.1
+
+-- a word behind a stamp
+no_word : (want : Want) (r : Reading) (text : List ℕ) → takes_name want ≡ false → (want ≡ Step → ⊥) → (want ≡ Number → ⊥) → by_want want r (word text) ≡ None
+no_word Step r text takes step number = absurd (step refl)
+no_word Number r text takes step number = absurd (number refl)
+no_word Opening r text takes step number = refl
+no_word Action r text takes step number = absurd cc
+no_word Argument r text takes step number = absurd cc
+
+pub word_refused : (expected : Expected) (plan : OpenPlan) (text : List ℕ) → takes_name expected.want ≡ false → (expected.want ≡ Step → ⊥) → (expected.want ≡ Number → ⊥) → read_on (reading expected plan) (word text) ≡ None
 unfolding read_on
-word_refused plan text = refl
+word_refused expected plan text takes step number = no_word expected.want (reading expected plan) text takes step number
+
+-- a `(` behind a stamp
+pub opening_reads : (expected next : Expected) (plan : OpenPlan) → expected.want ≡ Opening → next ≡ record { want = Action; least_stamp = expected.least_stamp } → IsReady expected.want plan → ReadsOn (Some next) expected plan left plan
+opening_reads expected next plan is same ready =
+    read_by Opening expected plan plan left (Some next) is (
+    subst (λ (n : Expected). LeadsTo (Some n) plan (by_want Opening (reading expected plan) left)) (sym same) (refl, subst (λ (w : Want). IsReady w plan) is ready)
+    )
+
+-- a parenthesis where it may not stand
+no_left : (want : Want) (r : Reading) → (want ≡ Step → ⊥) → (want ≡ Number → ⊥) → (want ≡ Opening → ⊥) → by_want want r left ≡ None
+no_left Step r step number opening = absurd (step refl)
+no_left Number r step number opening = absurd (number refl)
+no_left Opening r step number opening = absurd (opening refl)
+no_left Action r step number opening = refl
+no_left Argument r step number opening = refl
+
+pub left_refused : (expected : Expected) (plan : OpenPlan) → (expected.want ≡ Step → ⊥) → (expected.want ≡ Number → ⊥) → (expected.want ≡ Opening → ⊥) → ReadsOn None expected plan left plan
+left_refused expected plan step number opening =
+    read_by expected.want expected plan plan left None refl (no_left expected.want (reading expected plan) step number opening)
+
+no_right : (want : Want) (r : Reading) → (want ≡ Argument → ⊥) → by_want want r right ≡ None
+no_right Step r other = refl
+no_right Number r other = refl
+no_right Opening r other = refl
+no_right Action r other = refl
+no_right Argument r other = absurd (other refl)
+
+pub right_refused : (expected : Expected) (plan : OpenPlan) → (expected.want ≡ Argument → ⊥) → read_on (reading expected plan) right ≡ None
+unfolding read_on
+right_refused expected plan other = no_right expected.want (reading expected plan) other
 
 -- a `)` behind a name
-pub closed_reads : (old new : OpenPlan) → new ≡ record { steps = old.steps ++ step_of old.words ∷ []; words = [] } → ReadsOn (Some Step) Argument old right new
-unfolding read_on
-closed_reads old new is = subst (λ (n : OpenPlan). ReadsOn (Some Step) Argument old right n) (sym is) (refl, refl)
+pub closed_reads : (expected next : Expected) (old new : OpenPlan) → expected.want ≡ Argument → next ≡ record { want = Number; least_stamp = expected.least_stamp } → new ≡ record { steps = old.steps ++ step_of old.words ∷ []; words = [] } → ReadsOn (Some next) expected old right new
+closed_reads expected next old new is same closes =
+    read_by Argument expected old new right (Some next) is (
+    subst (λ (n : Expected). LeadsTo (Some n) new (by_want Argument (reading expected old) right)) (sym same)
+    (subst (λ (p : OpenPlan). LeadsTo (Some (record { want = Number; least_stamp = expected.least_stamp })) p (by_want Argument (reading expected old) right)) (sym closes) (refl, refl))
+    )
 
--- a word inside a step
-named_reads : (want : Want) (old new : OpenPlan) (text : List ℕ) → length old.steps < 1000000 → is_name text ≡ true → new ≡ record { steps = old.steps; words = old.words ++ folded text ∷ [] } → (named (reading want old) text ≡ Some (reading Argument new)) × IsReady Argument new
-named_reads want old new text few name is =
-    subst (λ (n : OpenPlan). (named (reading want old) text ≡ Some (reading Argument n)) × IsReady Argument n) (sym is)
-    (read_name (reading want old) text name, (omega (arith, length-append old.words (folded text ∷ [])), few))
+-- a name inside a step
+pub name_reads : (expected next : Expected) (old new : OpenPlan) (text : List ℕ) → length old.steps < 1000000 → is_name text ≡ true → next ≡ record { want = Argument; least_stamp = expected.least_stamp } → new ≡ record { steps = old.steps; words = old.words ++ folded text ∷ [] } → LeadsTo (Some next) new (named (reading expected old) text)
+name_reads expected next old new text few name same pushed =
+    subst (λ (n : Expected). LeadsTo (Some n) new (named (reading expected old) text)) (sym same)
+    (subst (λ (p : OpenPlan). LeadsTo (Some (record { want = Argument; least_stamp = expected.least_stamp })) p (named (reading expected old) text)) (sym pushed) (
+      ap (λ (t : Bool). cond t (Some (record { want = Argument; least = expected.least_stamp; steps = old.steps; words = old.words ++ folded text ∷ [] })) None) name,
+      (omega (arith, length-append old.words (folded text ∷ [])), few),
+    ))
 
-unnamed_refused : (want : Want) (old : OpenPlan) (text : List ℕ) → is_name text ≡ false → named (reading want old) text ≡ None
-unnamed_refused want old text is = ap (λ (t : Bool). cond t (Some (reading Argument (record { steps = old.steps; words = old.words ++ folded text ∷ [] }))) None) is
+pub unnamed_refused : (r : Reading) (text : List ℕ) → is_name text ≡ false → named r text ≡ None
+unnamed_refused r text is = ap (λ (t : Bool). cond t (Some (record { want = Argument; least = r.least; steps = r.steps; words = r.words ++ folded text ∷ [] })) None) is
 
-name_reads : (want : Want) (old new : OpenPlan) (text : List ℕ) (o : Option Want) → (want ≡ Step → ⊥) → IsReady want old → PushesName o old text new → ReadsOn o want old (word text) new
-unfolding read_on
-name_reads Step old new text o other ready is = absurd (other refl)
-name_reads Action old new text None other ready is = unnamed_refused Action old text is
-name_reads Action old new text (Some Argument) other ready is = named_reads Action old new text ready.1 is.0 is.1
-name_reads Action old new text (Some Step) other ready is = absurd is
-name_reads Action old new text (Some Action) other ready is = absurd is
-name_reads Argument old new text None other ready is = unnamed_refused Argument old text is
-name_reads Argument old new text (Some Argument) other ready is = named_reads Argument old new text ready.1 is.0 is.1
-name_reads Argument old new text (Some Step) other ready is = absurd is
-name_reads Argument old new text (Some Action) other ready is = absurd is
+-- a word behind a step that begins with `[`, and one that does not
 
-pub name_reads_ok : (r : Result (Option Want) AllocError) (want : Want) (old new : OpenPlan) (text : List ℕ) → (want ≡ Step → ⊥) → IsReady want old → IfOk r (λ next. PushesName next old text new) → IfOk r (λ next. ReadsOn next want old (word text) new)
-name_reads_ok (Ok next) want old new text other ready is = name_reads want old new text next other ready is
-name_reads_ok (Err e) want old new text other ready is = tt
+begun_none : (t : Bool) → ◌≡◌ {A = Option Reading} (cond t None None) None
+begun_none true = refl
+begun_none false = refl
+
+pub no_stamp : (r : Reading) (text : List ℕ) → None ≡ number_before 58 text → stamped r text ≡ None
+no_stamp r text none = ap (λ (o : Option ℕ). begun r (risen r o)) (sym none) ∙ begun_none (nat_lt (length r.steps) 1000000)
+
+followed_number : (r : Reading) (text number : List ℕ) → pointwise nat_eq (take 1 text) (91 ∷ []) ≡ true → number ≡ drop 1 text → followed r text ≡ numbered r (number_before 93 number)
+followed_number r [] number is same = absurd cc
+followed_number r (b ∷ text) number is same =
+    ap (λ (t : Bool). cond t (numbered r (number_before 93 text)) (stamped r (b ∷ text))) (and_parts (nat_eq b 91) true is).0
+    ∙ ap (λ (n : List ℕ). numbered r (number_before 93 n)) (sym same)
+
+followed_stamp : (r : Reading) (text : List ℕ) → pointwise nat_eq (take 1 text) (91 ∷ []) ≡ false → followed r text ≡ stamped r text
+followed_stamp r [] is = sym (no_stamp r [] (no_last 58 [] refl))
+followed_stamp r (b ∷ text) is =
+    ap (λ (t : Bool). cond t (numbered r (number_before 93 text)) (stamped r (b ∷ text))) (sym (and-true (nat_eq b 91)) ∙ is)
+
+pub bracket_refused : (next : Option Expected) (plan : OpenPlan) (r : Reading) (text number : List ℕ) → next ≡ None → pointwise nat_eq (take 1 text) (91 ∷ []) ≡ true → number ≡ drop 1 text → None ≡ number_before 93 number → LeadsTo next plan (followed r text)
+bracket_refused next plan r text number is begins same none =
+    subst (λ (n : Option Expected). LeadsTo n plan (followed r text)) (sym is) (followed_number r text number begins same ∙ ap (numbered r) (sym none))
+
+pub stamp_follows : (next : Option Expected) (plan : OpenPlan) (r : Reading) (text : List ℕ) → pointwise nat_eq (take 1 text) (91 ∷ []) ≡ false → LeadsTo next plan (stamped r text) → LeadsTo next plan (followed r text)
+stamp_follows next plan r text is leads = subst (LeadsTo next plan) (sym (followed_stamp r text is)) leads

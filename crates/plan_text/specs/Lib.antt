@@ -2,3 +2,8 @@ pub mod PlanGrammar
 pub mod PlanReading
 pub mod PlanFaults
 pub mod PlanSteps
+pub mod Bundle
+pub mod Separators
+pub mod Decimals
+pub mod DecimalReading
+pub mod Wants

@@ -1,13 +1,38 @@
-//! Plan texts: the bytes of a plan in the usual format of planners go in, and the plan comes out.
+//! Plan texts: the bytes of a planner's file go in, and its plans come out.
 //!
-//! `read_plan` walks over the tokens of the text once. The words of a step go straight into the list of steps, in lower case, and nothing
-//! is kept beside it. `laws` says what the definition of the plan means.
+//! A *bundle* is the file of one planner. A line of three dashes, behind which only spaces, tabs and CRs may stand, parts two plans of it.
+//! [`Parts`] gives the parts of a bundle in order, as slices, and [`count_parts`] says how many they are before any is read.
+//!
+//! A *plan text* is one part: steps in the usual format of planners, one behind the other.
+//!
+//! ```text
+//! ; a comment ends with its line
+//! 0.0: (pick-up b) [1]
+//! 0.50: (stack b a) [1]
+//! (unstack b a)
+//! ```
+//!
+//! A step is the name of an action and the names of objects in parentheses. One word before it may be its stamp, a number and `:`, and one
+//! word behind it a number in brackets. A number has 1 to 9 digits, and may have a point with 1 to 9 digits behind it. The stamps that occur
+//! have to rise strictly as numbers, so `1:` and `1.0:` can't stand in one text; numbers in brackets are read and ignored. Lines and case
+//! say nothing, and there are at most 1,000,000 steps.
+//!
+//! [`read_plan`] takes a plan text token by token, each once. `want` holds what may come next, and `decimals` the numbers of stamps and
+//! brackets. The words of a step go straight into the list of steps, in lower case; nothing is kept beside it, so a stamp or a number takes no
+//! memory. A text that is no plan text gives [`Plan::Unreadable`](strips_task::Plan) with the line of its first fault: a bad byte, or a
+//! token such that no plan text begins with the tokens up to and with it.
+//!
+//! The contract of `read_plan` names a definition that reads as the code does. [`laws`] says what that definition means: the plan of a text
+//! is the one that the grammar gives it (`specs/PlanGrammar.antt`), and the fault is where that grammar is left (`specs/PlanFaults.antt`).
 #![tactic(auto)]
 
+mod decimals;
 pub mod laws;
+mod parts;
 mod read;
 mod want;
 
+pub use parts::{Parts, count_parts};
 pub use read::read_plan;
 
 #[cfg(test)]

@@ -1,19 +1,23 @@
 //! Reading a plan text, token by token.
 
-ghost use Rattle.std.specs.Prelude.{◌≡◌, ◌<◌, ◌≤◌, ◌^◌, length, IfOk};
-ghost use Rattle.plan_text.specs.PlanGrammar.{symbol_of};
-ghost use Rattle.plan_text.specs.PlanReading.{plan_of, unreadable, at_end};
-ghost use Rattle.plan_text.specs.PlanSteps.{ReadsOn, IsReady, IsOpened, PushesName};
+ghost use Rattle.std.specs.Prelude.{◌≡◌, ◌<◌, ◌≤◌, ◌^◌, length, Some, IfOk};
+ghost use Rattle.plan_text.specs.PlanGrammar.{left, right, word, symbol_of};
+ghost use Rattle.plan_text.specs.PlanReading.{plan_of, unreadable, at_end, begun, then_want, stamped, followed, named};
+ghost use Rattle.plan_text.specs.PlanSteps.{reading, IsReady, LeadsTo, ReadsOn};
 
-use crate::want::Want;
+use crate::decimals::number_before;
+use crate::want::{Expected, Want};
 use pddl_tokens::{Cursor, TextFault, TokenKind, WordKind, line_of, word_kind};
 use std::alloc::{AllocError, Global};
 use strips_task::{MOST_STEPS, OpenSteps, Plan};
 
 /// The plan of a text, in one pass over its tokens.
 ///
-/// A text that is no plan text is an answer like any other: `Plan::Unreadable`. The only error is that memory runs out. The steps take
-/// about as many bytes as their words, and a few more for each word and each step.
+/// A text that is no plan text is an answer like any other: `Plan::Unreadable`, with the line of its first fault, counted from 1. A text of
+/// 2^31 bytes or more is unreadable in line 1. The only error is that memory runs out. The steps take about as many bytes as their words,
+/// and a few more for each word and each step; stamps and bracketed numbers take none.
+///
+/// The format is the usual one of planners for sequential plans, as this validator reads it: the page of the crate has it whole.
 pub fn read_plan(alloc: Global, text: &[u8]) -> Result<Plan, AllocError>
     ensures { IfOk result (λ plan. plan ≡ plan_of text.now) }
 {
@@ -21,12 +25,15 @@ pub fn read_plan(alloc: Global, text: &[u8]) -> Result<Plan, AllocError>
         return Ok(Plan::Unreadable { line: 1 });
     };
     let mut plan = OpenSteps::new(alloc);
-    let mut want = Want::Step;
+    let mut expected = Expected {
+        want: Want::Step,
+        least_stamp: 0,
+    };
     'tokens: loop {
         match cursor.next() {
-            Ok(None) => return Ok(ended(plan, want, text)),
-            Ok(Some(token)) => match read_on(&mut plan, want, token.kind, token.text)? {
-                Some(next) => want = next,
+            Ok(None) => return Ok(ended(plan, expected.want, text)),
+            Ok(Some(token)) => match read_on(&mut plan, expected, token.kind, token.text)? {
+                Some(next) => expected = next,
                 None => return Ok(unreadable(text, token.span.start)),
             },
             Err(TextFault::BadByte { at }) => return Ok(unreadable(text, at)),
@@ -38,63 +45,137 @@ pub fn read_plan(alloc: Global, text: &[u8]) -> Result<Plan, AllocError>
 /// Reads one token on, and says what may come behind it; `None` where it may not stand here.
 fn read_on(
     plan: &mut OpenSteps,
-    want: Want,
+    expected: Expected,
     kind: TokenKind,
     text: &[u8],
-) -> Result<Option<Want>, AllocError>
-    requires { IsReady want plan.old }
-    ensures { IfOk result (λ next. ReadsOn next want plan.old (symbol_of kind text.now) plan.new) }
+) -> Result<Option<Expected>, AllocError>
+    requires { IsReady expected.want plan.old }
+    ensures { IfOk result (λ next. ReadsOn next expected plan.old (symbol_of kind text.now) plan.new) }
 {
     match kind {
-        TokenKind::Left => match want {
-            Want::Step => Ok(opened(plan)),
-            _ => Ok(None),
-        },
-        TokenKind::Right => match want {
-            Want::Argument => {
-                plan.close_step()?;
-                Ok(Some(Want::Step))
-            }
-            _ => Ok(None),
-        },
-        TokenKind::Word => match want {
-            Want::Step => Ok(None),
-            _ => push_name(plan, text),
-        },
+        TokenKind::Left => Ok(read_left(plan, expected)),
+        TokenKind::Right => read_right(plan, expected),
+        TokenKind::Word => read_word(plan, expected, text),
     }
 }
 
-/// A step begins, unless the plan has as many as it may have.
-fn opened(plan: &OpenSteps) -> Option<Want>
-    ensures { IsOpened result plan.now }
+/// Reads a `(` on.
+fn read_left(plan: &OpenSteps, expected: Expected) -> Option<Expected>
+    requires { IsReady expected.want plan.now }
+    ensures { ReadsOn result expected plan.now left plan.now }
 {
-    if plan.len() < MOST_STEPS {
-        Some(Want::Action)
-    } else {
-        None
+    match expected.want {
+        Want::Step => begun(plan, expected.then(Want::Action)),
+        Want::Number => begun(plan, expected.then(Want::Action)),
+        Want::Opening => Some(expected.then(Want::Action)),
+        _ => None,
     }
 }
 
-/// A word of a step, which has to be a name.
-fn push_name(plan: &mut OpenSteps, word: &[u8]) -> Result<Option<Want>, AllocError>
-    ensures { IfOk result (λ next. PushesName next plan.old word.now plan.new) }
+/// Reads a `)` on.
+fn read_right(plan: &mut OpenSteps, expected: Expected) -> Result<Option<Expected>, AllocError>
+    requires { IsReady expected.want plan.old }
+    ensures { IfOk result (λ next. ReadsOn next expected plan.old right plan.new) }
 {
-    match word_kind(word) {
-        WordKind::Name => {
-            plan.push_word(word)?;
-            Ok(Some(Want::Argument))
+    match expected.want {
+        Want::Argument => {
+            plan.close_step()?;
+            Ok(Some(expected.then(Want::Number)))
         }
         _ => Ok(None),
     }
 }
 
-/// The plan at the end of the text: no step may be open.
+/// Reads a word on.
+fn read_word(
+    plan: &mut OpenSteps,
+    expected: Expected,
+    text: &[u8],
+) -> Result<Option<Expected>, AllocError>
+    requires { IsReady expected.want plan.old }
+    ensures { IfOk result (λ next. ReadsOn next expected plan.old (word text.now) plan.new) }
+{
+    // Most words are names, so they come before the choice among the others.
+    if expected.want.takes_name() {
+        return push_name(plan, expected, text);
+    }
+    match expected.want {
+        Want::Step => Ok(stamped(plan, expected, text)),
+        Want::Number => Ok(followed(plan, expected, text)),
+        _ => Ok(None),
+    }
+}
+
+/// A step begins, unless the plan has as many as it may have.
+fn begun(plan: &OpenSteps, next: Expected) -> Option<Expected>
+    requires fits { length plan.now.steps < 1000000 → IsReady next.want plan.now }
+    ensures { LeadsTo result plan.now (begun (reading next plan.now) (Some (reading next plan.now))) }
+{
+    if plan.len() < MOST_STEPS {
+        Some(next)
+    } else {
+        None
+    }
+}
+
+/// A word before a step, which has to be a stamp above all others.
+fn stamped(plan: &OpenSteps, expected: Expected, text: &[u8]) -> Option<Expected>
+    requires { IsReady Want.Step plan.now }
+    ensures { LeadsTo result plan.now (stamped (reading expected plan.now) text.now) }
+{
+    let value = number_before(b':', text)?;
+    if value < expected.least_stamp {
+        return None;
+    }
+    begun(
+        plan,
+        Expected {
+            want: Want::Opening,
+            least_stamp: value + 1,
+        },
+    )
+}
+
+/// A word behind a step: its number in brackets, or the stamp of the next step.
+fn followed(plan: &OpenSteps, expected: Expected, text: &[u8]) -> Option<Expected>
+    requires { IsReady Want.Number plan.now }
+    ensures { LeadsTo result plan.now (followed (reading expected plan.now) text.now) }
+{
+    match text.strip_prefix(b"[") {
+        Some(number) => {
+            number_before(b']', number)?;
+            Some(expected.then(Want::Step))
+        }
+        None => stamped(plan, expected, text),
+    }
+}
+
+/// A word of a step, which has to be a name.
+fn push_name(
+    plan: &mut OpenSteps,
+    expected: Expected,
+    text: &[u8],
+) -> Result<Option<Expected>, AllocError>
+    requires { length plan.old.steps < 1000000 }
+    ensures { IfOk result (λ next. LeadsTo next plan.new (named (reading expected plan.old) text.now)) }
+{
+    match word_kind(text) {
+        WordKind::Name => {
+            plan.push_word(text)?;
+            Ok(Some(expected.then(Want::Argument)))
+        }
+        _ => Ok(None),
+    }
+}
+
+/// The plan at the end of the text: no step may be begun.
 fn ended(plan: OpenSteps, want: Want, text: &[u8]) -> Plan
     requires { length text.now < 2 ^ 31 }
     ensures { result ≡ at_end want text.now plan.steps }
 {
     match want {
         Want::Step => Plan::Steps(plan.finish()),
+        Want::Number => Plan::Steps(plan.finish()),
         _ => unreadable(text, text.len() as u32),
     }
 }

@@ -1,19 +1,23 @@
-//! Predicates, then actions, are declared one after another.
+//! Types, constants, predicates and actions are declared one after another.
 
-ghost use Rattle.std.specs.Prelude.{◌≡◌, ◌≤◌, length, [], ◌∷◌, codes, IfOk};
+ghost use Rattle.std.specs.Prelude.{◌≡◌, ◌≤◌, length, [], IfOk};
 ghost use Rattle.std.specs.Map.{keys_of};
-ghost use Rattle.pddl_reader.specs.Domain.{bare_task, domain_of, domain_value, predicates_from, with_predicate};
-ghost use Rattle.pddl_reader.specs.Forms.{domain_syntax_form, given_predicates, predicate_form, predicate_forms};
+ghost use Rattle.pddl_reader.specs.Domain.{bare_task, domain_of, domain_value, domain_with, head_of, predicates_from, with_predicate};
+ghost use Rattle.pddl_reader.specs.Domains.{IsDomain};
+ghost use Rattle.pddl_reader.specs.Objects.{objects_from};
+ghost use Rattle.pddl_reader.specs.Problem.{domain_extended};
+ghost use Rattle.pddl_reader.specs.Forms.{domain_syntax_form, given_groups, given_predicates, name_groups, predicate_form, predicate_forms};
 ghost use Rattle.pddl_reader.specs.Reading.{Gives, Puts};
 ghost use Rattle.strips_task.specs.WellFormed.{IsWellFormed};
-ghost use Rattle.pddl_reader.specs.Assembled.{GivesHead, domain_assembled};
+ghost use Rattle.pddl_reader.specs.Assembled.{domain_assembled, domain_joined};
 
 use crate::fault::ReadFault;
 use crate::resolution::actions::{Predicates, actions};
 use crate::resolution::names::{check_new, name};
-use crate::syntax::{DomainSyntax, PredicateSyntax};
-use crate::walk::NameWord;
-use std::alloc::{AllocError, Global};
+use crate::resolution::objects::more_objects;
+use crate::resolution::types::{KnownTypes, types};
+use crate::syntax::{DomainSyntax, NameGroup, PredicateSyntax};
+use std::alloc::Global;
 use std::marker::Model;
 use strips_task::{Action, Name, NameTable, Seq, TypeList};
 
@@ -29,18 +33,15 @@ pub struct Domain {
 }
 
 impl Model for Domain {
-    ghost use Rattle.std.specs.Map.{keys_of};
-    ghost use Rattle.strips_task.specs.WellFormed.{IsWellFormed};
-    ghost use Rattle.std.specs.Map.{keys_of};
-    ghost use Rattle.pddl_reader.specs.Domain.{DomainValue, bare_task};
+    ghost use Rattle.pddl_reader.specs.Domain.{DomainValue};
 
     ghost Value = { DomainValue };
 
-    ghost use Rattle.pddl_reader.specs.Domains.{domain_kept};
+    ghost use Rattle.pddl_reader.specs.Domains.{IsDomain, domain_kept};
 
     ghost view = { domain_kept };
 
-    ghost invariant = { λ d. IsWellFormed (bare_task (domain_kept d)) };
+    ghost invariant = { λ d. IsDomain (domain_kept d) };
 }
 
 impl Domain {
@@ -100,24 +101,15 @@ fn given_predicates<'s, 'a>(
     }
 }
 
-/// The table of the types' names, of which `object` is the only one.
-fn types(alloc: Global) -> Result<NameTable<()>, AllocError>
-    ensures { IfOk result (λ table. keys_of table ≡ codes "object" ∷ []) }
+/// The groups of a section, if it is given.
+#[tactic(auto, unfolding(crate::specs::Forms::given_groups))]
+pub(crate) fn given_groups<'s, 'a>(section: &'s Option<Vec<NameGroup<'a>>>) -> &'s [NameGroup<'a>]
+    ensures { result.now ≡ given_groups section.now }
 {
-    let mut table = NameTable::new(alloc);
-    let object = Name::from_word(alloc, b"object")?;
-    table.push(object, ())?;
-    Ok(table)
-}
-
-/// The list of the types' parents: `object` is its own.
-fn parents(alloc: Global) -> Result<TypeList, AllocError>
-    ensures { IfOk result (λ parents. parents ≡ 0 ∷ []) }
-{
-    let mut parents = TypeList::new(alloc);
-    parents.push(0)?;
-    parents.index()?;
-    Ok(parents)
+    match section {
+        Some(groups) => groups.as_slice(),
+        None => &[],
+    }
 }
 
 /// The tables of a domain's predicates and actions.
@@ -127,11 +119,15 @@ struct Tables {
     actions: NameTable<Action>,
 }
 
-/// The tables that the sections of a domain stand for.
+/// The tables that the sections of a domain stand for behind its types and constants.
 #[tactic(auto, using(crate::proofs::DomainMeaning::domain_steps))]
-fn resolve_tables(alloc: Global, syntax: &DomainSyntax<'_>) -> Result<Tables, ReadFault>
-    ensures { Gives (λ tables. domain_value syntax.now.name.text.now tables.predicates tables.actions) result
-        (domain_of (domain_syntax_form syntax.now)) }
+fn resolve_tables(
+    alloc: Global,
+    head: &Head,
+    syntax: &DomainSyntax<'_>,
+) -> Result<Tables, ReadFault>
+    ensures { Gives (domain_assembled head.now) result
+        (domain_with (domain_syntax_form syntax.now) head.now (predicates_from [] (predicate_forms (given_predicates syntax.now.sections.predicates)))) }
 {
     let predicates = predicates(alloc, given_predicates(&syntax.sections.predicates))?;
     let actions = actions(alloc, &predicates, syntax.sections.actions.as_slice())?;
@@ -142,14 +138,15 @@ fn resolve_tables(alloc: Global, syntax: &DomainSyntax<'_>) -> Result<Tables, Re
 }
 
 /// The domain of these parts.
-fn assemble(head: Head, objects: NameTable<u16>, tables: Tables) -> Domain
-    requires { IsWellFormed (bare_task (domain_assembled head objects tables)) }
-    ensures { result ≡ domain_assembled head objects tables }
+fn assemble(head: Head, tables: Tables) -> Domain
+    requires { IsDomain (domain_assembled head tables) }
+    ensures { result ≡ domain_assembled head tables }
 {
     let Head {
         name,
         types,
         parents,
+        objects,
     } = head;
     let Tables {
         predicates,
@@ -165,33 +162,107 @@ fn assemble(head: Head, objects: NameTable<u16>, tables: Tables) -> Domain
     }
 }
 
-/// What a domain holds beside its tables.
+/// What a domain declares before its predicates.
 #[derive(Drop)]
-struct Head {
+pub(crate) struct Head {
     name: Name,
     types: NameTable<()>,
     parents: TypeList,
+    objects: NameTable<u16>,
 }
 
-/// The name of a domain, and its types.
-fn resolve_head(alloc: Global, word: NameWord<'_>) -> Result<Head, ReadFault>
-    ensures { GivesHead result word.entry.text.now }
+/// The name of a domain, its types and its constants.
+#[tactic(auto, using(crate::proofs::DomainMeaning::head_steps))]
+fn resolve_head(alloc: Global, syntax: &DomainSyntax<'_>) -> Result<Head, ReadFault>
+    ensures { Gives (λ head. head) result (head_of (domain_syntax_form syntax.now)) }
 {
-    let parents = parents(alloc)?;
-    let types = types(alloc)?;
-    let name = name(alloc, word)?;
+    let name = name(alloc, syntax.name)?;
+    let known = types(alloc, given_groups(&syntax.sections.types))?;
+    let constants = given_groups(&syntax.sections.constants);
+    let objects = more_objects(alloc, &known.names, NameTable::new(alloc), constants)?;
+    let KnownTypes { names, parents } = known;
     Ok(Head {
         name,
-        types,
+        types: names,
         parents,
+        objects,
     })
 }
 
 /// The domain that syntax stands for.
+#[tactic(auto, using(crate::proofs::DomainMeaning::domain_head_steps))]
 pub(crate) fn resolve_domain(alloc: Global, syntax: &DomainSyntax<'_>) -> Result<Domain, ReadFault>
     ensures { Gives (λ domain. domain) result (domain_of (domain_syntax_form syntax.now)) }
 {
-    let head = resolve_head(alloc, syntax.name)?;
-    let tables = resolve_tables(alloc, syntax)?;
-    Ok(assemble(head, NameTable::new(alloc), tables))
+    let head = resolve_head(alloc, syntax)?;
+    let tables = resolve_tables(alloc, &head, syntax)?;
+    Ok(assemble(head, tables))
+}
+
+/// What a domain says beside its constants.
+#[derive(Drop)]
+pub(crate) struct Rest {
+    name: Name,
+    types: NameTable<()>,
+    parents: TypeList,
+    predicates: Predicates,
+    actions: NameTable<Action>,
+}
+
+/// The constants of a domain, and the rest of it.
+fn split(domain: Domain) -> (Rest, NameTable<u16>)
+    ensures value { domain_joined result.0 result.1 ≡ domain }
+    ensures kept { IsDomain domain }
+{
+    let Domain {
+        name,
+        types,
+        parents,
+        objects,
+        predicates,
+        actions,
+    } = domain;
+    let rest = Rest {
+        name,
+        types,
+        parents,
+        predicates,
+        actions,
+    };
+    (rest, objects)
+}
+
+/// The domain of its objects and the rest of it.
+fn join(rest: Rest, objects: NameTable<u16>) -> Domain
+    requires { IsDomain (domain_joined rest objects) }
+    ensures { result ≡ domain_joined rest objects }
+{
+    let Rest {
+        name,
+        types,
+        parents,
+        predicates,
+        actions,
+    } = rest;
+    Domain {
+        name,
+        types,
+        parents,
+        objects,
+        predicates,
+        actions,
+    }
+}
+
+/// The domain with the objects of a problem behind its constants.
+pub(crate) fn extended(
+    alloc: Global,
+    domain: Domain,
+    groups: &[NameGroup<'_>],
+) -> Result<Domain, ReadFault>
+    ensures { Gives (λ domain. domain) result (domain_extended domain (name_groups groups.now)) }
+{
+    let (rest, objects) = split(domain);
+    let objects = more_objects(alloc, &rest.types, objects, groups)?;
+    Ok(join(rest, objects))
 }

@@ -1,6 +1,7 @@
 //! Names are declared in tables, and found there.
 
 ghost use Rattle.std.specs.Prelude.{◌≡◌, ◌<◌, ◌≤◌, length};
+ghost use Rattle.std.specs.Str.{bytes_eq};
 ghost use Rattle.pddl_words.specs.Words.{folded};
 ghost use Rattle.pddl_reader.specs.Declarations.{declared, may_declare, predicate_number, takes_terms};
 ghost use Rattle.pddl_reader.specs.Forms.{atom_form};
@@ -20,6 +21,13 @@ pub(crate) fn name(alloc: Global, word: NameWord<'_>) -> Result<Name, ReadFault>
     ensures { ReadsName result (folded word.entry.text.now) }
 {
     Ok(Name::from_word(alloc, word.text)?)
+}
+
+/// Whether two names are the same.
+pub(crate) fn is_same_name(one: &Name, other: &Name) -> bool
+    ensures { result ≡ bytes_eq one.now other.now }
+{
+    one == other
 }
 
 /// Tests that one more name may be declared in the table.

@@ -1,15 +1,15 @@
-//! Initial atoms, then the goal, are looked up in the tables of a domain.
+//! Objects are declared behind the constants of a domain; then initial atoms and the goal are looked up in its tables.
 
-ghost use Rattle.std.specs.Prelude.{◌≡◌, ◌≤◌, length, IfOk};
+ghost use Rattle.std.specs.Prelude.{◌≡◌, ◌≤◌, length, IfOk, Some};
 ghost use Rattle.pddl_reader.specs.Forms.{literal_form, literal_forms, problem_syntax_form};
-ghost use Rattle.pddl_reader.specs.Problem.{ground_condition_of, ground_conditions_of, initial_of, problem_of};
+ghost use Rattle.pddl_reader.specs.Problem.{ground_condition_of, ground_conditions_of, initial_of, problem_of, problem_within};
 ghost use Rattle.pddl_reader.specs.Reading.{Gives};
 ghost use Rattle.strips_task.specs.WellFormed.{IsWellFormed};
 ghost use Rattle.pddl_reader.specs.Assembled.{task_assembled};
 
 use crate::fault::ReadFault;
 use crate::resolution::actions::{Predicates, given_literals};
-use crate::resolution::domain::Domain;
+use crate::resolution::domain::{Domain, extended, given_groups};
 use crate::resolution::names::{name, predicate_number};
 use crate::syntax::{LiteralSyntax, ProblemSyntax};
 use std::alloc::Global;
@@ -117,7 +117,7 @@ fn resolve_given(
     domain: &Domain,
     syntax: &ProblemSyntax<'_>,
 ) -> Result<Given, ReadFault>
-    ensures meaning { Gives (task_assembled domain.now) result (problem_of domain.now (problem_syntax_form syntax.now)) }
+    ensures meaning { Gives (task_assembled domain.now) result (problem_within (problem_syntax_form syntax.now) (Some domain.now)) }
     ensures well_formed { IfOk result (λ given. IsWellFormed (task_assembled domain.now given)) }
 {
     let predicates = domain.predicates();
@@ -132,6 +132,7 @@ fn resolve_given(
 }
 
 /// The task that a domain and the syntax of a problem stand for. Where it refuses, the domain is dropped.
+#[tactic(auto, using(crate::proofs::ProblemMeaning::extended_steps))]
 pub(crate) fn resolve_problem(
     alloc: Global,
     domain: Domain,
@@ -139,6 +140,7 @@ pub(crate) fn resolve_problem(
 ) -> Result<Task, ReadFault>
     ensures { Gives (λ task. task) result (problem_of domain (problem_syntax_form syntax.now)) }
 {
+    let domain = extended(alloc, domain, given_groups(&syntax.objects))?;
     let given = resolve_given(alloc, &domain, syntax)?;
     Ok(assemble(domain, given))
 }

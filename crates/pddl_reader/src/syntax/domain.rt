@@ -12,6 +12,7 @@ use crate::heads::{DomainSection, FormulaHead, domain_section, formula_head};
 use crate::syntax::action::action;
 use crate::syntax::lists::{enter_list, expect_word, header, leave_list};
 use crate::syntax::refusals::{keyword_fault, variable_fault};
+use crate::syntax::typed::{keywords, typed_names};
 use crate::syntax::{DomainSections, DomainSyntax, PredicateSyntax};
 use crate::walk::{Item, NameWord, Walk};
 use std::alloc::Global;
@@ -70,6 +71,9 @@ fn is_given(sections: &DomainSections<'_>, section: DomainSection) -> bool
     ensures { result ≡ is_domain_section_given section (domain_sections_form sections.now) }
 {
     match section {
+        DomainSection::Requirements => sections.requirements,
+        DomainSection::Types => sections.types.is_some(),
+        DomainSection::Constants => sections.constants.is_some(),
         DomainSection::Predicates => sections.predicates.is_some(),
         DomainSection::Action => false,
     }
@@ -87,6 +91,12 @@ fn section_body<'a>(
         (here walk.new.cursor) (domain_sections_form sections.new) }
 {
     match section {
+        DomainSection::Requirements => {
+            keywords(walk)?;
+            sections.requirements = true;
+        }
+        DomainSection::Types => sections.types = Some(typed_names(alloc, walk)?),
+        DomainSection::Constants => sections.constants = Some(typed_names(alloc, walk)?),
         DomainSection::Predicates => sections.predicates = Some(predicates(alloc, walk)?),
         DomainSection::Action => sections.actions.push(action(alloc, walk)?)?,
     }
@@ -125,6 +135,9 @@ fn sections<'a>(alloc: Global, walk: &mut Walk<'a>) -> Result<DomainSections<'a>
         (here walk.new.cursor) }
 {
     let mut sections = DomainSections {
+        requirements: false,
+        types: None,
+        constants: None,
         predicates: None,
         actions: Vec::new(alloc),
     };

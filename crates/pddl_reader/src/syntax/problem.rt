@@ -13,6 +13,7 @@ use crate::syntax::action::literals;
 use crate::syntax::formula::literal;
 use crate::syntax::lists::{enter_list, expect_word, header, leave_list, lone_name};
 use crate::syntax::refusals::{Scope, keyword_fault};
+use crate::syntax::typed::{keywords, skip, typed_names};
 use crate::syntax::{LiteralSyntax, ProblemSections, ProblemSyntax};
 use crate::walk::{Item, Walk};
 use pddl_tokens::Span;
@@ -63,8 +64,12 @@ fn is_given(sections: &ProblemSections<'_>, section: ProblemSection) -> bool
 {
     match section {
         ProblemSection::Domain => sections.domain.is_some(),
+        ProblemSection::Requirements => sections.requirements,
+        ProblemSection::Objects => sections.objects.is_some(),
         ProblemSection::Init => sections.init.is_some(),
         ProblemSection::Goal => sections.goal.is_some(),
+        ProblemSection::Metric => sections.metric,
+        ProblemSection::Length => sections.length,
     }
 }
 
@@ -81,8 +86,21 @@ fn section_body<'a>(
 {
     match section {
         ProblemSection::Domain => sections.domain = Some(lone_name(walk)?),
+        ProblemSection::Requirements => {
+            keywords(walk)?;
+            sections.requirements = true;
+        }
+        ProblemSection::Objects => sections.objects = Some(typed_names(alloc, walk)?),
         ProblemSection::Init => sections.init = Some(init(alloc, walk)?),
         ProblemSection::Goal => sections.goal = Some(goal(alloc, walk)?),
+        ProblemSection::Metric => {
+            skip(walk);
+            sections.metric = true;
+        }
+        ProblemSection::Length => {
+            skip(walk);
+            sections.length = true;
+        }
     }
     Ok(())
 }
@@ -123,8 +141,12 @@ fn sections<'a>(
 {
     let mut sections = ProblemSections {
         domain: None,
+        requirements: false,
+        objects: None,
         init: None,
         goal: None,
+        metric: false,
+        length: false,
     };
     'sections: loop {
         match walk.next() {
@@ -147,7 +169,15 @@ pub(crate) fn problem<'a>(
     enter_list(walk)?;
     let name = header(walk, b"problem")?;
     let (sections, end) = sections(alloc, walk)?;
-    let ProblemSections { domain, init, goal } = sections;
+    let ProblemSections {
+        domain,
+        requirements: _,
+        objects,
+        init,
+        goal,
+        metric: _,
+        length: _,
+    } = sections;
     let Some(domain) = domain else {
         return Err(ReadFault::new(FaultKind::Expected, end));
     };
@@ -157,6 +187,7 @@ pub(crate) fn problem<'a>(
     Ok(ProblemSyntax {
         name,
         domain,
+        objects,
         init,
         goal,
     })

@@ -3,8 +3,9 @@
 ghost use Rattle.std.specs.Prelude.{◌≢◌};
 
 use crate::fault::{FaultKind, ReadFault};
-use crate::walk::Word;
-use pddl_tokens::{WordKind, word_kind};
+use crate::heads::is_either;
+use crate::walk::{Item, Walk, Word};
+use pddl_tokens::{Span, WordKind, word_kind};
 
 /// Where an atom stands. Variables may be terms in actions alone.
 #[derive(Clone, Copy, Debug)]
@@ -41,5 +42,21 @@ pub(crate) fn term_fault(scope: Scope, word: Word<'_>) -> ReadFault
         (_, WordKind::Name) => ReadFault::new(FaultKind::Unsupported, word.span),
         (Scope::Action, WordKind::Variable) => ReadFault::new(FaultKind::Unsupported, word.span),
         _ => ReadFault::new(FaultKind::Expected, word.span),
+    }
+}
+
+/// The fault of a list where the type of names is due, when the walk has entered it. A choice of types is refused as such.
+pub(crate) fn list_fault(walk: &mut Walk<'_>, opening: Span) -> ReadFault
+    ensures { result.kind ≢ FaultKind.OutOfMemory }
+{
+    match walk.next() {
+        Item::Text(word) => {
+            if is_either(word.text) {
+                ReadFault::new(FaultKind::Unsupported, word.span)
+            } else {
+                ReadFault::new(FaultKind::Expected, opening)
+            }
+        }
+        _ => ReadFault::new(FaultKind::Expected, opening),
     }
 }

@@ -2,8 +2,13 @@ use Rattle.std.proofs.Common.{◌≡◌, ◌++◌, ap, ◌∙◌, sym, Some, sli
 use Rattle.std.proofs.lemmas.Option.{slice_get-get_or}
 use Rattle.plan_judge.specs.Answer.{planner_of}
 use Rattle.plan_judge.specs.Report.{planner_lines}
+use Rattle.plan_judge.proofs.PlanCounts.{count_each}
 use Rattle.plan_judge.proofs.Planners.{report_more}
 use Rattle.plan_judge.proofs.engine.report_of.Goals as goal
+
+pub push_planner-requires : goal.push_planner-requires
+push_planner-requires c =
+    omega (arith, count_each c.args.bundles.now c.loop-bundle.bundle-index c.bundle-item.result (omega arith) c.bundle-item.is)
 
 pub loop-bundle-preserved : goal.loop-bundle-preserved
 loop-bundle-preserved c =

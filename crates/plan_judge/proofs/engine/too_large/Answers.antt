@@ -1,7 +1,6 @@
-use Rattle.std.proofs.Common.{◌≡◌, ◌<◌, ◌≤◌, ◌∙◌, ap, sym, subst, arith, length, slice_get, Some, List, ℕ}
-use Rattle.std.proofs.lemmas.Option.{slice_get-get_or}
+use Rattle.std.proofs.Common.{◌<◌, ◌≤◌, ◌∙◌, sym, subst, arith, length, List, ℕ}
 use Rattle.plan_judge.specs.declared.inlet.TheConstants.{FILE_LIMIT}
-use Rattle.plan_judge.proofs.TooLarge.{too_large_domain, too_large_problem, too_large_bundle, none_too_large}
+use Rattle.plan_judge.proofs.TooLarge.{too_large_domain, too_large_problem, too_large_bundles, large_here, large_later, large_none}
 use Rattle.plan_judge.proofs.engine.too_large.Goals as goal
 
 pub returns-then-domain-gt-FILE_LIMIT : goal.returns-then-domain-gt-FILE_LIMIT
@@ -11,18 +10,23 @@ pub returns-then-problem-gt-FILE_LIMIT : goal.returns-then-problem-gt-FILE_LIMIT
 returns-then-problem-gt-FILE_LIMIT c =
     sym (too_large_problem c.args.domain.now c.args.problem.now c.args.bundles.now c.if-domain-gt-FILE_LIMIT.false c.if-problem-gt-FILE_LIMIT.true)
 
+pub loop-number-init : goal.loop-number-init
+loop-number-init c =
+    too_large_bundles c.args.domain.now c.args.problem.now c.args.bundles.now c.if-domain-gt-FILE_LIMIT.false c.if-problem-gt-FILE_LIMIT.false
+
+pub loop-number-preserved : goal.loop-number-preserved
+loop-number-preserved c =
+    let bundle = c.index-bundles-number.result in
+    let short : length bundle.bytes ≤ FILE_LIMIT = subst (λ (l : List ℕ). length l ≤ FILE_LIMIT) c.bytes.ensures c.if-bytes-gt-FILE_LIMIT.false in
+    c.loop-number.invariant
+    ∙ large_later c.args.bundles.now c.loop-number.number bundle c.loop-number-test.true c.index-bundles-number.is short
+
 pub returns-then-bytes-gt-FILE_LIMIT : goal.returns-then-bytes-gt-FILE_LIMIT
 returns-then-bytes-gt-FILE_LIMIT c =
-    let bundle = c.index-bundles-0.result in
-    let at : slice_get c.args.bundles.now 0 ≡ Some bundle = slice_get-get_or c.args.bundles.now 0 bundle (omega arith) ∙ ap Some (sym c.index-bundles-0.is) in
+    let bundle = c.index-bundles-number.result in
     let long : FILE_LIMIT < length bundle.bytes = subst (λ (l : List ℕ). FILE_LIMIT < length l) c.bytes.ensures c.if-bytes-gt-FILE_LIMIT.true in
-    sym (too_large_bundle c.args.domain.now c.args.problem.now bundle c.args.bundles.now c.if-domain-gt-FILE_LIMIT.false c.if-problem-gt-FILE_LIMIT.false
-    c.requires at long)
+    sym (c.loop-number.invariant
+    ∙ large_here c.args.bundles.now c.loop-number.number bundle c.loop-number-test.true c.index-bundles-number.is long)
 
 pub returns : goal.returns
-returns c =
-    let bundle = c.index-bundles-0.result in
-    let at : slice_get c.args.bundles.now 0 ≡ Some bundle = slice_get-get_or c.args.bundles.now 0 bundle (omega arith) ∙ ap Some (sym c.index-bundles-0.is) in
-    let short : length bundle.bytes ≤ FILE_LIMIT = subst (λ (l : List ℕ). length l ≤ FILE_LIMIT) c.bytes.ensures c.if-bytes-gt-FILE_LIMIT.false in
-    sym (none_too_large c.args.domain.now c.args.problem.now bundle c.args.bundles.now c.if-domain-gt-FILE_LIMIT.false c.if-problem-gt-FILE_LIMIT.false
-    c.requires at short)
+returns c = sym (c.loop-number.invariant ∙ large_none c.args.bundles.now c.loop-number.number (omega (arith, c.loop-number-test.false)))

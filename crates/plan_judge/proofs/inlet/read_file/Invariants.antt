@@ -1,11 +1,13 @@
 use Rattle.std.proofs.Common.{◌≡◌, ◌≤◌, ◌+◌, ◌-◌, false, length}
+use Rattle.std.specs.Io.KnownBytes.{Consumes}
 use Rattle.plan_judge.specs.declared.inlet.TheConstants.{FILE_LIMIT}
 use Rattle.plan_judge.proofs.inlet.read_file.Given as goal
 
--- No more was read than may be, and no get has failed.
+-- The bytes so far came from the inlet, no more than may be were read, and no get has failed.
 abbrev pub invariant-pieces : goal.invariant-pieces
 invariant-pieces g l = record {
   within : length l.bytes.items ≤ FILE_LIMIT + 1;
+  given : Consumes (g.I.Inlet.left l.fn.inlet) (g.I.Inlet.left l.inlet) l.bytes.items;
   sound : g.I.Inlet.failed l.inlet ≡ false;
 }
 

@@ -1,4 +1,4 @@
-use Rattle.std.proofs.Common.{◌≡◌, ◌||◌, ◌&&◌, ◌-◌, false, nat_eq, nat_lt, length, take, drop, ap, ◌∙◌}
+use Rattle.std.proofs.Common.{◌||◌, ◌&&◌, ◌-◌, nat_eq, nat_lt, length, take, drop, ap, ◌∙◌}
 use Rattle.plan_judge.proofs.Writing.{front_more, no_failure, piece_within}
 use Rattle.plan_judge.proofs.outlet.write_bytes.Goals as goal
 

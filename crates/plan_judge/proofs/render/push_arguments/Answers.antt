@@ -1,4 +1,4 @@
-use Rattle.std.proofs.Common.{◌≡◌, ◌++◌, ap, sym, ◌∙◌, append_assoc, codes, take}
+use Rattle.std.proofs.Common.{◌++◌, ap, sym, ◌∙◌, append_assoc, codes, take}
 use Rattle.strips_task.specs.StepView.{step_shown}
 use Rattle.plan_judge.specs.Report.{spaced}
 use Rattle.plan_judge.proofs.Rendering.{spaced_more}

@@ -1,4 +1,4 @@
-use Rattle.std.proofs.Common.{◌≡◌, ◌++◌, ap, sym, ◌∙◌, append_assoc, codes, decimal}
+use Rattle.std.proofs.Common.{◌++◌, ap, sym, ◌∙◌, append_assoc, codes, decimal}
 use Rattle.plan_judge.specs.Report.{conditions_text, verdict_text}
 use Rattle.plan_judge.proofs.render.push_verdict.Goals as goal
 

@@ -1,4 +1,4 @@
-use Rattle.std.proofs.Common.{◌≡◌, ◌++◌, ◌-◌, ap, sym, ◌∙◌, append_assoc, codes}
+use Rattle.std.proofs.Common.{◌++◌, ◌-◌, ap, sym, ◌∙◌, append_assoc, codes}
 use Rattle.strips_task.specs.StepView.{step_shown}
 use Rattle.plan_judge.specs.Report.{name_at, why_text}
 use Rattle.plan_judge.proofs.render.push_why.Goals as goal

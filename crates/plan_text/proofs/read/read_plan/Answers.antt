@@ -20,14 +20,14 @@ tokens-init c =
 pub returns-in-Ok-None : goal.returns-in-Ok-None
 returns-in-Ok-None c =
     let (none, _) = rw c.in-Ok-None.field-0-is at c.in-Ok-None.ensures in
-    c.ended.ensures ∙ sym (plan_end _ (reading c.tokens.want c.tokens.plan))
-    ∙ ap (plan_from c.args.text.now (reading c.tokens.want c.tokens.plan)) (sym none) ∙ c.tokens.invariant.same
+    c.ended.ensures ∙ sym (plan_end _ (reading c.tokens.expected c.tokens.plan))
+    ∙ ap (plan_from c.args.text.now (reading c.tokens.expected c.tokens.plan)) (sym none) ∙ c.tokens.invariant.same
 
 pub tokens-preserved : goal.tokens-preserved
 tokens-preserved c =
     let first = rw c.in-Ok-Some.field-0-is at c.in-Ok-Some.ensures in
     let (goes_on, ready) = rw c.in-Some.is at c.in_ok-next-in-Ok-Some.ensures in
-    let before = reading c.tokens.want c.tokens.plan in
+    let before = reading c.tokens.expected c.tokens.plan in
     record {
       same = sym (plan_goes_on _ before _ _ _ _ _ goes_on) ∙ ap (plan_from c.args.text.now before) (sym first) ∙ c.tokens.invariant.same;
       ready = ready;
@@ -38,11 +38,11 @@ pub returns-in-None : goal.returns-in-None
 returns-in-None c =
     let first = rw c.in-Ok-Some.field-0-is at c.in-Ok-Some.ensures in
     let stuck = rw c.in-None.is at c.in_ok-next-in-Ok-Some.ensures in
-    let before = reading c.tokens.want c.tokens.plan in
+    let before = reading c.tokens.expected c.tokens.plan in
     c.unreadable.ensures ∙ sym (plan_refused _ before _ _ _ _ stuck) ∙ ap (plan_from c.args.text.now before) (sym first) ∙ c.tokens.invariant.same
 
 pub returns-in-Err-BadByte : goal.returns-in-Err-BadByte
 returns-in-Err-BadByte c =
     let found = rw c.in-Err-BadByte.field-0-is at c.in-Err-BadByte.ensures in
-    let before = reading c.tokens.want c.tokens.plan in
+    let before = reading c.tokens.expected c.tokens.plan in
     c.unreadable-in-Err-BadByte.ensures ∙ ap (unreadable c.args.text.now) c.in-Err-BadByte.at-is ∙ sym (plan_bad _ before _ _) ∙ ap (plan_from c.args.text.now before) (sym found.0) ∙ c.tokens.invariant.same

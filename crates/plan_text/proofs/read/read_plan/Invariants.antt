@@ -7,8 +7,8 @@ use Rattle.plan_text.proofs.read.read_plan.Given as goal
 -- the rest of the text, read on from here, gives the plan of the text
 abbrev pub invariant-tokens : goal.invariant-tokens
 invariant-tokens l = record {
-  same : plan_from l.text (reading l.want l.plan) l.cursor ≡ plan_of l.fn.text;
-  ready : IsReady l.want l.plan;
+  same : plan_from l.text (reading l.expected l.plan) l.cursor ≡ plan_of l.fn.text;
+  ready : IsReady l.expected.want l.plan;
   within : AreWithin (length l.text) l.cursor;
 }
 

@@ -1,0 +1,55 @@
+-- A state that is taken through a list, one equation for each case.
+
+use Rattle.std.proofs.Common.{◌≡◌, Bool, true, false, List, [], ◌∷◌, Option, Some, None, map, refl, subst}
+use Rattle.std.specs.Option.{option_and_then}
+use Rattle.pddl_reader.specs.Optional.{guard, through}
+use Rattle.pddl_reader.proofs.Items.{item_steps}
+
+-- what is left to do behind one step
+unfoldable pub through_behind : {S X : Type 0} → (S → X → Option S) → Option S → List X → Option S
+through_behind step None xs = None
+through_behind step (Some state) xs = through step state xs
+
+through_read : {S X : Type 0} (step : S → X → Option S) (next : Option S) (xs : List X) →
+    option_and_then (λ state. through step state xs) next ≡ through_behind step next xs
+unfolding through_behind
+through_read step None xs = refl
+through_read step (Some state) xs = refl
+
+pub through_end : {S X : Type 0} (step : S → X → Option S) (state : S) → through step state [] ≡ Some state
+unfolding through
+through_end step state = refl
+
+pub through_item : {S X : Type 0} (step : S → X → Option S) (state : S) (x : X) (xs : List X) →
+    through step state (x ∷ xs) ≡ through_behind step (step state x) xs
+unfolding through
+through_item step state x xs = through_read step (step state x) xs
+
+pub behind_none : {S X : Type 0} (step : S → X → Option S) (xs : List X) → through_behind step None xs ≡ None
+unfolding through_behind
+behind_none step xs = refl
+
+pub behind_some : {S X : Type 0} (step : S → X → Option S) (state : S) (xs : List X) → through_behind step (Some state) xs ≡ through step state xs
+unfolding through_behind
+behind_some step state xs = refl
+
+pub ruleset through_steps = (item_steps, through_end, through_item, behind_none, behind_some)
+
+-- what each step keeps is kept
+pub through_keeps : {S X : Type 0} (P : S → Type 0) (step : S → X → Option S) →
+    ((s : S) (x : X) (t : S) → P s → step s x ≡ Some t → P t) → (s : S) (xs : List X) (t : S) → P s → through step s xs ≡ Some t → P t
+unfolding through
+through_keeps {S} P step keeps s [] t kept h = let e : s ≡ t = cc in subst P e kept
+through_keeps {S} {X} P step keeps s (x ∷ xs) t kept h =
+    by (step s x) (λ u e. keeps s x u kept e) (λ u k e. through_keeps P step keeps u xs t k e) h
+  where
+    by : (next : Option S) → ((u : S) → next ≡ Some u → P u) → ((u : S) → P u → through step u xs ≡ Some t → P t) →
+        option_and_then (λ state. through step state xs) next ≡ Some t → P t
+    by None first rest e = cc
+    by (Some u) first rest e = rest u (first u refl) e
+
+-- a guard that gives a value held
+pub guard_held : {A : Type 0} (test : Bool) (value found : A) → guard test (Some value) ≡ Some found → (test ≡ true) × (value ≡ found)
+unfolding guard
+guard_held true value found h = (refl, cc)
+guard_held false value found h = cc

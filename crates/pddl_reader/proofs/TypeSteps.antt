@@ -1,0 +1,239 @@
+-- Types declared and ordered, one equation for each case.
+
+use Rattle.std.proofs.Common.{◌≡◌, ◌≢◌, ℕ, ◌+◌, ◌<◌, ◌≤◌, ◌++◌, Bool, true, false, nat_eq, nat_lt, is_some, List, [], ◌∷◌, length, map, take, drop, get_or, Option, Some, None, unwrap_or, if◌then◌else◌, refl, sym, ◌∙◌, subst, true≢false, arith, length-append, append_assoc, add-one, suc, zero, ◌↔◌, IsTrue}
+use Rattle.std.proofs.lemmas.List.{drop_all, append-nil}
+use Rattle.strips_task.specs.Types.{IsTypeTree}
+use Rattle.std.proofs.lemmas.Bool.{le-ltb, lt-ltb, ltb-true, eqb-true, eq-eqb}
+use Rattle.std.specs.List.{slice_get}
+use Rattle.std.specs.Str.{bytes_eq}
+use Rattle.pddl_words.specs.Words.{folded}
+use Rattle.strips_task.specs.Names.{number_named}
+use Rattle.pddl_reader.specs.declared.syntax.NameGroup as groups
+use Rattle.pddl_reader.specs.declared.resolution.types.KnownTypes.{KnownTypes}
+use Rattle.pddl_reader.specs.declared.resolution.types.TypeTables.{TypeTables}
+use Rattle.pddl_reader.specs.Forms.{name_forms, name_group_form, name_groups}
+use Rattle.pddl_reader.specs.Keywords.{object_word}
+use Rattle.pddl_reader.specs.Optional.{guard, through}
+use Rattle.pddl_reader.specs.Syntax.{NameGroup}
+use Rattle.pddl_reader.specs.Tables.{value_named}
+use Rattle.pddl_reader.specs.TypeOrder.{TypeNames, TypeParents, numbered, under, declared_under, tables_of, type_declared, parent_numbered, group_declared, object_alone, types_declared, parent_name, parent_number, parents_of, is_tree, ordered, types_of}
+use Rattle.pddl_reader.proofs.TableSteps.{value_unnamed, value_numbered}
+use Rattle.pddl_reader.proofs.TypeTests.{tree_from, tree_tested}
+use Rattle.pddl_reader.proofs.Through.{through_keeps, guard_held}
+
+pub number_again : (names : TypeNames) (name : List ℕ) → is_some (number_named names name) ≡ true → numbered names name ≡ Some names
+unfolding numbered
+number_again names name h = rw h refl
+
+pub number_many : (names : TypeNames) (name : List ℕ) → is_some (number_named names name) ≡ false → 1025 ≤ length names → numbered names name ≡ None
+unfolding numbered guard
+number_many names name h le = rw (h, le-ltb (length names) 1025 le) refl
+
+pub number_new : (names : TypeNames) (name : List ℕ) → is_some (number_named names name) ≡ false → length names < 1025 →
+    numbered names name ≡ Some (names ++ (name, tt) ∷ [])
+unfolding numbered guard
+number_new names name h lt = rw (h, lt-ltb (length names) 1025 lt) refl
+
+pub not_numbered : (names : TypeNames) (name : List ℕ) → is_some (number_named names name) ≡ false → number_named names name ≡ None
+not_numbered names name h = by (number_named names name) h
+  where
+    by : (found : Option ℕ) → is_some found ≡ false → found ≡ None
+    by None e = refl
+    by (Some n) e = cc
+
+pub ruleset number_steps = (number_again, number_many, number_new, not_numbered)
+
+pub under_again : (parents : TypeParents) (name parent key known : List ℕ) (number : ℕ) → number_named parents name ≡ Some number →
+    slice_get parents number ≡ Some (key, known) → bytes_eq known parent ≡ true → declared_under parents name parent ≡ Some parents
+unfolding declared_under under guard
+under_again parents name parent key known number h e is = rw (value_numbered parents name key number known h e, is) refl
+
+pub under_otherwise : (parents : TypeParents) (name parent key known : List ℕ) (number : ℕ) → number_named parents name ≡ Some number →
+    slice_get parents number ≡ Some (key, known) → bytes_eq known parent ≡ false → declared_under parents name parent ≡ None
+unfolding declared_under under guard
+under_otherwise parents name parent key known number h e is = rw (value_numbered parents name key number known h e, is) refl
+
+pub under_new : (parents : TypeParents) (name parent : List ℕ) → number_named parents name ≡ None →
+    declared_under parents name parent ≡ Some (parents ++ (name, parent) ∷ [])
+unfolding declared_under under
+under_new parents name parent h = rw (value_unnamed parents name h) refl
+
+pub ruleset under_steps = (under_again, under_otherwise, under_new)
+
+pub type_unordered : (parent : List ℕ) (tables : TypeTables) (word : List ℕ) → declared_under tables.parents (folded word) (folded parent) ≡ None →
+    type_declared parent tables word ≡ None
+unfolding type_declared tables_of
+type_unordered parent tables word h = by (numbered tables.names (folded word))
+  where
+    by : (names : Option TypeNames) → tables_of names (declared_under tables.parents (folded word) (folded parent)) ≡ None
+    by None = refl
+    by (Some names) = rw h refl
+
+pub type_unnumbered : (parent : List ℕ) (tables : TypeTables) (word : List ℕ) → numbered tables.names (folded word) ≡ None → type_declared parent tables word ≡ None
+unfolding type_declared tables_of
+type_unnumbered parent tables word h = rw h refl
+
+pub type_both : (parent : List ℕ) (tables : TypeTables) (word : List ℕ) (names : TypeNames) (parents : TypeParents) →
+    numbered tables.names (folded word) ≡ Some names → declared_under tables.parents (folded word) (folded parent) ≡ Some parents →
+    type_declared parent tables word ≡ Some (record { names = names; parents = parents })
+unfolding type_declared tables_of
+type_both parent tables word names parents h e = rw (h, e) refl
+
+pub ruleset type_steps = (type_unordered, type_unnumbered, type_both)
+
+pub group_undeclared : (tables : TypeTables) (g : groups.NameGroup) → through (type_declared g.kind.text.now) tables (name_forms g.names.items) ≡ None →
+    group_declared tables (name_group_form g) ≡ None
+unfolding group_declared parent_numbered
+group_undeclared tables g h = rw h refl
+
+pub group_unnumbered : (tables between : TypeTables) (g : groups.NameGroup) →
+    through (type_declared g.kind.text.now) tables (name_forms g.names.items) ≡ Some between → numbered between.names (folded g.kind.text.now) ≡ None →
+    group_declared tables (name_group_form g) ≡ None
+unfolding group_declared parent_numbered tables_of
+group_unnumbered tables between g h e = rw (h, e) refl
+
+pub group_both : (tables between : TypeTables) (g : groups.NameGroup) (names : TypeNames) →
+    through (type_declared g.kind.text.now) tables (name_forms g.names.items) ≡ Some between → numbered between.names (folded g.kind.text.now) ≡ Some names →
+    group_declared tables (name_group_form g) ≡ Some (record { names = names; parents = between.parents })
+unfolding group_declared parent_numbered tables_of
+group_both tables between g names h e = rw (h, e) refl
+
+pub ruleset group_steps = (group_undeclared, group_unnumbered, group_both)
+
+pub parent_unnamed : (parents : TypeParents) (name : List ℕ) → number_named parents name ≡ None → parent_name parents name ≡ object_word
+unfolding parent_name
+parent_unnamed parents name h = rw (value_unnamed parents name h) refl
+
+pub parent_named : (parents : TypeParents) (name key parent : List ℕ) (number : ℕ) → number_named parents name ≡ Some number →
+    slice_get parents number ≡ Some (key, parent) → parent_name parents name ≡ parent
+unfolding parent_name
+parent_named parents name key parent number h e = rw (value_numbered parents name key number parent h e) refl
+
+pub ruleset parent_steps = (parent_unnamed, parent_named)
+
+pub parent_unknown : (tables : TypeTables) (name : List ℕ) → number_named tables.names (parent_name tables.parents name) ≡ None → parent_number tables name ≡ 0
+unfolding parent_number
+parent_unknown tables name h = rw h refl
+
+pub parent_known : (tables : TypeTables) (name : List ℕ) (number : ℕ) → number_named tables.names (parent_name tables.parents name) ≡ Some number →
+    parent_number tables name ≡ number
+unfolding parent_number
+parent_known tables name number h = rw h refl
+
+pub ruleset parent_number_steps = (parent_unknown, parent_known)
+
+pub declared_all : (groups : List NameGroup) → types_declared groups ≡ through group_declared object_alone groups
+unfolding types_declared
+declared_all groups = refl
+
+-- there are types, and no more than the limit
+pub record AreFew (tables : TypeTables) : Type 0 where
+  pub some : 0 < length tables.names
+  pub few : length tables.names ≤ 1025
+
+numbered-few : (names more : TypeNames) (name : List ℕ) → 0 < length names → length names ≤ 1025 → numbered names name ≡ Some more →
+    (0 < length more) × (length more ≤ 1025)
+unfolding numbered
+numbered-few names more name some few h = by (is_some (number_named names name)) h
+  where
+    by : (test : Bool) → (if test then Some names else guard (nat_lt (length names) 1025) (Some (names ++ (name, tt) ∷ []))) ≡ Some more → (0 < length more) × (length more ≤ 1025)
+    by true e = let same : names ≡ more = cc in rw (← same) (some, few)
+    by false e =
+        let held = guard_held (nat_lt (length names) 1025) (names ++ (name, tt) ∷ []) more e in
+        let lt : length names < 1025 = ltb-true (length names) 1025 held.0 in
+        rw (← held.1, length-append) (omega arith, omega arith)
+
+tables-few : (names : Option TypeNames) (parents : Option TypeParents) (more : TypeTables) → ((ns : TypeNames) → names ≡ Some ns → (0 < length ns) × (length ns ≤ 1025)) →
+    tables_of names parents ≡ Some more → AreFew more
+unfolding tables_of
+tables-few None parents more few h = cc
+tables-few (Some ns) None more few h = cc
+tables-few (Some ns) (Some ps) more few h =
+    let same : record { names = ns; parents = ps } ≡ more = cc in
+    rw (← same) (record { some = (few ns refl).0; few = (few ns refl).1 })
+
+type-few : (parent : List ℕ) (tables : TypeTables) (word : List ℕ) (more : TypeTables) → AreFew tables → type_declared parent tables word ≡ Some more → AreFew more
+unfolding type_declared
+type-few parent tables word more few h =
+    tables-few (numbered tables.names (folded word)) (declared_under tables.parents (folded word) (folded parent)) more
+    (λ ns e. numbered-few tables.names ns (folded word) few.some few.few e) h
+
+group-few : (tables : TypeTables) (group : NameGroup) (more : TypeTables) → AreFew tables → group_declared tables group ≡ Some more → AreFew more
+unfolding group_declared parent_numbered
+group-few tables group more few h =
+    by (through (type_declared group.type) tables group.names) (λ t e. through_keeps AreFew (type_declared group.type) (type-few group.type) tables group.names t few e) h
+  where
+    by : (next : Option TypeTables) → ((t : TypeTables) → next ≡ Some t → AreFew t) → parent_numbered group.type next ≡ Some more → AreFew more
+    by None kept e = cc
+    by (Some t) kept e =
+        let few_t = kept t refl in
+        tables-few (numbered t.names (folded group.type)) (Some t.parents) more (λ ns k. numbered-few t.names ns (folded group.type) few_t.some few_t.few k) e
+
+pub declared-few : (groups : List NameGroup) (tables : TypeTables) → types_declared groups ≡ Some tables → AreFew tables
+unfolding types_declared
+declared-few groups tables h =
+    through_keeps AreFew group_declared group-few object_alone groups tables (record { some = omega arith; few = omega arith }) h
+
+pub few_declared : (groups : List NameGroup) (tables : TypeTables) → types_declared groups ≡ Some tables → length tables.names ≤ 1025
+few_declared groups tables h = (declared-few groups tables h).few
+
+pub ruleset declared_steps = (declared_all, few_declared)
+
+pub parents_start : (tables : TypeTables) → [] ++ map (λ entry. parent_number tables entry.0) (drop 0 tables.names) ≡ parents_of tables
+unfolding parents_of
+parents_start tables = refl
+
+-- the entry at a place is the first of the rest
+entry_at : {A : Type 0} (xs : List A) (i : ℕ) (x : A) → slice_get xs i ≡ Some x → drop i xs ≡ x ∷ drop (i + 1) xs
+entry_at {A} xs i x h = rw add-one (by xs i h)
+  where
+    by : (ys : List A) (k : ℕ) → slice_get ys k ≡ Some x → drop k ys ≡ x ∷ drop (suc k) ys
+    by [] k e = cc
+    by (y ∷ ys) zero e = let same : y ≡ x = cc in rw same refl
+    by (y ∷ ys) (suc k) e = by ys k e
+
+pub parents_item : (tables : TypeTables) (front : List ℕ) (i : ℕ) (key : List ℕ) (value : Unit {0}) → slice_get tables.names i ≡ Some (key, value) →
+    front ++ map (λ entry. parent_number tables entry.0) (drop i tables.names)
+    ≡ (front ++ parent_number tables key ∷ []) ++ map (λ entry. parent_number tables entry.0) (drop (i + 1) tables.names)
+parents_item tables front i key value h = rw (entry_at tables.names i (key, value) h, append_assoc) refl
+
+pub ruleset parents_steps = (parents_start, parents_item, drop_all, append-nil)
+
+pub types_undeclared : (groups : List NameGroup) → types_declared groups ≡ None → types_of groups ≡ None
+unfolding types_of ordered
+types_undeclared groups h = rw h refl
+
+pub types_unordered : (groups : List NameGroup) (tables : TypeTables) → types_declared groups ≡ Some tables →
+    guard (is_tree (parents_of tables)) (Some (parents_of tables)) ≡ None → types_of groups ≡ None
+unfolding types_of ordered guard
+types_unordered groups tables h e = rw h (by (is_tree (parents_of tables)) e)
+  where
+    by : (test : Bool) → guard test (Some (parents_of tables)) ≡ None →
+        guard {A = KnownTypes} test (Some (record { names = tables.names; parents = parents_of tables })) ≡ None
+    by true k = cc
+    by false k = refl
+
+pub types_ordered : (groups : List NameGroup) (tables : TypeTables) (order : List ℕ) → types_declared groups ≡ Some tables →
+    guard (is_tree (parents_of tables)) (Some (parents_of tables)) ≡ Some order → types_of groups ≡ Some (record { names = tables.names; parents = order })
+unfolding types_of ordered guard
+types_ordered groups tables order h e =
+    let held = guard_held (is_tree (parents_of tables)) (parents_of tables) order e in
+    rw (h, held.0, held.1) refl
+
+pub ruleset types_steps = (types_undeclared, types_unordered, types_ordered)
+
+-- what tests a tree tells it
+pub not_ordered : (parents found : List ℕ) (answer : Bool) → (IsTrue answer ↔ IsTypeTree found) → answer ≡ false → found ≡ parents →
+    guard (is_tree parents) (Some parents) ≡ None
+unfolding guard
+not_ordered parents found answer says h same = by (is_tree parents) refl
+  where
+    by : (test : Bool) → is_tree parents ≡ test → guard test (Some parents) ≡ None
+    by true e = absurd (true≢false (sym (says.1 (subst IsTypeTree (sym same) (tree_from parents e))) ∙ h))
+    by false e = refl
+
+pub is_ordered : (parents found : List ℕ) (answer : Bool) → (IsTrue answer ↔ IsTypeTree found) → answer ≡ true → found ≡ parents →
+    guard (is_tree parents) (Some parents) ≡ Some found
+unfolding guard
+is_ordered parents found answer says h same =
+    rw (tree_tested parents (subst IsTypeTree same (says.0 h)), same) refl

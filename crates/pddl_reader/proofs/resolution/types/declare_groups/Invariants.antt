@@ -1,0 +1,10 @@
+use Rattle.std.proofs.Common.{◌≡◌, drop}
+use Rattle.pddl_reader.specs.Forms.{name_groups}
+use Rattle.pddl_reader.specs.TypeOrder.{group_declared}
+use Rattle.pddl_reader.specs.Optional.{through}
+use Rattle.pddl_reader.proofs.resolution.types.declare_groups.Given as goal
+
+abbrev pub invariant-groups : goal.invariant-groups
+invariant-groups l =
+    through group_declared l.tables (name_groups (drop l.group-index l.groups))
+    ≡ through group_declared l.fn.tables (name_groups l.groups)

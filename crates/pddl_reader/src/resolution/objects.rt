@@ -1,0 +1,131 @@
+//! Constants and objects are declared with their types.
+
+ghost use Rattle.std.specs.Prelude.{◌≡◌, ◌<◌, ◌≤◌, length, None, IfSome};
+ghost use Rattle.std.specs.Map.{keys_of};
+ghost use Rattle.pddl_reader.specs.Forms.{name_forms, name_group_form, name_groups};
+ghost use Rattle.pddl_reader.specs.Objects.{object_declared, objects_from, objects_grouped, type_number};
+ghost use Rattle.pddl_reader.specs.Optional.{through};
+ghost use Rattle.pddl_reader.specs.Reading.{Gives, GivesOption, Puts};
+
+use crate::fault::{FaultKind, ReadFault};
+use crate::resolution::names::name;
+use crate::syntax::NameGroup;
+use crate::walk::NameWord;
+use std::alloc::Global;
+use strips_task::NameTable;
+
+/// How many objects there may be.
+const MOST_OBJECTS: usize = 65535;
+
+/// A number that no type has. Objects of an unknown type are looked at under it, since a fault of theirs stands before that of the
+/// type's name.
+const NO_TYPE: u16 = u16::MAX;
+
+/// The number of the type that a word names, if there is one.
+#[tactic(auto, using(crate::proofs::ObjectSteps::type_steps))]
+pub(crate) fn type_number(
+    alloc: Global,
+    types: &NameTable<()>,
+    word: NameWord<'_>,
+) -> Result<Option<u16>, ReadFault>
+    requires { length types.now ≤ 1025 }
+    ensures { GivesOption result (type_number (keys_of types.now) word.entry.text.now) }
+{
+    let name = name(alloc, word)?;
+    match types.number_of(name.as_bytes()) {
+        Some(number) => Ok(Some(number as u16)),
+        None => Ok(None),
+    }
+}
+
+/// Declares an object with its type.
+#[tactic(auto, using(crate::proofs::ObjectSteps::object_steps))]
+fn declare_object(
+    alloc: Global,
+    objects: &mut NameTable<u16>,
+    word: NameWord<'_>,
+    kind: u16,
+) -> Result<(), ReadFault>
+    ensures { Puts result (object_declared kind objects.old word.entry.text.now) objects.new }
+{
+    let name = name(alloc, word)?;
+    if let Some(number) = objects.number_of(name.as_bytes()) {
+        if *objects.get(number).1 == kind {
+            return Ok(());
+        }
+        return Err(ReadFault::new(FaultKind::Repeated, word.span));
+    }
+    if objects.len() >= MOST_OBJECTS {
+        return Err(ReadFault::new(FaultKind::TooMany, word.span));
+    }
+    objects.push(name, kind)?;
+    Ok(())
+}
+
+/// Declares objects with one type.
+#[tactic(auto, using(crate::proofs::Through::through_steps, crate::proofs::ObjectSteps::named_steps))]
+fn declare_objects(
+    alloc: Global,
+    objects: &mut NameTable<u16>,
+    words: &[NameWord<'_>],
+    kind: u16,
+) -> Result<(), ReadFault>
+    ensures { Puts result (through (object_declared kind) objects.old (name_forms words.now)) objects.new }
+{
+    'words: for word in words {
+        declare_object(alloc, objects, *word, kind)?;
+    }
+    Ok(())
+}
+
+/// Declares the objects of a group.
+#[tactic(auto, using(crate::proofs::ObjectSteps::group_steps))]
+fn declare_group(
+    alloc: Global,
+    types: &NameTable<()>,
+    objects: &mut NameTable<u16>,
+    group: &NameGroup<'_>,
+) -> Result<(), ReadFault>
+    requires { length types.now ≤ 1025 }
+    ensures { Puts result (objects_grouped (keys_of types.now) objects.old (name_group_form group.now)) objects.new }
+{
+    match type_number(alloc, types, group.kind)? {
+        Some(kind) => declare_objects(alloc, objects, group.names.as_slice(), kind),
+        None => {
+            declare_objects(alloc, objects, group.names.as_slice(), NO_TYPE)?;
+            Err(ReadFault::new(FaultKind::UnknownName, group.kind.span))
+        }
+    }
+}
+
+/// Declares the objects of all groups, behind those that are declared already.
+#[tactic(auto, using(crate::proofs::Through::through_steps, crate::proofs::ObjectSteps::groups_steps))]
+fn declare_groups(
+    alloc: Global,
+    types: &NameTable<()>,
+    objects: &mut NameTable<u16>,
+    groups: &[NameGroup<'_>],
+) -> Result<(), ReadFault>
+    requires { length types.now ≤ 1025 }
+    ensures { Puts result (objects_from (keys_of types.now) objects.old (name_groups groups.now)) objects.new }
+{
+    'groups: for group in groups {
+        declare_group(alloc, types, objects, group)?;
+    }
+    Ok(())
+}
+
+/// The objects with those of all groups behind them. Where one is refused, all are dropped.
+pub(crate) fn more_objects(
+    alloc: Global,
+    types: &NameTable<()>,
+    objects: NameTable<u16>,
+    groups: &[NameGroup<'_>],
+) -> Result<NameTable<u16>, ReadFault>
+    requires { length types.now ≤ 1025 }
+    ensures { Gives (λ objects. objects) result (objects_from (keys_of types.now) objects (name_groups groups.now)) }
+{
+    let mut objects = objects;
+    declare_groups(alloc, types, &mut objects, groups)?;
+    Ok(objects)
+}

@@ -1,0 +1,293 @@
+//! Types are numbered in text order, declared under their parents, and ordered as a tree below `object`.
+
+ghost use Rattle.std.specs.Prelude.{◌≡◌, ◌≢◌, ◌<◌, ◌≤◌, length, IfOk, IfErr, Some};
+ghost use Rattle.pddl_words.specs.Words.{folded};
+ghost use Rattle.pddl_reader.specs.Forms.{name_forms, name_group_form, name_groups};
+ghost use Rattle.pddl_reader.specs.Keywords.{object_word};
+ghost use Rattle.pddl_reader.specs.Optional.{guard, through};
+ghost use Rattle.pddl_reader.specs.ReadFault.{out_of_memory};
+ghost use Rattle.pddl_reader.specs.Reading.{Gives, Puts};
+ghost use Rattle.pddl_reader.specs.TypeOrder.{TypeParents, declared_under, group_declared, is_tree, numbered, object_alone, parent_name, parent_number, parents_of, type_declared, types_declared, types_of};
+
+use crate::fault::{FaultKind, ReadFault};
+use crate::resolution::names::{is_same_name, name};
+use crate::syntax::NameGroup;
+use crate::walk::NameWord;
+use std::alloc::{AllocError, Global};
+use strips_task::{Name, NameTable, TypeList};
+
+/// How many types there may be, `object` among them.
+const MOST_TYPES: usize = 1025;
+
+/// The names of the types by their numbers, and the name of the parent of each that is declared.
+#[derive(Drop)]
+pub(crate) struct TypeTables {
+    pub(crate) names: NameTable<()>,
+    pub(crate) parents: NameTable<Name>,
+}
+
+/// Numbers a type where its name stands first.
+#[tactic(auto, using(crate::proofs::TypeSteps::number_steps))]
+fn number(alloc: Global, names: &mut NameTable<()>, word: NameWord<'_>) -> Result<(), ReadFault>
+    ensures { Puts result (numbered names.old (folded word.entry.text.now)) names.new }
+{
+    let name = name(alloc, word)?;
+    if names.number_of(name.as_bytes()).is_some() {
+        return Ok(());
+    }
+    if names.len() >= MOST_TYPES {
+        return Err(ReadFault::new(FaultKind::TooMany, word.span));
+    }
+    names.push(name, ())?;
+    Ok(())
+}
+
+/// The fault of a type that is declared under a second parent: `object` stands under no type but itself.
+fn parent_fault(name: &Name, word: NameWord<'_>) -> ReadFault
+    ensures { result.kind ≢ FaultKind.OutOfMemory }
+{
+    if name.as_bytes() == b"object".as_slice() {
+        ReadFault::new(FaultKind::TypeCycle, word.span)
+    } else {
+        ReadFault::new(FaultKind::Repeated, word.span)
+    }
+}
+
+/// Declares a type under its parent.
+#[tactic(auto, using(crate::proofs::TypeSteps::under_steps))]
+fn declare_under(
+    alloc: Global,
+    parents: &mut NameTable<Name>,
+    word: NameWord<'_>,
+    kind: NameWord<'_>,
+) -> Result<(), ReadFault>
+    ensures { Puts result (declared_under parents.old (folded word.entry.text.now) (folded kind.entry.text.now)) parents.new }
+{
+    let own = name(alloc, word)?;
+    let parent = name(alloc, kind)?;
+    if let Some(number) = parents.number_of(own.as_bytes()) {
+        if is_same_name(parents.get(number).1, &parent) {
+            return Ok(());
+        }
+        return Err(parent_fault(&own, word));
+    }
+    parents.push(own, parent)?;
+    Ok(())
+}
+
+/// Declares a type of a group.
+#[tactic(auto, using(crate::proofs::TypeSteps::type_steps))]
+fn declare_type(
+    alloc: Global,
+    tables: &mut TypeTables,
+    word: NameWord<'_>,
+    kind: NameWord<'_>,
+) -> Result<(), ReadFault>
+    ensures { Puts result (type_declared kind.entry.text.now tables.old word.entry.text.now) tables.new }
+{
+    declare_under(alloc, &mut tables.parents, word, kind)?;
+    number(alloc, &mut tables.names, word)
+}
+
+/// Declares types under one parent.
+#[tactic(auto, using(crate::proofs::Through::through_steps, crate::proofs::ObjectSteps::named_steps))]
+fn declare_types(
+    alloc: Global,
+    tables: &mut TypeTables,
+    words: &[NameWord<'_>],
+    kind: NameWord<'_>,
+) -> Result<(), ReadFault>
+    ensures { Puts result (through (type_declared kind.entry.text.now) tables.old (name_forms words.now)) tables.new }
+{
+    'words: for word in words {
+        declare_type(alloc, tables, *word, kind)?;
+    }
+    Ok(())
+}
+
+/// Declares the types of a group.
+#[tactic(auto, using(crate::proofs::TypeSteps::group_steps))]
+fn declare_group(
+    alloc: Global,
+    tables: &mut TypeTables,
+    group: &NameGroup<'_>,
+) -> Result<(), ReadFault>
+    ensures { Puts result (group_declared tables.old (name_group_form group.now)) tables.new }
+{
+    declare_types(alloc, tables, group.names.as_slice(), group.kind)?;
+    number(alloc, &mut tables.names, group.kind)
+}
+
+/// The tables of `object` alone.
+#[tactic(auto, unfolding(pddl_words::specs::Words::is_name, strips_task::specs::Names::number_named))]
+fn object_alone(alloc: Global) -> Result<TypeTables, AllocError>
+    ensures { IfOk result (λ tables. tables ≡ object_alone) }
+{
+    let mut names = NameTable::new(alloc);
+    names.push(Name::from_word(alloc, b"object")?, ())?;
+    let mut parents = NameTable::new(alloc);
+    let own = Name::from_word(alloc, b"object")?;
+    parents.push(own, Name::from_word(alloc, b"object")?)?;
+    Ok(TypeTables { names, parents })
+}
+
+/// Declares the types of all groups.
+#[tactic(auto, using(crate::proofs::Through::through_steps, crate::proofs::ObjectSteps::groups_steps))]
+fn declare_groups(
+    alloc: Global,
+    tables: &mut TypeTables,
+    groups: &[NameGroup<'_>],
+) -> Result<(), ReadFault>
+    ensures { Puts result (through group_declared tables.old (name_groups groups.now)) tables.new }
+{
+    'groups: for group in groups {
+        declare_group(alloc, tables, group)?;
+    }
+    Ok(())
+}
+
+/// The name of the parent of a type: `object` where the type is not declared.
+#[tactic(auto, using(crate::proofs::TypeSteps::parent_steps))]
+fn parent_name<'t>(parents: &'t NameTable<Name>, name: &Name) -> &'t [u8]
+    ensures { result.now ≡ parent_name parents.now name.now }
+{
+    match parents.number_of(name.as_bytes()) {
+        Some(number) => parents.get(number).1.as_bytes(),
+        None => b"object",
+    }
+}
+
+/// The number of the parent of a type.
+#[tactic(auto, using(crate::proofs::TypeSteps::parent_number_steps))]
+fn parent_number(tables: &TypeTables, name: &Name) -> u16
+    requires { length tables.now.names ≤ 1025 }
+    ensures { result ≡ parent_number tables.now name.now }
+{
+    match tables.names.number_of(parent_name(&tables.parents, name)) {
+        Some(number) => number as u16,
+        None => 0,
+    }
+}
+
+/// For each type the number of its parent.
+#[tactic(auto, using(crate::proofs::TypeSteps::parents_steps))]
+fn parents(alloc: Global, tables: &TypeTables) -> Result<TypeList, AllocError>
+    requires { length tables.now.names ≤ 1025 }
+    ensures { IfOk result (λ parents. parents ≡ parents_of tables.now) }
+{
+    let mut parents = TypeList::new(alloc);
+    'types: for number in 0..tables.names.len() {
+        parents.push(parent_number(tables, tables.names.get(number).0))?;
+    }
+    Ok(parents)
+}
+
+/// Whether a chain of parents from a type returns to it.
+fn returns(parents: &TypeList, start: usize) -> bool {
+    let mut at = start;
+    for _ in 0..parents.len() {
+        if at >= parents.len() {
+            return false;
+        }
+        at = usize::from(parents.get(at));
+        if at == start {
+            return true;
+        }
+    }
+    false
+}
+
+/// For each type but `object` whether a chain of parents from it returns to it.
+fn cyclic_types(alloc: Global, parents: &TypeList) -> Result<Vec<bool>, AllocError> {
+    let mut cyclic = Vec::new(alloc);
+    for number in 0..parents.len() {
+        cyclic.push(number != 0 && returns(parents, number))?;
+    }
+    Ok(cyclic)
+}
+
+/// The first of the words that names a marked type.
+fn first_marked<'a>(
+    alloc: Global,
+    names: &NameTable<()>,
+    marks: &[bool],
+    words: &[NameWord<'a>],
+) -> Result<Option<NameWord<'a>>, ReadFault>
+    ensures { IfErr result (λ e. e ≡ out_of_memory) }
+{
+    for word in words {
+        let name = name(alloc, *word)?;
+        if let Some(number) = names.number_of(name.as_bytes()) {
+            if number < marks.len() && marks[number] {
+                return Ok(Some(*word));
+            }
+        }
+    }
+    Ok(None)
+}
+
+/// The fault of types whose parents form no tree: the first declared type, in text order, from which a chain of parents returns to it.
+fn cycle_fault(
+    alloc: Global,
+    names: &NameTable<()>,
+    parents: &TypeList,
+    groups: &[NameGroup<'_>],
+) -> Result<ReadFault, ReadFault>
+    ensures fault { IfOk result (λ e. e.kind ≢ FaultKind.OutOfMemory) }
+    ensures memory { IfErr result (λ e. e ≡ out_of_memory) }
+{
+    let cyclic = cyclic_types(alloc, parents)?;
+    for group in groups {
+        if let Some(word) = first_marked(alloc, names, cyclic.as_slice(), group.names.as_slice())? {
+            return Ok(ReadFault::new(FaultKind::TypeCycle, word.span));
+        }
+    }
+    Ok(ReadFault::at(FaultKind::TypeCycle, 0, 0))
+}
+
+/// The order of the types.
+fn order(
+    alloc: Global,
+    tables: &TypeTables,
+    groups: &[NameGroup<'_>],
+) -> Result<TypeList, ReadFault>
+    requires { length tables.now.names ≤ 1025 }
+    ensures { Gives (λ parents. parents) result (guard (is_tree (parents_of tables.now)) (Some (parents_of tables.now))) }
+{
+    let mut parents = parents(alloc, tables)?;
+    if !parents.is_tree() {
+        return Err(cycle_fault(alloc, &tables.names, &parents, groups)?);
+    }
+    parents.index()?;
+    Ok(parents)
+}
+
+/// The types that groups declare.
+#[tactic(auto, using(crate::proofs::TypeSteps::declared_steps))]
+fn tables(alloc: Global, groups: &[NameGroup<'_>]) -> Result<TypeTables, ReadFault>
+    ensures given { Gives (λ tables. tables) result (types_declared (name_groups groups.now)) }
+    ensures few { IfOk result (λ tables. length tables.names ≤ 1025) }
+{
+    let mut tables = object_alone(alloc)?;
+    declare_groups(alloc, &mut tables, groups)?;
+    Ok(tables)
+}
+
+/// The types of a domain: their names by number, and the order of their numbers.
+#[derive(Drop)]
+pub(crate) struct KnownTypes {
+    pub(crate) names: NameTable<()>,
+    pub(crate) parents: TypeList,
+}
+
+/// The types that the groups of a domain declare.
+#[tactic(auto, using(crate::proofs::TypeSteps::types_steps))]
+pub(crate) fn types(alloc: Global, groups: &[NameGroup<'_>]) -> Result<KnownTypes, ReadFault>
+    ensures given { Gives (λ types. types) result (types_of (name_groups groups.now)) }
+    ensures few { IfOk result (λ types. length types.names ≤ 1025) }
+{
+    let tables = tables(alloc, groups)?;
+    let parents = order(alloc, &tables, groups)?;
+    let TypeTables { names, parents: _ } = tables;
+    Ok(KnownTypes { names, parents })
+}

@@ -1,0 +1,48 @@
+-- The refusal that the texts of a run call for: why they have no answer.
+
+use Rattle.std.specs.Prelude.{◌≡◌, ◌≢◌, ℕ, ◌<◌, ◌≤◌, List, length, Option, Some, None}
+use Rattle.pddl_reader.specs.declared.fault.FaultKind.TheVariants.{OutOfMemory as Memory}
+use Rattle.pddl_reader.specs.declared.fault.ReadFault.{ReadFault}
+use Rattle.pddl_reader.specs.Domain.{DomainValue}
+use Rattle.pddl_reader.specs.Texts.{domain_of_text, problem_of_text}
+use Rattle.pddl_reader.specs.Trees.{text_fault}
+use Rattle.strips_task.specs.declared.tasks.TaskParts.{TaskParts}
+use Rattle.plan_judge.specs.declared.fault.JudgeFault.{JudgeFault}
+use Rattle.plan_judge.specs.declared.fault.JudgeFault.TheVariants.{TooLarge, TooManyPlanners, Domain, Problem, TooManyPlans, Steps, OutOfMemory, NoThread, Held}
+use Rattle.plan_judge.specs.Answer.{too_large, task_of, plan_count, most_planners, most_plans}
+use Rattle.plan_judge.specs.Bundle.{BundleValue}
+
+-- the fault is one of the text, which has no value; where bytes or parentheses of the text are wrong, it is their first fault
+pub record IsFaultOf {A : Type 0} (text : List ℕ) (value : Option A) (fault : ReadFault) : Type 0 where
+  pub no_value : value ≡ None
+  pub of_the_text : fault.kind ≢ Memory
+  pub first : (e : ReadFault) → text_fault text ≡ Some e → fault ≡ e
+
+-- the refusal that a domain text and a problem text call for: the domain's comes first, and the problem is looked at beside a domain
+abbrev pub ReadingCallsFor : List ℕ → List ℕ → JudgeFault → Type 0
+ReadingCallsFor domain problem (Domain fault) = IsFaultOf domain (domain_of_text domain) fault
+ReadingCallsFor domain problem (Problem fault) =
+    (value : DomainValue) × (domain_of_text domain ≡ Some value) × IsFaultOf problem (problem_of_text value problem) fault
+ReadingCallsFor domain problem (TooLarge place) = ⊥
+ReadingCallsFor domain problem TooManyPlanners = ⊥
+ReadingCallsFor domain problem TooManyPlans = ⊥
+ReadingCallsFor domain problem (Steps fault) = ⊥
+ReadingCallsFor domain problem OutOfMemory = ⊥
+ReadingCallsFor domain problem NoThread = ⊥
+ReadingCallsFor domain problem (Held job) = ⊥
+
+-- the refusal that the texts of a run call for, the first of: a text that is too large, too many planners, what is wrong in the domain or
+-- the problem, too many plans
+abbrev pub TextsCallFor : List ℕ → List ℕ → List BundleValue → JudgeFault → Type 0
+TextsCallFor domain problem bundles (TooLarge place) = too_large domain problem bundles ≡ Some place
+TextsCallFor domain problem bundles TooManyPlanners = (too_large domain problem bundles ≡ None) × (most_planners < length bundles)
+TextsCallFor domain problem bundles (Domain fault) =
+    (too_large domain problem bundles ≡ None) × (length bundles ≤ most_planners) × ReadingCallsFor domain problem (Domain fault)
+TextsCallFor domain problem bundles (Problem fault) =
+    (too_large domain problem bundles ≡ None) × (length bundles ≤ most_planners) × ReadingCallsFor domain problem (Problem fault)
+TextsCallFor domain problem bundles TooManyPlans =
+    (too_large domain problem bundles ≡ None) × (length bundles ≤ most_planners) × ((task : TaskParts) × (task_of domain problem ≡ Some task)) × (most_plans < plan_count bundles)
+TextsCallFor domain problem bundles (Steps fault) = ⊥
+TextsCallFor domain problem bundles OutOfMemory = ⊥
+TextsCallFor domain problem bundles NoThread = ⊥
+TextsCallFor domain problem bundles (Held job) = ⊥

@@ -1,0 +1,94 @@
+-- Parts, line by line.
+
+use Rattle.std.proofs.Common.{◌≡◌, ℕ, ◌+◌, ◌<◌, ◌≤◌, Bool, true, false, List, [], ◌∷◌, ◌++◌, length, take, drop, map, refl, ap, ◌∙◌, sym, subst, arith, append_assoc, length-drop, Some}
+use Rattle.std.specs.Prelude.{cond, count_by}
+use Rattle.std.specs.List.{concat, onto_first, slice_split}
+use Rattle.std.proofs.Math.Seq.{take-add}
+use Rattle.std.proofs.lemmas.List.{append-nil, drop-drop, take_all, drop_all, length-map}
+use Rattle.std.proofs.lemmas.List.Splits.{length-slice_split}
+use Rattle.plan_text.specs.Separators.{CutsLine, IsFirstSeparator}
+use Rattle.plan_text.specs.Bundle.{lines, is_separator, parts}
+use Rattle.plan_text.proofs.Lines.{no_lines}
+
+-- bytes before the first of several parts
+abbrev pub onto_part : List ℕ → List (List ℕ) → List (List ℕ)
+onto_part front [] = front ∷ []
+onto_part front (part ∷ parts) = (front ++ part) ∷ parts
+
+onto_part-twice : (a b : List ℕ) (ps : List (List ℕ)) → onto_part a (onto_part b ps) ≡ onto_part (a ++ b) ps
+onto_part-twice a b [] = refl
+onto_part-twice a b (p ∷ ps) = ap (λ (q : List ℕ). q ∷ ps) (sym (append_assoc a b p))
+
+onto_part-none : (ps : List (List ℕ)) → 0 < length ps → onto_part [] ps ≡ ps
+onto_part-none [] some = absurd (omega arith)
+onto_part-none (p ∷ ps) some = refl
+
+joined_onto : (line : List ℕ) (runs : List (List (List ℕ))) → map concat (onto_first line runs) ≡ onto_part line (map concat runs)
+joined_onto line [] = ap (λ (q : List ℕ). q ∷ []) (append-nil line)
+joined_onto line (run ∷ runs) = refl
+
+-- there is one part more than there are separators
+pub length-parts : (text : List ℕ) → length (parts text) ≡ count_by is_separator (lines text) + 1
+unfolding parts
+length-parts text = length-map (slice_split is_separator (lines text)) concat ∙ length-slice_split is_separator (lines text)
+
+-- a text with no byte is one part
+no_text : parts [] ≡ [] ∷ []
+unfolding parts
+no_text = ap (λ (ls : List (List ℕ)). map concat (slice_split is_separator ls)) no_lines
+
+parts_by : (t : Bool) (line : List ℕ) (ls : List (List ℕ)) → is_separator line ≡ t → map concat (slice_split is_separator (line ∷ ls)) ≡ cond t ([] ∷ map concat (slice_split is_separator ls)) (onto_part line (map concat (slice_split is_separator ls)))
+parts_by true line ls is = ap (λ (t : Bool). map concat (cond t ([] ∷ slice_split is_separator ls) (onto_first line (slice_split is_separator ls)))) is
+parts_by false line ls is =
+    ap (λ (t : Bool). map concat (cond t ([] ∷ slice_split is_separator ls) (onto_first line (slice_split is_separator ls)))) is
+    ∙ joined_onto line (slice_split is_separator ls)
+
+-- behind a first line that is a separator, or is none
+parts_line : (t : Bool) (text : List ℕ) (size : ℕ) → lines text ≡ take size text ∷ lines (drop size text) → is_separator (take size text) ≡ t → parts text ≡ cond t ([] ∷ parts (drop size text)) (onto_part (take size text) (parts (drop size text)))
+unfolding parts
+parts_line t text size first is = ap (λ (ls : List (List ℕ)). map concat (slice_split is_separator ls)) first ∙ parts_by t (take size text) (lines (drop size text)) is
+
+-- the lines of a text up to a place are no separators
+abbrev pub IsOnePartTo : List ℕ → ℕ → Type 0
+IsOnePartTo text place = parts text ≡ onto_part (take place text) (parts (drop place text))
+
+pub one_part_start : (text : List ℕ) → IsOnePartTo text 0
+one_part_start text = sym (onto_part-none (parts text) (omega (arith, length-parts text)))
+
+one_part_more : (text : List ℕ) (place size : ℕ) → IsOnePartTo text place → lines (drop place text) ≡ take size (drop place text) ∷ lines (drop size (drop place text)) → is_separator (take size (drop place text)) ≡ false → IsOnePartTo text (place + size)
+one_part_more text place size before first is =
+    before ∙ ap (onto_part (take place text)) (parts_line false (drop place text) size first is)
+    ∙ onto_part-twice (take place text) (take size (drop place text)) (parts (drop size (drop place text)))
+    ∙ ap (λ (front : List ℕ). onto_part front (parts (drop size (drop place text)))) (sym (take-add place size text))
+    ∙ ap (λ (rest : List ℕ). onto_part (take (place + size) text) (parts rest)) (drop-drop size place text)
+
+parted : (text : List ℕ) (place size : ℕ) → IsOnePartTo text place → lines (drop place text) ≡ take size (drop place text) ∷ lines (drop size (drop place text)) → is_separator (take size (drop place text)) ≡ true → parts text ≡ take place text ∷ parts (drop (place + size) text)
+parted text place size before first is =
+    before ∙ ap (onto_part (take place text)) (parts_line true (drop place text) size first is)
+    ∙ ap (λ (part : List ℕ). part ∷ parts (drop size (drop place text))) (append-nil (take place text))
+    ∙ ap (λ (rest : List ℕ). take place text ∷ parts rest) (drop-drop size place text)
+
+pub one_part : (text : List ℕ) (place : ℕ) → length text ≤ place → IsOnePartTo text place → parts text ≡ text ∷ []
+one_part text place all before =
+    before ∙ ap (λ (rest : List ℕ). onto_part (take place text) (parts rest)) (drop_all place text all)
+    ∙ ap (onto_part (take place text)) no_text
+    ∙ ap (λ (part : List ℕ). part ∷ []) (append-nil (take place text) ∙ take_all place text all)
+
+-- a separator behind lines that are none
+pub at_separator : (text rest : List ℕ) (place size : ℕ) → rest ≡ drop place text → place < length text → IsOnePartTo text place → CutsLine rest size → is_separator (take size rest) ≡ true → IsFirstSeparator (Some (record { start = place; end = place + size })) text
+at_separator text rest place size same within before cut is =
+    let here : CutsLine (drop place text) size = subst (λ (r : List ℕ). CutsLine r size) same cut in
+    let some : 0 < length (drop place text) = omega (arith, length-drop place text) in (
+      omega arith,
+      omega (arith, here.within, length-drop place text),
+      parted text place size before (here.first some) (subst (λ (r : List ℕ). is_separator (take size r) ≡ true) same is),
+    )
+
+-- one more line that is no separator
+pub behind_line : (text rest : List ℕ) (place size : ℕ) → rest ≡ drop place text → place < length text → IsOnePartTo text place → CutsLine rest size → is_separator (take size rest) ≡ false → (place + size ≤ length text) × IsOnePartTo text (place + size)
+behind_line text rest place size same within before cut is =
+    let here : CutsLine (drop place text) size = subst (λ (r : List ℕ). CutsLine r size) same cut in
+    let some : 0 < length (drop place text) = omega (arith, length-drop place text) in (
+      omega (arith, here.within, length-drop place text),
+      one_part_more text place size before (here.first some) (subst (λ (r : List ℕ). is_separator (take size r) ≡ false) same is),
+    )

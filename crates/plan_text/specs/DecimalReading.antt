@@ -1,0 +1,37 @@
+-- How the number of a stamp or of brackets is read.
+
+use Rattle.std.specs.Prelude.{ℕ, ◌+◌, ◌-◌, ◌*◌, ◌^◌, Bool, ◌==◌, ◌&&◌, nat_le, List, [], ◌∷◌, length, take, drop, reverse, Option, Some, None, if◌then◌else◌}
+use Rattle.std.specs.List.{list_all, position}
+use Rattle.std.specs.Char.{is_ascii_digit}
+use Rattle.plan_text.specs.Decimals.{digits_value}
+
+-- the number that 1 to 9 digits write
+unfoldable pub digits_of : List ℕ → Option ℕ
+digits_of bytes = if nat_le 1 (length bytes) && (nat_le (length bytes) 9 && list_all is_ascii_digit bytes) then Some (digits_value bytes) else None
+
+abbrev pub is_point : ℕ → Bool
+is_point b = b == 46
+
+-- a number of its two parts, of which the second has so many digits
+abbrev pub of_parts : Option ℕ → Option ℕ → ℕ → Option ℕ
+of_parts None part size = None
+of_parts (Some whole) None size = None
+of_parts (Some whole) (Some part) size = Some (whole * 10 ^ 9 + part * 10 ^ (9 - size))
+
+-- the number of some bytes, by where their first point stands
+abbrev pub billionths_by : List ℕ → Option ℕ → Option ℕ
+billionths_by bytes None = of_parts (digits_of bytes) (Some 0) 0
+billionths_by bytes (Some point) = of_parts (digits_of (take point bytes)) (digits_of (drop (point + 1) bytes)) (length (drop (point + 1) bytes))
+
+-- the number of some bytes, in billionths
+unfoldable pub billionths_of : List ℕ → Option ℕ
+billionths_of bytes = billionths_by bytes (position is_point bytes)
+
+-- the number before a mark, by the bytes from the last on
+abbrev pub number_from_end : ℕ → List ℕ → Option ℕ
+number_from_end mark [] = None
+number_from_end mark (last ∷ bytes) = if last == mark then billionths_of (reverse bytes) else None
+
+-- the number before a mark that ends a word
+unfoldable pub number_before : ℕ → List ℕ → Option ℕ
+number_before mark word = number_from_end mark (reverse word)

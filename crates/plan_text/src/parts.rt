@@ -1,0 +1,127 @@
+//! The parts of a bundle, the file in which one planner gives its plans.
+
+ghost use Rattle.std.specs.Prelude.{◌≡◌, ◌≤◌, length};
+ghost use Rattle.std.specs.List.{list_all};
+ghost use Rattle.plan_text.specs.Bundle.{parts, is_separator, may_follow_dashes};
+ghost use Rattle.plan_text.specs.Separators.{CutsLine, IsFirstSeparator};
+
+use memchr::memchr;
+use std::marker::Model;
+
+/// The parts of a bundle in order, as slices of it: each is the text of one plan.
+///
+/// A line of three dashes, behind which only spaces, tabs and CRs may stand, parts two plans. So a bundle with n such lines has n + 1
+/// parts, and an empty bundle has one. All parts together cost one pass over the bundle, and no memory. Contracts see the list of the
+/// parts that are still to come.
+#[derive(Debug, Drop)]
+pub struct Parts<'a> {
+    rest: Option<&'a [u8]>,
+}
+
+impl<'a> Model for Parts<'a> {
+    ghost use Rattle.std.specs.Prelude.{ℕ, List};
+    ghost use Rattle.std.specs.Option.{option_copied};
+    ghost use Rattle.plan_text.specs.Bundle.{parts_left};
+
+    ghost Value = { List (List ℕ) };
+
+    ghost view = { λ p. parts_left (option_copied p.rest) };
+}
+
+impl<'a> Parts<'a> {
+    /// The parts of a bundle.
+    pub fn new(bundle: &'a [u8]) -> Self
+        ensures { result ≡ parts bundle.now }
+    {
+        Parts { rest: Some(bundle) }
+    }
+}
+
+impl<'a> Iterator for Parts<'a> {
+    ghost use Rattle.std.specs.Iterator.{YieldsFirstRef, item_count};
+
+    type Item = &'a [u8];
+
+    ghost next_gives = { YieldsFirstRef (λ left. left) };
+
+    ghost remaining = { item_count (λ left. left) };
+
+    fn next(&mut self) -> Option<&'a [u8]> {
+        let rest = self.rest?;
+        match first_separator(rest) {
+            Some(line) => {
+                self.rest = Some(&rest[line.end..]);
+                Some(&rest[..line.start])
+            }
+            None => {
+                self.rest = None;
+                Some(rest)
+            }
+        }
+    }
+}
+
+/// How many parts a bundle has, in one pass and without memory.
+pub fn count_parts(bundle: &[u8]) -> usize
+    ensures { result ≡ length (parts bundle.now) }
+{
+    Parts::new(bundle).count()
+}
+
+/// Where a line stands, with its LF where it has one: from `start` up to and without `end`.
+#[derive(Clone, Copy)]
+struct Line {
+    start: usize,
+    end: usize,
+}
+
+/// The first separator of a text.
+fn first_separator(text: &[u8]) -> Option<Line>
+    ensures { IsFirstSeparator result text.now }
+{
+    let mut start = 0;
+    'lines: while start < text.len() {
+        let rest = &text[start..];
+        let size = line_len(rest);
+        if is_separator(&rest[..size]) {
+            return Some(Line {
+                start,
+                end: start + size,
+            });
+        }
+        start += size;
+    }
+    None
+}
+
+/// How many bytes the first line has, its LF among them.
+fn line_len(text: &[u8]) -> usize
+    ensures { CutsLine text.now result }
+{
+    match memchr(b'\n', text) {
+        Some(at) => at + 1,
+        None => text.len(),
+    }
+}
+
+/// Whether a line parts two plans.
+#[tactic(auto, unfolding(crate::specs::Bundle::is_separator))]
+fn is_separator(line: &[u8]) -> bool
+    ensures { result ≡ is_separator line.now }
+{
+    line.starts_with(b"---") && are_blank(&line[3..])
+}
+
+/// Whether all bytes may stand behind the dashes of a separator.
+fn are_blank(bytes: &[u8]) -> bool
+    ensures { result ≡ list_all may_follow_dashes bytes.now }
+{
+    bytes.iter().all(|b| may_follow_dashes(*b))
+}
+
+/// Whether a byte may stand behind the dashes of a separator.
+fn may_follow_dashes(b: u8) -> bool
+    ensures { result ≡ may_follow_dashes b }
+{
+    matches!(b, b' ' | b'\t' | b'\r' | b'\n')
+}
