@@ -3,7 +3,6 @@
 use Rattle.std.proofs.Common.{◌≡◌, ℕ, ◌++◌, true, false, List, [], ◌∷◌, Option, Some, None, refl, append_assoc}
 use Rattle.std.proofs.lemmas.List.{append-nil}
 use Rattle.std.specs.Global.{Vec}
-use Rattle.std.specs.Option.{option_and_then}
 use Rattle.pddl_words.specs.Words.{folded}
 use Rattle.strips_task.specs.declared.actions.Action.{Action}
 use Rattle.strips_task.specs.declared.actions.Cond.{Cond}
@@ -11,13 +10,17 @@ use Rattle.strips_task.specs.declared.actions.Pattern.{Pattern}
 use Rattle.pddl_reader.specs.declared.resolution.actions.Effects.{Effects}
 use Rattle.pddl_reader.specs.declared.syntax.ActionSyntax.{ActionSyntax}
 use Rattle.pddl_reader.specs.declared.syntax.LiteralSyntax.{LiteralSyntax}
-use Rattle.pddl_reader.specs.Optional.{guard}
-use Rattle.pddl_reader.specs.Forms.{literal_form, literal_forms, given_literals, parts_form, action_syntax_form, action_forms}
-use Rattle.pddl_reader.specs.Declarations.{Predicates, may_declare, declared, condition_of, conditions_of}
-use Rattle.pddl_reader.specs.Domain.{no_effects, lone_effect, both_effects, effects_before, effects_of, action_with, action_meant, Actions, declared_action, with_action_of, actions_from}
+use Rattle.pddl_reader.specs.Optional.{guard, through}
+use Rattle.pddl_reader.specs.Forms.{literal_form, literal_forms, given_literals, given_variables, variable_groups, parts_form, action_syntax_form, action_forms}
+use Rattle.pddl_reader.specs.Declarations.{Known, may_declare, declared, condition_of, conditions_of}
+use Rattle.pddl_reader.specs.Variables.{Parameters, parameters_of}
+use Rattle.pddl_reader.specs.declared.syntax.VariableGroup as variables
+use Rattle.pddl_reader.specs.Domain.{no_effects, lone_effect, both_effects, effects_before, effects_of, action_with, action_by, action_meant, Actions, declared_action, with_action_of, actions_from}
 use Rattle.pddl_reader.specs.Syntax.{ActionForm, action_form}
 use Rattle.pddl_reader.proofs.DeclarationSteps.{may_declare_new}
 use Rattle.pddl_reader.proofs.Items.{item_steps}
+use Rattle.pddl_reader.proofs.KeptVariables.{few_parameters}
+use Rattle.pddl_reader.proofs.Through.{through_behind, through_item, through_end}
 
 pub effect_added : (effects : Effects) (effect : Cond) (add : List Pattern) → effect.positive ≡ true → add ≡ effects.add ++ effect.pattern ∷ [] →
     record { add = add; del = effects.del } ≡ both_effects effects (lone_effect effect)
@@ -62,15 +65,15 @@ onto_before front None others = refl
 onto_before front (Some effect) None = refl
 onto_before front (Some effect) (Some others) = rw both_both refl
 
-pub effects_item : (front : Effects) (predicates : Predicates) (x : LiteralSyntax) (xs : List LiteralSyntax) →
-    effects_onto front (effects_of predicates (literal_forms (x ∷ xs)))
-    ≡ effects_after front (condition_of predicates (literal_form x)) (effects_of predicates (literal_forms xs))
+pub effects_item : (front : Effects) (known : Known) (p : Parameters) (x : LiteralSyntax) (xs : List LiteralSyntax) →
+    effects_onto front (effects_of known p (literal_forms (x ∷ xs)))
+    ≡ effects_after front (condition_of known p (literal_form x)) (effects_of known p (literal_forms xs))
 unfolding effects_of literal_forms
-effects_item front predicates x xs = onto_before front (condition_of predicates (literal_form x)) (effects_of predicates (literal_forms xs))
+effects_item front known p x xs = onto_before front (condition_of known p (literal_form x)) (effects_of known p (literal_forms xs))
 
-pub effects_end : (front : Effects) (predicates : Predicates) → effects_onto front (effects_of predicates (literal_forms [])) ≡ Some front
+pub effects_end : (front : Effects) (known : Known) (p : Parameters) → effects_onto front (effects_of known p (literal_forms [])) ≡ Some front
 unfolding effects_of literal_forms effects_onto
-effects_end front predicates = rw both_none refl
+effects_end front known p = rw both_none refl
 
 pub after_none : (front : Effects) (others : Option Effects) → effects_after front None others ≡ None
 unfolding effects_after
@@ -83,50 +86,84 @@ after_some front effect others = refl
 
 pub ruleset effects_steps = (item_steps, onto_no_effects, effects_item, effects_end, after_none, after_some)
 
-pub meant_parts : (predicates : Predicates) (syntax : ActionSyntax) → action_meant predicates (action_syntax_form syntax)
-    ≡ action_with (conditions_of predicates (literal_forms (given_literals syntax.parts.precondition))) (effects_of predicates (literal_forms (given_literals syntax.parts.effect)))
-unfolding action_meant action_form parts_form given_literals literal_forms
-meant_parts predicates syntax = by syntax.parts.precondition syntax.parts.effect
+precondition_given : (syntax : ActionSyntax) → (action_syntax_form syntax).precondition ≡ literal_forms (given_literals syntax.parts.precondition)
+unfolding action_form parts_form given_literals literal_forms
+precondition_given syntax = by syntax.parts.precondition
   where
-    by : (pre effect : Option (Vec LiteralSyntax)) →
-        action_meant predicates (action_form syntax.name.text.now (parts_form (record { parameters = syntax.parts.parameters; precondition = pre; effect = effect })))
-        ≡ action_with (conditions_of predicates (literal_forms (given_literals pre))) (effects_of predicates (literal_forms (given_literals effect)))
-    by None None = refl
-    by None (Some e) = refl
-    by (Some p) None = refl
-    by (Some p) (Some e) = refl
+    by : (given : Option (Vec LiteralSyntax)) →
+        (action_form syntax.name.text.now (parts_form (record syntax.parts { precondition = given }))).precondition ≡ literal_forms (given_literals given)
+    by None = refl
+    by (Some v) = refl
 
-pub no_conditions : (effects : Option Effects) → action_with None effects ≡ None
-unfolding action_with
-no_conditions effects = refl
+effect_given : (syntax : ActionSyntax) → (action_syntax_form syntax).effect ≡ literal_forms (given_literals syntax.parts.effect)
+unfolding action_form parts_form given_literals literal_forms
+effect_given syntax = by syntax.parts.effect
+  where
+    by : (given : Option (Vec LiteralSyntax)) →
+        (action_form syntax.name.text.now (parts_form (record syntax.parts { effect = given }))).effect ≡ literal_forms (given_literals given)
+    by None = refl
+    by (Some v) = refl
 
-pub no_effects_meant : (pre : List Cond) → action_with (Some pre) None ≡ None
-unfolding action_with
-no_effects_meant pre = refl
+parameters_given : (syntax : ActionSyntax) → (action_syntax_form syntax).parameters ≡ variable_groups (given_variables syntax.parts.parameters)
+unfolding action_form parts_form given_variables variable_groups
+parameters_given syntax = by syntax.parts.parameters
+  where
+    by : (given : Option (Vec variables.VariableGroup)) →
+        (action_form syntax.name.text.now (parts_form (record syntax.parts { parameters = given }))).parameters ≡ variable_groups (given_variables given)
+    by None = refl
+    by (Some v) = refl
 
-pub both_meant : (pre : List Cond) (add del : List Pattern) (params : List (List ℕ)) → params ≡ [] →
-    action_with (Some pre) (Some (record { add = add; del = del })) ≡ Some (record { params = params; pre = pre; add = add; del = del })
-unfolding action_with
-both_meant pre add del params h = rw h refl
+pub no_conditions : (known : Known) (p : Parameters) (syntax : ActionSyntax) → conditions_of known p (literal_forms (given_literals syntax.parts.precondition)) ≡ None →
+    action_by known (action_syntax_form syntax) (Some p) ≡ None
+unfolding action_by action_with
+no_conditions known p syntax h = rw (precondition_given syntax, h) refl
 
-pub ruleset action_steps = (meant_parts, no_conditions, no_effects_meant, both_meant)
+pub no_effects_meant : (known : Known) (p : Parameters) (syntax : ActionSyntax) (pre : List Cond) →
+    conditions_of known p (literal_forms (given_literals syntax.parts.precondition)) ≡ Some pre →
+    effects_of known p (literal_forms (given_literals syntax.parts.effect)) ≡ None → action_by known (action_syntax_form syntax) (Some p) ≡ None
+unfolding action_by action_with
+no_effects_meant known p syntax pre h e = rw (precondition_given syntax, h, effect_given syntax, e) refl
 
-pub action_refused : (predicates : Predicates) (table : Actions) (a : ActionForm) → may_declare 4096 table (folded a.name) ≡ false → with_action_of predicates table a ≡ None
+pub both_meant : (known : Known) (p : Parameters) (syntax : ActionSyntax) (pre : List Cond) (effects : Effects) →
+    conditions_of known p (literal_forms (given_literals syntax.parts.precondition)) ≡ Some pre →
+    effects_of known p (literal_forms (given_literals syntax.parts.effect)) ≡ Some effects →
+    action_by known (action_syntax_form syntax) (Some p) ≡ Some (record { params = p.types; pre = pre; add = effects.add; del = effects.del })
+unfolding action_by action_with
+both_meant known p syntax pre effects h e = rw (precondition_given syntax, h, effect_given syntax, e) refl
+
+pub ruleset body_steps = (no_conditions, no_effects_meant, both_meant)
+
+pub no_parameters_meant : (types : List (List ℕ)) (known : Known) (syntax : ActionSyntax) →
+    parameters_of types (variable_groups (given_variables syntax.parts.parameters)) ≡ None → action_meant types known (action_syntax_form syntax) ≡ None
+unfolding action_meant action_by
+no_parameters_meant types known syntax h = rw (parameters_given syntax, h) refl
+
+pub parameters_meant : (types : List (List ℕ)) (known : Known) (syntax : ActionSyntax) (p : Parameters) →
+    parameters_of types (variable_groups (given_variables syntax.parts.parameters)) ≡ Some p →
+    action_meant types known (action_syntax_form syntax) ≡ action_by known (action_syntax_form syntax) (Some p)
+unfolding action_meant
+parameters_meant types known syntax p h = rw (parameters_given syntax, h) refl
+
+pub ruleset action_steps = (no_parameters_meant, parameters_meant, few_parameters)
+
+pub action_refused : (types : List (List ℕ)) (known : Known) (table : Actions) (a : ActionForm) → may_declare 4096 table (folded a.name) ≡ false →
+    with_action_of types known table a ≡ None
 unfolding with_action_of declared_action declared guard
-action_refused predicates table a h = by (action_meant predicates a)
+action_refused types known table a h = by (action_meant types known a)
   where
     by : (meant : Option Action) → declared_action table (folded a.name) meant ≡ None
     by None = refl
     by (Some action) = rw h refl
 
-pub action_meaningless : (predicates : Predicates) (table : Actions) (a : ActionForm) → action_meant predicates a ≡ None → with_action_of predicates table a ≡ None
+pub action_meaningless : (types : List (List ℕ)) (known : Known) (table : Actions) (a : ActionForm) → action_meant types known a ≡ None →
+    with_action_of types known table a ≡ None
 unfolding with_action_of declared_action
-action_meaningless predicates table a h = rw h refl
+action_meaningless types known table a h = rw h refl
 
-pub action_declared : (predicates : Predicates) (table : Actions) (a : ActionForm) (action : Action) → may_declare 4096 table (folded a.name) ≡ true →
-    action_meant predicates a ≡ Some action → with_action_of predicates table a ≡ Some (table ++ (folded a.name, action) ∷ [])
+pub action_declared : (types : List (List ℕ)) (known : Known) (table : Actions) (a : ActionForm) (action : Action) → may_declare 4096 table (folded a.name) ≡ true →
+    action_meant types known a ≡ Some action → with_action_of types known table a ≡ Some (table ++ (folded a.name, action) ∷ [])
 unfolding with_action_of declared_action declared guard
-action_declared predicates table a action h e = rw (e, h) refl
+action_declared types known table a action h e = rw (e, h) refl
 
 pub named_so : (syntax : ActionSyntax) → (action_syntax_form syntax).name ≡ syntax.name.text.now
 unfolding action_form
@@ -134,32 +171,18 @@ named_so syntax = refl
 
 pub ruleset declaration_steps = (may_declare_new, action_refused, action_meaningless, action_declared, named_so)
 
--- what is declared behind an action
-unfoldable pub actions_behind : Predicates → Option Actions → List ActionForm → Option Actions
-actions_behind predicates None actions = None
-actions_behind predicates (Some table) actions = actions_from predicates table actions
+pub actions_item : {S : Type 0} (step : S → ActionForm → Option S) (state : S) (x : ActionSyntax) (xs : List ActionSyntax) →
+    through step state (action_forms (x ∷ xs)) ≡ through_behind step (step state (action_syntax_form x)) (action_forms xs)
+unfolding action_forms
+actions_item step state x xs = through_item step state (action_syntax_form x) (action_forms xs)
 
-actions_read : (predicates : Predicates) (table : Option Actions) (actions : List ActionForm) →
-    option_and_then (λ more. actions_from predicates more actions) table ≡ actions_behind predicates table actions
-unfolding actions_behind
-actions_read predicates None actions = refl
-actions_read predicates (Some table) actions = refl
+pub actions_end : {S : Type 0} (step : S → ActionForm → Option S) (state : S) → through step state (action_forms []) ≡ Some state
+unfolding action_forms
+actions_end step state = through_end step state
 
-pub actions_item : (predicates : Predicates) (table : Actions) (x : ActionSyntax) (xs : List ActionSyntax) →
-    actions_from predicates table (action_forms (x ∷ xs)) ≡ actions_behind predicates (with_action_of predicates table (action_syntax_form x)) (action_forms xs)
-unfolding actions_from action_forms
-actions_item predicates table x xs = actions_read predicates (with_action_of predicates table (action_syntax_form x)) (action_forms xs)
+pub actions_start : (types : List (List ℕ)) (known : Known) (table : Actions) (actions : List ActionForm) →
+    actions_from types known table actions ≡ through (with_action_of types known) table actions
+unfolding actions_from
+actions_start types known table actions = refl
 
-pub actions_end : (predicates : Predicates) (table : Actions) → actions_from predicates table (action_forms []) ≡ Some table
-unfolding actions_from action_forms
-actions_end predicates table = refl
-
-pub no_more_actions : (predicates : Predicates) (actions : List ActionForm) → actions_behind predicates None actions ≡ None
-unfolding actions_behind
-no_more_actions predicates actions = refl
-
-pub more_actions : (predicates : Predicates) (table : Actions) (actions : List ActionForm) → actions_behind predicates (Some table) actions ≡ actions_from predicates table actions
-unfolding actions_behind
-more_actions predicates table actions = refl
-
-pub ruleset actions_steps = (item_steps, actions_item, actions_end, no_more_actions, more_actions)
+pub ruleset actions_steps = (actions_item, actions_end, actions_start)

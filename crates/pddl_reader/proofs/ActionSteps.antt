@@ -3,31 +3,14 @@
 use Rattle.std.proofs.Common.{◌≡◌, ℕ, true, false, List, [], Option, Some, None, is_some, refl}
 use Rattle.std.specs.Option.{option_map, option_and_then}
 use Rattle.pddl_words.specs.Words.{is_name}
+use Rattle.pddl_reader.specs.declared.heads.Scope.TheVariants as scope
 use Rattle.pddl_reader.specs.declared.heads.ActionPart.{ActionPart}
 use Rattle.pddl_reader.specs.declared.heads.ActionPart.TheVariants.{Parameters, Precondition, Effect}
 use Rattle.pddl_reader.specs.Heads.{action_part}
 use Rattle.pddl_reader.specs.Optional.{guard}
-use Rattle.pddl_reader.specs.Forms.{word_forms, parts_form}
+use Rattle.pddl_reader.specs.Forms.{parts_form}
 use Rattle.pddl_reader.specs.Trees.{Trees, none, word, list}
-use Rattle.pddl_reader.specs.Syntax.{LiteralForm, ActionParts, ended, first_list, parameters_of, formula_in, no_parts, with_parameters, with_precondition, with_effect, is_part_given, part_by, part_named, parts_of, action_form, action_of}
-
-pub parameters_end : parameters_of none ≡ Some []
-unfolding parameters_of ended
-parameters_end = refl
-
-pub parameters_word : (w : List ℕ) (f : Trees) → parameters_of (word w f) ≡ None
-unfolding parameters_of ended
-parameters_word w f = refl
-
-pub parameters_list : (k f : Trees) → parameters_of (list k f) ≡ None
-unfolding parameters_of ended
-parameters_list k f = refl
-
-pub no_words : word_forms [] ≡ []
-unfolding word_forms
-no_words = refl
-
-pub ruleset parameter_steps = (parameters_end, parameters_word, parameters_list, no_words)
+use Rattle.pddl_reader.specs.Syntax.{VariableGroup, LiteralForm, ActionParts, first_list, typed_variables, formula_in, no_parts, with_parameters, with_precondition, with_effect, is_part_given, part_by, part_named, parts_of, action_form, action_of}
 
 pub is_some-option_map : {A B : Type 0} (f : A → B) (o : Option A) → is_some (option_map f o) ≡ is_some o
 is_some-option_map f None = refl
@@ -35,30 +18,30 @@ is_some-option_map f (Some x) = refl
 
 pub ruleset given_steps = (is_some-option_map)
 
-pub parameters_part : (given : ActionParts) (k : Trees) (value : List (List ℕ)) → parameters_of k ≡ Some value →
+pub parameters_part : (given : ActionParts) (k : Trees) (value : List VariableGroup) → typed_variables [] k ≡ Some value →
     part_by Parameters given k ≡ Some (with_parameters given value)
 unfolding part_by
 parameters_part given k value h = rw h refl
 
-pub no_parameters_part : (given : ActionParts) (k : Trees) → parameters_of k ≡ None → part_by Parameters given k ≡ None
+pub no_parameters_part : (given : ActionParts) (k : Trees) → typed_variables [] k ≡ None → part_by Parameters given k ≡ None
 unfolding part_by
 no_parameters_part given k h = rw h refl
 
-pub precondition_part : (given : ActionParts) (k : Trees) (value : List LiteralForm) → formula_in k ≡ Some value →
+pub precondition_part : (given : ActionParts) (k : Trees) (value : List LiteralForm) → formula_in scope.Action k ≡ Some value →
     part_by Precondition given k ≡ Some (with_precondition given value)
 unfolding part_by
 precondition_part given k value h = rw h refl
 
-pub no_precondition_part : (given : ActionParts) (k : Trees) → formula_in k ≡ None → part_by Precondition given k ≡ None
+pub no_precondition_part : (given : ActionParts) (k : Trees) → formula_in scope.Action k ≡ None → part_by Precondition given k ≡ None
 unfolding part_by
 no_precondition_part given k h = rw h refl
 
-pub effect_part : (given : ActionParts) (k : Trees) (value : List LiteralForm) → formula_in k ≡ Some value →
+pub effect_part : (given : ActionParts) (k : Trees) (value : List LiteralForm) → formula_in scope.Action k ≡ Some value →
     part_by Effect given k ≡ Some (with_effect given value)
 unfolding part_by
 effect_part given k value h = rw h refl
 
-pub no_effect_part : (given : ActionParts) (k : Trees) → formula_in k ≡ None → part_by Effect given k ≡ None
+pub no_effect_part : (given : ActionParts) (k : Trees) → formula_in scope.Action k ≡ None → part_by Effect given k ≡ None
 unfolding part_by
 no_effect_part given k h = rw h refl
 

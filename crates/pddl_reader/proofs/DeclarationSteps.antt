@@ -3,79 +3,73 @@
 use Rattle.std.proofs.Common.{◌≡◌, ℕ, ◌<◌, ◌≤◌, ◌++◌, true, false, ◌&&◌, nat_lt, is_none, List, [], ◌∷◌, length, Option, Some, None, refl, arith, length-append}
 use Rattle.std.proofs.lemmas.List.{append-nil}
 use Rattle.std.proofs.lemmas.Bool.{ltb-true, and_parts}
-use Rattle.std.specs.Option.{option_and_then}
 use Rattle.pddl_words.specs.Words.{folded}
 use Rattle.strips_task.specs.declared.actions.Cond.{Cond}
-use Rattle.strips_task.specs.declared.actions.Term.{Term}
+use Rattle.strips_task.specs.declared.actions.Pattern.{Pattern}
 use Rattle.strips_task.specs.Names.{number_named}
 use Rattle.pddl_reader.specs.declared.syntax.PredicateSyntax.{PredicateSyntax}
 use Rattle.pddl_reader.specs.declared.syntax.LiteralSyntax.{LiteralSyntax}
-use Rattle.pddl_reader.specs.Optional.{guard, with_front}
+use Rattle.pddl_reader.specs.Optional.{guard, through, with_front}
 use Rattle.pddl_reader.specs.Forms.{predicate_form, predicate_forms, literal_form, literal_forms}
-use Rattle.pddl_reader.specs.Declarations.{Predicates, may_declare, declared, predicate_number, condition_of, conditions_of}
-use Rattle.pddl_reader.specs.Domain.{with_predicate, predicates_from}
+use Rattle.pddl_reader.specs.Declarations.{Known, Predicates, may_declare, declared, pattern_of, condition_of, conditions_of}
+use Rattle.pddl_reader.specs.Domain.{declared_predicate, with_predicate, predicates_from}
+use Rattle.pddl_reader.specs.Variables.{Parameters, places_of}
+use Rattle.pddl_reader.proofs.Through.{through_behind, through_item, through_end}
 use Rattle.pddl_reader.specs.Syntax.{LiteralForm, PredicateForm}
 use Rattle.pddl_reader.proofs.Items.{item_steps}
 use Rattle.pddl_reader.proofs.ListsOf.{with_front-followed_by, with_item, item_none, item_some, front_none}
 
-pub condition_none : (predicates : Predicates) (l : LiteralForm) → predicate_number predicates l.atom ≡ None → condition_of predicates l ≡ None
+pub condition_none : (known : Known) (p : Parameters) (l : LiteralForm) → pattern_of known p l.atom ≡ None → condition_of known p l ≡ None
 unfolding condition_of
-condition_none predicates l h = rw h refl
+condition_none known p l h = rw h refl
 
-pub condition_some : (predicates : Predicates) (l : LiteralForm) (number : ℕ) (terms : List Term) → predicate_number predicates l.atom ≡ Some number → terms ≡ [] →
-    condition_of predicates l ≡ Some (record { positive = l.positive; pattern = record { pred = number; terms = terms } })
+pub condition_some : (known : Known) (p : Parameters) (l : LiteralForm) (pattern : Pattern) → pattern_of known p l.atom ≡ Some pattern →
+    condition_of known p l ≡ Some (record { positive = l.positive; pattern = pattern })
 unfolding condition_of
-condition_some predicates l number terms h e = rw (h, e) refl
+condition_some known p l pattern h = rw h refl
 
 pub ruleset condition_steps = (condition_none, condition_some)
 
-pub conditions_item : (front : List Cond) (predicates : Predicates) (x : LiteralSyntax) (xs : List LiteralSyntax) →
-    with_front front (conditions_of predicates (literal_forms (x ∷ xs)))
-    ≡ with_item front (condition_of predicates (literal_form x)) (conditions_of predicates (literal_forms xs))
+pub conditions_item : (front : List Cond) (known : Known) (p : Parameters) (x : LiteralSyntax) (xs : List LiteralSyntax) →
+    with_front front (conditions_of known p (literal_forms (x ∷ xs))) ≡ with_item front (condition_of known p (literal_form x)) (conditions_of known p (literal_forms xs))
 unfolding conditions_of literal_forms
-conditions_item front predicates x xs =
-    with_front-followed_by front (condition_of predicates (literal_form x)) (conditions_of predicates (literal_forms xs))
+conditions_item front known p x xs = with_front-followed_by front (condition_of known p (literal_form x)) (conditions_of known p (literal_forms xs))
 
-pub conditions_end : (front : List Cond) (predicates : Predicates) → with_front front (conditions_of predicates (literal_forms [])) ≡ Some front
+pub conditions_end : (front : List Cond) (known : Known) (p : Parameters) → with_front front (conditions_of known p (literal_forms [])) ≡ Some front
 unfolding conditions_of literal_forms with_front
-conditions_end front predicates = rw append-nil refl
+conditions_end front known p = rw append-nil refl
 
 pub ruleset conditions_steps = (item_steps, front_none, conditions_item, conditions_end, item_none, item_some)
 
--- what is declared behind a predicate
-unfoldable pub predicates_behind : Option Predicates → List PredicateForm → Option Predicates
-predicates_behind None ps = None
-predicates_behind (Some table) ps = predicates_from table ps
+pub predicate_refused : (types : List (List ℕ)) (table : Predicates) (p : PredicateForm) → may_declare 4096 table (folded p.name) ≡ false → with_predicate types table p ≡ None
+unfolding with_predicate declared_predicate declared guard
+predicate_refused types table p h = by (places_of types p.variables)
+  where
+    by : (places : Option (List (List ℕ))) → declared_predicate table (folded p.name) places ≡ None
+    by None = refl
+    by (Some ps) = rw h refl
 
-predicates_read : (table : Option Predicates) (ps : List PredicateForm) → option_and_then (λ more. predicates_from more ps) table ≡ predicates_behind table ps
-unfolding predicates_behind
-predicates_read None ps = refl
-predicates_read (Some table) ps = refl
+pub predicate_unplaced : (types : List (List ℕ)) (table : Predicates) (p : PredicateForm) → places_of types p.variables ≡ None → with_predicate types table p ≡ None
+unfolding with_predicate declared_predicate
+predicate_unplaced types table p h = rw h refl
 
-pub predicates_item : (table : Predicates) (x : PredicateSyntax) (xs : List PredicateSyntax) →
-    predicates_from table (predicate_forms (x ∷ xs)) ≡ predicates_behind (with_predicate table (predicate_form x)) (predicate_forms xs)
-unfolding predicates_from predicate_forms
-predicates_item table x xs = predicates_read (with_predicate table (predicate_form x)) (predicate_forms xs)
+pub predicate_declared : (types : List (List ℕ)) (table : Predicates) (p : PredicateForm) (places : List (List ℕ)) → may_declare 4096 table (folded p.name) ≡ true →
+    places_of types p.variables ≡ Some places → with_predicate types table p ≡ Some (table ++ (folded p.name, places) ∷ [])
+unfolding with_predicate declared_predicate declared guard
+predicate_declared types table p places h e = rw (e, h) refl
 
-pub predicates_end : (table : Predicates) → predicates_from table (predicate_forms []) ≡ Some table
-unfolding predicates_from predicate_forms
-predicates_end table = refl
+pub predicates_item : {S : Type 0} (step : S → PredicateForm → Option S) (state : S) (x : PredicateSyntax) (xs : List PredicateSyntax) →
+    through step state (predicate_forms (x ∷ xs)) ≡ through_behind step (step state (predicate_form x)) (predicate_forms xs)
+unfolding predicate_forms
+predicates_item step state x xs = through_item step state (predicate_form x) (predicate_forms xs)
 
-pub predicate_refused : (table : Predicates) (p : PredicateForm) → may_declare 4096 table (folded p.name) ≡ false → with_predicate table p ≡ None
-unfolding with_predicate declared guard
-predicate_refused table p h = rw h refl
+pub predicates_end : {S : Type 0} (step : S → PredicateForm → Option S) (state : S) → through step state (predicate_forms []) ≡ Some state
+unfolding predicate_forms
+predicates_end step state = through_end step state
 
-pub predicate_declared : (table : Predicates) (p : PredicateForm) → may_declare 4096 table (folded p.name) ≡ true → with_predicate table p ≡ Some (table ++ (folded p.name, []) ∷ [])
-unfolding with_predicate declared guard
-predicate_declared table p h = rw h refl
-
-pub no_more_predicates : (ps : List PredicateForm) → predicates_behind None ps ≡ None
-unfolding predicates_behind
-no_more_predicates ps = refl
-
-pub more_predicates : (table : Predicates) (ps : List PredicateForm) → predicates_behind (Some table) ps ≡ predicates_from table ps
-unfolding predicates_behind
-more_predicates table ps = refl
+pub predicates_start : (types : List (List ℕ)) (table : Predicates) (ps : List PredicateForm) → predicates_from types table ps ≡ through (with_predicate types) table ps
+unfolding predicates_from
+predicates_start types table ps = refl
 
 -- a name that may be declared is new
 pub may_declare_new : {V : Type 0} (most : ℕ) (table : List (List ℕ × V)) (name : List ℕ) → may_declare most table name ≡ true → number_named table name ≡ None
@@ -99,6 +93,6 @@ may_declare_length most table name value h =
     let lt : length table < most = ltb-true (length table) most (and_parts (is_none (number_named table name)) (nat_lt (length table) most) h).1 in
     rw length-append (omega arith)
 
-pub ruleset predicate_steps = (may_declare_new, predicate_refused, predicate_declared)
+pub ruleset predicate_steps = (may_declare_new, predicate_refused, predicate_unplaced, predicate_declared)
 
-pub ruleset predicates_steps = (item_steps, predicates_item, predicates_end, no_more_predicates, more_predicates)
+pub ruleset predicates_steps = (predicates_item, predicates_end, predicates_start)

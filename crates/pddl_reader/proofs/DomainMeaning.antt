@@ -1,9 +1,8 @@
 -- What the syntax of a domain stands for, one equation for each case.
 
-use Rattle.std.proofs.Common.{◌≡◌, ℕ, List, [], Option, Some, None, refl}
+use Rattle.std.proofs.Common.{◌≡◌, [], Option, Some, None, refl}
 use Rattle.std.specs.Global.{Vec}
 use Rattle.std.specs.Map.{keys_of}
-use Rattle.pddl_words.specs.Words.{folded}
 use Rattle.pddl_reader.specs.declared.resolution.domain.Head.{Head}
 use Rattle.pddl_reader.specs.declared.resolution.types.KnownTypes.{KnownTypes}
 use Rattle.pddl_reader.specs.declared.syntax.DomainSyntax.{DomainSyntax}
@@ -11,7 +10,7 @@ use Rattle.pddl_reader.specs.declared.syntax.NameGroup as groups
 use Rattle.pddl_reader.specs.declared.syntax.PredicateSyntax.{PredicateSyntax}
 use Rattle.pddl_reader.specs.Forms.{name_groups, predicate_forms, action_forms, given_groups, given_predicates, domain_sections_form, domain_syntax_form}
 use Rattle.pddl_reader.specs.Declarations.{Predicates}
-use Rattle.pddl_reader.specs.Domain.{Actions, predicates_from, actions_from, head, head_typed, head_of, domain_value, domain_with, domain_headed, domain_of}
+use Rattle.pddl_reader.specs.Domain.{Actions, predicates_from, actions_from, head, head_typed, head_of, known_by, domain_value, domain_with, domain_headed, domain_of}
 use Rattle.pddl_reader.specs.Objects.{Objects, objects_from}
 use Rattle.pddl_reader.specs.Syntax.{DomainForm, domain_form}
 use Rattle.pddl_reader.specs.TypeOrder.{types_of}
@@ -65,7 +64,7 @@ unfolding domain_of domain_headed
 no_head domain h = rw h refl
 
 pub with_head : (syntax : DomainSyntax) (head : Head) → head_of (domain_syntax_form syntax) ≡ Some head →
-    domain_of (domain_syntax_form syntax) ≡ domain_with (domain_syntax_form syntax) head (predicates_from [] (predicate_forms (given_predicates syntax.sections.predicates)))
+    domain_of (domain_syntax_form syntax) ≡ domain_with (domain_syntax_form syntax) head (predicates_from (keys_of head.types) [] (predicate_forms (given_predicates syntax.sections.predicates)))
 unfolding domain_of domain_headed
 with_head syntax head h = rw (h, predicates_given syntax) refl
 
@@ -76,12 +75,12 @@ unfolding domain_with
 no_predicates_meant domain head predicates h = rw h refl
 
 pub no_actions_meant : (syntax : DomainSyntax) (head : Head) (found : Option Predicates) (predicates : Predicates) → found ≡ Some predicates →
-    actions_from predicates [] (action_forms syntax.sections.actions.items) ≡ None → domain_with (domain_syntax_form syntax) head found ≡ None
+    actions_from (keys_of head.types) (known_by head predicates) [] (action_forms syntax.sections.actions.items) ≡ None → domain_with (domain_syntax_form syntax) head found ≡ None
 unfolding domain_with domain_form domain_sections_form
 no_actions_meant syntax head found predicates h e = rw (h, e) refl
 
 pub domain_meant : (syntax : DomainSyntax) (head : Head) (found : Option Predicates) (predicates : Predicates) (actions : Actions) → found ≡ Some predicates →
-    actions_from predicates [] (action_forms syntax.sections.actions.items) ≡ Some actions →
+    actions_from (keys_of head.types) (known_by head predicates) [] (action_forms syntax.sections.actions.items) ≡ Some actions →
     domain_with (domain_syntax_form syntax) head found ≡ Some (domain_value head predicates actions)
 unfolding domain_with domain_form domain_sections_form
 domain_meant syntax head found predicates actions h e = rw (h, e) refl

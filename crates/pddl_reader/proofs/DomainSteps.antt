@@ -15,23 +15,20 @@ use Rattle.pddl_reader.specs.Keywords.{define_word, domain_word}
 use Rattle.pddl_reader.specs.Optional.{guard}
 use Rattle.pddl_reader.specs.Forms.{predicate_form, predicate_forms, action_syntax_form, action_forms, domain_sections_form}
 use Rattle.pddl_reader.specs.Trees.{Trees, none, word, list}
-use Rattle.pddl_reader.specs.Syntax.{NameGroup, PredicateForm, ActionForm, DomainForm, DomainSections, ended, keywords_of, typed_names, with_requirements, with_types, with_constants, end_of, first_list, behind_word, header_of, lists_of, predicate_of, predicate_in, action_of, no_domain_sections, with_predicates, with_action, is_domain_section_given, domain_section_by, domain_section_headed, domain_section_in, domain_sections_of, domain_form, domain_by, domain_body, domain_in, domain_syntax}
+use Rattle.pddl_reader.specs.Syntax.{NameGroup, VariableGroup, typed_variables, PredicateForm, ActionForm, DomainForm, DomainSections, ended, keywords_of, typed_names, with_requirements, with_types, with_constants, end_of, first_list, behind_word, header_of, lists_of, predicate_of, predicate_in, action_of, no_domain_sections, with_predicates, with_action, is_domain_section_given, domain_section_by, domain_section_headed, domain_section_in, domain_sections_of, domain_form, domain_by, domain_body, domain_in, domain_syntax}
 use Rattle.pddl_reader.proofs.FormulaSteps.{head_is_name}
 use Rattle.pddl_reader.proofs.ListsOf.{lists_steps}
 
-pub predicate_of_end : (w : List ℕ) → predicate_of w none ≡ Some (record { name = w })
-unfolding predicate_of ended
-predicate_of_end w = refl
+pub predicate_untyped : (w : List ℕ) (f : Trees) → typed_variables [] f ≡ None → predicate_of w f ≡ None
+unfolding predicate_of
+predicate_untyped w f h = rw h refl
 
-pub predicate_of_word : (w v : List ℕ) (f : Trees) → predicate_of w (word v f) ≡ None
-unfolding predicate_of ended
-predicate_of_word w v f = refl
+pub predicate_typed : (w : List ℕ) (f : Trees) (variables : List VariableGroup) → typed_variables [] f ≡ Some variables →
+    predicate_of w f ≡ Some (record { name = w; variables = variables })
+unfolding predicate_of
+predicate_typed w f variables h = rw h refl
 
-pub predicate_of_list : (w : List ℕ) (k f : Trees) → predicate_of w (list k f) ≡ None
-unfolding predicate_of ended
-predicate_of_list w k f = refl
-
-pub ruleset predicate_of_steps = (predicate_of_end, predicate_of_word, predicate_of_list)
+pub ruleset predicate_of_steps = (predicate_untyped, predicate_typed)
 
 pub predicate_in_none : predicate_in none ≡ None
 unfolding predicate_in

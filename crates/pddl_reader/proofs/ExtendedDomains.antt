@@ -1,6 +1,6 @@
 -- A domain with the objects of a problem.
 
-use Rattle.std.proofs.Common.{◌≡◌, ℕ, List, length, Option, Some, None, refl, subst, sym}
+use Rattle.std.proofs.Common.{◌≡◌, List, length, Some, None, refl, subst, sym}
 use Rattle.std.specs.Map.{keys_of}
 use Rattle.pddl_reader.specs.declared.resolution.domain.Rest.{Rest}
 use Rattle.pddl_reader.specs.Assembled.{domain_joined}

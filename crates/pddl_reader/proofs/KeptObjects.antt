@@ -1,7 +1,7 @@
 -- What the tables of types and of objects keep.
 
-use Rattle.std.proofs.Common.{◌≡◌, ℕ, ◌+◌, ◌<◌, ◌≤◌, ◌++◌, zero, suc, Bool, true, false, cond, nat_eq, nat_lt, List, [], ◌∷◌, length, map, Option, Some, None, refl, subst, sym, ◌∙◌, ap, arith, length-append, append_assoc}
-use Rattle.std.proofs.lemmas.Bool.{ltb-true, lt-ltb, eqb-true}
+use Rattle.std.proofs.Common.{◌≡◌, ℕ, ◌+◌, ◌<◌, ◌≤◌, ◌++◌, zero, suc, Bool, true, false, cond, nat_eq, nat_lt, List, [], ◌∷◌, length, Option, Some, None, refl, subst, sym, ◌∙◌, arith, length-append, append_assoc}
+use Rattle.std.proofs.lemmas.Bool.{ltb-true, lt-ltb}
 use Rattle.std.proofs.lemmas.List.{length-map, map-append, append-nil}
 use Rattle.std.proofs.lemmas.List.Folds.{list_all-append}
 use Rattle.std.specs.List.{list_all, position_from, slice_get}
@@ -14,10 +14,10 @@ use Rattle.strips_task.proofs.NameNumbers.{entries_distinct}
 use Rattle.pddl_reader.specs.declared.resolution.types.KnownTypes.{KnownTypes}
 use Rattle.pddl_reader.specs.declared.resolution.types.TypeTables.{TypeTables}
 use Rattle.pddl_reader.specs.Objects.{Objects, type_number, of_type, object_declared, objects_typed, objects_grouped, objects_from}
-use Rattle.pddl_reader.specs.Optional.{guard, through}
+use Rattle.pddl_reader.specs.Optional.{guard}
 use Rattle.pddl_reader.specs.Syntax.{NameGroup}
 use Rattle.pddl_reader.specs.Tables.{value_at, value_named}
-use Rattle.pddl_reader.specs.TypeOrder.{TypeNames, types_declared, parent_number, parents_of, is_tree, ordered, types_of}
+use Rattle.pddl_reader.specs.TypeOrder.{types_declared, parent_number, parents_of, is_tree, ordered, types_of}
 use Rattle.pddl_reader.proofs.Through.{through_keeps, guard_held}
 use Rattle.pddl_reader.proofs.TypeSteps.{AreFew, declared-few}
 use Rattle.pddl_reader.proofs.TypeTests.{tree_from}

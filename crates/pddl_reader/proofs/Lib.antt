@@ -5,6 +5,8 @@ pub mod FormulaSteps
 pub mod ActionSteps
 pub mod ListsOf
 pub mod TypedSteps
+pub mod WordSteps
+pub mod VariableSteps
 pub mod Through
 pub mod TypeTests
 pub mod TypeSteps
@@ -15,6 +17,11 @@ pub mod ExtendedDomains
 pub mod DomainSteps
 pub mod ProblemSteps
 pub mod TableSteps
+pub mod VariableMeaning
+pub mod TermSteps
+pub mod AtomSteps
+pub mod KeptVariables
+pub mod FittingAtoms
 pub mod DeclarationSteps
 pub mod Items
 pub mod ActionMeaning

@@ -1,6 +1,6 @@
 -- What fits in a task fits beside more objects, too.
 
-use Rattle.std.proofs.Common.{◌≡◌, ℕ, ◌<◌, ◌++◌, ◌&&◌, Bool, true, false, nat_eq, List, [], ◌∷◌, length, map, Option, Some, None, refl, subst, sym, ◌∙◌, ap}
+use Rattle.std.proofs.Common.{◌≡◌, ℕ, ◌&&◌, Bool, true, nat_eq, List, [], ◌∷◌, length, map, Option, Some, None, refl, sym, ◌∙◌}
 use Rattle.std.proofs.lemmas.Bool.{and_parts}
 use Rattle.std.proofs.lemmas.List.{length-map, map-append}
 use Rattle.std.proofs.lemmas.Option.{slice_get_within}
@@ -12,7 +12,7 @@ use Rattle.strips_task.specs.declared.actions.Term.TheVariants.{Param, Object}
 use Rattle.strips_task.specs.declared.actions.Action.{Action}
 use Rattle.strips_task.specs.declared.actions.Pattern.{Pattern}
 use Rattle.strips_task.specs.declared.tasks.TaskParts.{TaskParts}
-use Rattle.strips_task.specs.WellFormed.{IsWellFormed, are_variables, term_types, is_fitting, are_fitting, is_pattern, is_action}
+use Rattle.strips_task.specs.WellFormed.{are_variables, term_types, is_fitting, are_fitting, is_pattern, is_action}
 use Rattle.strips_task.proofs.Numbered.{slice_get-more}
 use Rattle.pddl_reader.specs.Domain.{DomainValue, bare_task}
 use Rattle.pddl_reader.specs.Domains.{IsDomain}

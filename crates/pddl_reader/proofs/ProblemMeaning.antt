@@ -1,6 +1,6 @@
 -- What the syntax of a problem stands for, one equation for each case.
 
-use Rattle.std.proofs.Common.{◌≡◌, ℕ, ◌++◌, Bool, true, false, List, [], ◌∷◌, Option, Some, None, refl, append_assoc, if◌then◌else◌}
+use Rattle.std.proofs.Common.{◌≡◌, ◌++◌, Bool, true, false, List, [], ◌∷◌, Option, Some, None, refl, append_assoc, if◌then◌else◌}
 use Rattle.std.proofs.lemmas.List.{append-nil}
 use Rattle.std.specs.Global.{Vec}
 use Rattle.strips_task.specs.declared.atoms.Atom.{Atom}
@@ -10,34 +10,33 @@ use Rattle.pddl_reader.specs.declared.syntax.ProblemSyntax.{ProblemSyntax}
 use Rattle.pddl_reader.specs.Optional.{followed_by, with_front}
 use Rattle.pddl_reader.specs.Forms.{literal_form, literal_forms, given_groups, given_literals, name_groups, problem_syntax_form}
 use Rattle.pddl_reader.specs.declared.syntax.NameGroup as groups
-use Rattle.pddl_reader.specs.Declarations.{Predicates, predicate_number}
+use Rattle.pddl_reader.specs.Declarations.{Known, ground_of}
 use Rattle.pddl_reader.specs.Domain.{DomainValue}
-use Rattle.pddl_reader.specs.Problem.{ground_condition_of, ground_conditions_of, initial_before, initial_of, task_value, task_with, domain_extended, problem_within, problem_of}
+use Rattle.pddl_reader.specs.Problem.{known_in, ground_condition_of, ground_conditions_of, initial_before, initial_of, task_value, task_with, domain_extended, problem_within, problem_of}
 use Rattle.pddl_reader.specs.Syntax.{LiteralForm}
 use Rattle.pddl_reader.proofs.Items.{item_steps}
 use Rattle.pddl_reader.proofs.ListsOf.{with_item, item_none, item_some, front_none, with_front-followed_by}
 
-pub condition_none : (predicates : Predicates) (l : LiteralForm) → predicate_number predicates l.atom ≡ None → ground_condition_of predicates l ≡ None
+pub condition_none : (known : Known) (l : LiteralForm) → ground_of known l.atom ≡ None → ground_condition_of known l ≡ None
 unfolding ground_condition_of
-condition_none predicates l h = rw h refl
+condition_none known l h = rw h refl
 
-pub condition_some : (predicates : Predicates) (l : LiteralForm) (number : ℕ) (args : List ℕ) → predicate_number predicates l.atom ≡ Some number → args ≡ [] →
-    ground_condition_of predicates l ≡ Some (record { positive = l.positive; atom = record { pred = number; args = args } })
+pub condition_some : (known : Known) (l : LiteralForm) (atom : Atom) → ground_of known l.atom ≡ Some atom →
+    ground_condition_of known l ≡ Some (record { positive = l.positive; atom = atom })
 unfolding ground_condition_of
-condition_some predicates l number args h e = rw (h, e) refl
+condition_some known l atom h = rw h refl
 
 pub ruleset condition_steps = (condition_none, condition_some)
 
-pub conditions_item : (front : List GroundCond) (predicates : Predicates) (x : LiteralSyntax) (xs : List LiteralSyntax) →
-    with_front front (ground_conditions_of predicates (literal_forms (x ∷ xs)))
-    ≡ with_item front (ground_condition_of predicates (literal_form x)) (ground_conditions_of predicates (literal_forms xs))
+pub conditions_item : (front : List GroundCond) (known : Known) (x : LiteralSyntax) (xs : List LiteralSyntax) →
+    with_front front (ground_conditions_of known (literal_forms (x ∷ xs)))
+    ≡ with_item front (ground_condition_of known (literal_form x)) (ground_conditions_of known (literal_forms xs))
 unfolding ground_conditions_of literal_forms
-conditions_item front predicates x xs =
-    with_front-followed_by front (ground_condition_of predicates (literal_form x)) (ground_conditions_of predicates (literal_forms xs))
+conditions_item front known x xs = with_front-followed_by front (ground_condition_of known (literal_form x)) (ground_conditions_of known (literal_forms xs))
 
-pub conditions_end : (front : List GroundCond) (predicates : Predicates) → with_front front (ground_conditions_of predicates (literal_forms [])) ≡ Some front
+pub conditions_end : (front : List GroundCond) (known : Known) → with_front front (ground_conditions_of known (literal_forms [])) ≡ Some front
 unfolding ground_conditions_of literal_forms with_front
-conditions_end front predicates = rw append-nil refl
+conditions_end front known = rw append-nil refl
 
 pub ruleset conditions_steps = (item_steps, front_none, conditions_item, conditions_end, item_none, item_some)
 
@@ -64,15 +63,15 @@ unfolding initial_before initial_after with_front
 initial_read front None others = refl
 initial_read front (Some given) others = initial_read_as given.positive front given.atom others
 
-pub initial_item : (front : List Atom) (predicates : Predicates) (x : LiteralSyntax) (xs : List LiteralSyntax) →
-    with_front front (initial_of predicates (literal_forms (x ∷ xs)))
-    ≡ initial_after front (ground_condition_of predicates (literal_form x)) (initial_of predicates (literal_forms xs))
+pub initial_item : (front : List Atom) (known : Known) (x : LiteralSyntax) (xs : List LiteralSyntax) →
+    with_front front (initial_of known (literal_forms (x ∷ xs)))
+    ≡ initial_after front (ground_condition_of known (literal_form x)) (initial_of known (literal_forms xs))
 unfolding initial_of literal_forms
-initial_item front predicates x xs = initial_read front (ground_condition_of predicates (literal_form x)) (initial_of predicates (literal_forms xs))
+initial_item front known x xs = initial_read front (ground_condition_of known (literal_form x)) (initial_of known (literal_forms xs))
 
-pub initial_end : (front : List Atom) (predicates : Predicates) → with_front front (initial_of predicates (literal_forms [])) ≡ Some front
+pub initial_end : (front : List Atom) (known : Known) → with_front front (initial_of known (literal_forms [])) ≡ Some front
 unfolding initial_of literal_forms with_front
-initial_end front predicates = rw append-nil refl
+initial_end front known = rw append-nil refl
 
 pub after_none : (front : List Atom) (others : Option (List Atom)) → initial_after front None others ≡ None
 unfolding initial_after
@@ -91,31 +90,31 @@ after_negated front given others h = rw h refl
 pub ruleset initial_steps = (item_steps, front_none, initial_item, initial_end, after_none, after_positive, after_negated)
 
 pub meant_parts : (domain : DomainValue) (syntax : ProblemSyntax) → problem_within (problem_syntax_form syntax) (Some domain)
-    ≡ task_with domain syntax.name.text.now (initial_of domain.predicates (literal_forms (given_literals syntax.init)))
-    (ground_conditions_of domain.predicates (literal_forms syntax.goal.items))
+    ≡ task_with domain syntax.name.text.now (initial_of (known_in domain) (literal_forms (given_literals syntax.init)))
+    (ground_conditions_of (known_in domain) (literal_forms syntax.goal.items))
 unfolding problem_within given_literals literal_forms
 meant_parts domain syntax = by syntax.init
   where
     by : (init : Option (Vec LiteralSyntax)) →
         problem_within (problem_syntax_form (record syntax { init = init })) (Some domain)
-        ≡ task_with domain syntax.name.text.now (initial_of domain.predicates (literal_forms (given_literals init)))
-        (ground_conditions_of domain.predicates (literal_forms syntax.goal.items))
+        ≡ task_with domain syntax.name.text.now (initial_of (known_in domain) (literal_forms (given_literals init)))
+        (ground_conditions_of (known_in domain) (literal_forms syntax.goal.items))
     by None = refl
     by (Some v) = refl
 
-pub no_initial : (domain : DomainValue) (syntax : ProblemSyntax) → initial_of domain.predicates (literal_forms (given_literals syntax.init)) ≡ None →
+pub no_initial : (domain : DomainValue) (syntax : ProblemSyntax) → initial_of (known_in domain) (literal_forms (given_literals syntax.init)) ≡ None →
     problem_within (problem_syntax_form syntax) (Some domain) ≡ None
 unfolding task_with
 no_initial domain syntax h = rw (meant_parts domain syntax, h) refl
 
-pub no_goal : (domain : DomainValue) (syntax : ProblemSyntax) (init : List Atom) → initial_of domain.predicates (literal_forms (given_literals syntax.init)) ≡ Some init →
-    ground_conditions_of domain.predicates (literal_forms syntax.goal.items) ≡ None → problem_within (problem_syntax_form syntax) (Some domain) ≡ None
+pub no_goal : (domain : DomainValue) (syntax : ProblemSyntax) (init : List Atom) → initial_of (known_in domain) (literal_forms (given_literals syntax.init)) ≡ Some init →
+    ground_conditions_of (known_in domain) (literal_forms syntax.goal.items) ≡ None → problem_within (problem_syntax_form syntax) (Some domain) ≡ None
 unfolding task_with
 no_goal domain syntax init h e = rw (meant_parts domain syntax, h, e) refl
 
 pub problem_meant : (domain : DomainValue) (syntax : ProblemSyntax) (init : List Atom) (goal : List GroundCond) →
-    initial_of domain.predicates (literal_forms (given_literals syntax.init)) ≡ Some init →
-    ground_conditions_of domain.predicates (literal_forms syntax.goal.items) ≡ Some goal →
+    initial_of (known_in domain) (literal_forms (given_literals syntax.init)) ≡ Some init →
+    ground_conditions_of (known_in domain) (literal_forms syntax.goal.items) ≡ Some goal →
     problem_within (problem_syntax_form syntax) (Some domain) ≡ Some (task_value domain syntax.name.text.now init goal)
 unfolding task_with
 problem_meant domain syntax init goal h e = rw (meant_parts domain syntax, h, e) refl

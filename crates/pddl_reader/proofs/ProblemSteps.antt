@@ -3,6 +3,7 @@
 use Rattle.std.proofs.Common.{◌≡◌, ℕ, Bool, true, false, List, [], Option, Some, None, unwrap_or, refl}
 use Rattle.std.specs.Global.{Vec}
 use Rattle.std.specs.Option.{option_map, option_and_then}
+use Rattle.pddl_reader.specs.declared.heads.Scope.TheVariants as scope
 use Rattle.pddl_reader.specs.declared.heads.ProblemSection.{ProblemSection}
 use Rattle.pddl_reader.specs.declared.heads.ProblemSection.TheVariants.{Domain, Requirements, Objects, Init, Goal, Metric, Length}
 use Rattle.pddl_reader.specs.declared.syntax.LiteralSyntax.{LiteralSyntax}
@@ -25,7 +26,7 @@ pub init_item_list : (k f : Trees) → init_item_in (list k f) ≡ None
 unfolding init_item_in
 init_item_list k f = refl
 
-pub init_item_word : (w : List ℕ) (f : Trees) → init_item_in (word w f) ≡ literal_of w f
+pub init_item_word : (w : List ℕ) (f : Trees) → init_item_in (word w f) ≡ literal_of scope.Problem w f
 unfolding init_item_in
 init_item_word w f = refl
 
@@ -39,7 +40,7 @@ goal_no_list none h = refl
 goal_no_list (word w f) h = refl
 goal_no_list (list k f) h = cc
 
-pub goal_refused : (k f : Trees) → formula_in k ≡ None → goal_of (list k f) ≡ None
+pub goal_refused : (k f : Trees) → formula_in scope.Problem k ≡ None → goal_of (list k f) ≡ None
 unfolding goal_of ended
 goal_refused k none h = h
 goal_refused k (word w f) h = refl
@@ -51,7 +52,7 @@ goal_more k none h = cc
 goal_more k (word w f) h = refl
 goal_more k (list j f) h = refl
 
-pub goal_alone : (k f : Trees) → end_of f ≡ Some tt → goal_of (list k f) ≡ formula_in k
+pub goal_alone : (k f : Trees) → end_of f ≡ Some tt → goal_of (list k f) ≡ formula_in scope.Problem k
 unfolding goal_of end_of ended
 goal_alone k none h = refl
 goal_alone k (word w f) h = cc

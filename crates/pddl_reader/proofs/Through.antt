@@ -1,6 +1,6 @@
 -- A state that is taken through a list, one equation for each case.
 
-use Rattle.std.proofs.Common.{◌≡◌, Bool, true, false, List, [], ◌∷◌, Option, Some, None, map, refl, subst}
+use Rattle.std.proofs.Common.{◌≡◌, Bool, true, false, List, [], ◌∷◌, Option, Some, None, refl, subst}
 use Rattle.std.specs.Option.{option_and_then}
 use Rattle.pddl_reader.specs.Optional.{guard, through}
 use Rattle.pddl_reader.proofs.Items.{item_steps}

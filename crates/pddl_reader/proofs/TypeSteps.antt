@@ -3,7 +3,7 @@
 use Rattle.std.proofs.Common.{◌≡◌, ◌≢◌, ℕ, ◌+◌, ◌<◌, ◌≤◌, ◌++◌, Bool, true, false, nat_eq, nat_lt, is_some, List, [], ◌∷◌, length, map, take, drop, get_or, Option, Some, None, unwrap_or, if◌then◌else◌, refl, sym, ◌∙◌, subst, true≢false, arith, length-append, append_assoc, add-one, suc, zero, ◌↔◌, IsTrue}
 use Rattle.std.proofs.lemmas.List.{drop_all, append-nil}
 use Rattle.strips_task.specs.Types.{IsTypeTree}
-use Rattle.std.proofs.lemmas.Bool.{le-ltb, lt-ltb, ltb-true, eqb-true, eq-eqb}
+use Rattle.std.proofs.lemmas.Bool.{le-ltb, lt-ltb, ltb-true}
 use Rattle.std.specs.List.{slice_get}
 use Rattle.std.specs.Str.{bytes_eq}
 use Rattle.pddl_words.specs.Words.{folded}
@@ -11,11 +11,10 @@ use Rattle.strips_task.specs.Names.{number_named}
 use Rattle.pddl_reader.specs.declared.syntax.NameGroup as groups
 use Rattle.pddl_reader.specs.declared.resolution.types.KnownTypes.{KnownTypes}
 use Rattle.pddl_reader.specs.declared.resolution.types.TypeTables.{TypeTables}
-use Rattle.pddl_reader.specs.Forms.{name_forms, name_group_form, name_groups}
+use Rattle.pddl_reader.specs.Forms.{name_forms, name_group_form}
 use Rattle.pddl_reader.specs.Keywords.{object_word}
 use Rattle.pddl_reader.specs.Optional.{guard, through}
 use Rattle.pddl_reader.specs.Syntax.{NameGroup}
-use Rattle.pddl_reader.specs.Tables.{value_named}
 use Rattle.pddl_reader.specs.TypeOrder.{TypeNames, TypeParents, numbered, under, declared_under, tables_of, type_declared, parent_numbered, group_declared, object_alone, types_declared, parent_name, parent_number, parents_of, is_tree, ordered, types_of}
 use Rattle.pddl_reader.proofs.TableSteps.{value_unnamed, value_numbered}
 use Rattle.pddl_reader.proofs.TypeTests.{tree_from, tree_tested}

@@ -1,11 +1,11 @@
 -- The test of a tree of types agrees with what a tree is.
 
-use Rattle.std.proofs.Common.{◌≡◌, ℕ, ◌<◌, zero, suc, Bool, true, ◌&&◌, nat_eq, nat_lt, List, length, slice_index, refl, arith, below_more}
+use Rattle.std.proofs.Common.{◌≡◌, ℕ, ◌<◌, zero, suc, Bool, true, nat_lt, List, length, slice_index, refl, arith, below_more, ap, sym, ◌∙◌, ◌+◌, ◌-◌, ◌≤◌}
 use Rattle.std.proofs.lemmas.Bool.{and_parts, eqb-true, eq-eqb, ltb-true, lt-ltb}
 use Rattle.std.proofs.lemmas.List.Sums.{AllPass-from_list_all, list_all-from_AllPass}
 use Rattle.std.specs.List.{list_all}
-use Rattle.strips_task.specs.Types.{IsTypeTree, is_below}
-use Rattle.strips_task.proofs.TypeTrees.{below_from_within, within_from_below}
+use Rattle.strips_task.specs.Types.{IsTypeTree, ancestor, is_below}
+use Rattle.strips_task.proofs.TypeTrees.{below_from_within, within_from_below, ancestor-add, ancestor-object}
 use Rattle.pddl_reader.specs.TypeOrder.{all_below, is_tree}
 
 all_below_at : (test : ℕ → Bool) (n i : ℕ) → i < n → all_below test n ≡ true → test i ≡ true
@@ -44,3 +44,25 @@ tree_tested parents tree =
     all_below_from (λ type. is_below parents type 0) (length parents) (λ type lt.
     within_from_below parents tree.has_object tree.object_on_top (λ i k. tree.parents_known i 0 k) type 0 lt (tree.below_object type lt) (tree.below_object type lt)) in
     rw (lt-ltb 0 (length parents) tree.has_object, eq-eqb (slice_index parents 0) 0 tree.object_on_top, known, below) refl
+
+-- a type above itself stands so any number of times
+around : (parents : List ℕ) (type steps : ℕ) → ancestor parents (suc steps) type ≡ type → (m : ℕ) → (k : ℕ) × (m ≤ k) × (ancestor parents k type ≡ type)
+unfolding ancestor
+around parents type steps h zero = (0, omega arith, refl)
+around parents type steps h (suc m) =
+    let found = around parents type steps h m in
+    let k = found.0 in
+    let le : m ≤ k = found.1 in
+    (k + suc steps, omega arith, sym (ancestor-add parents (suc steps) k type) ∙ ap (ancestor parents (suc steps)) found.2 ∙ h)
+
+-- in a tree no type but `object` stands above itself
+pub no_cycle : (parents : List ℕ) → IsTypeTree parents → (type steps : ℕ) → type < length parents → ancestor parents (suc steps) type ≡ type → type ≡ 0
+no_cycle parents tree type steps lt h =
+    let below = tree.below_object type lt in
+    let n = below.0 in
+    let far = around parents type steps h n in
+    let k = far.0 in
+    let le : n ≤ k = far.1 in
+    let parts : n + (k - n) ≡ k = omega arith in
+    sym far.2 ∙ ap (λ j. ancestor parents j type) (sym parts) ∙ sym (ancestor-add parents (k - n) n type) ∙ ap (ancestor parents (k - n)) below.1
+    ∙ ancestor-object parents tree.has_object tree.object_on_top (λ i known. tree.parents_known i 0 known) (k - n)

@@ -11,7 +11,6 @@ use Rattle.pddl_reader.specs.Heads.{is_dash, is_keyword}
 use Rattle.pddl_reader.specs.Keywords.{object_word}
 use Rattle.pddl_reader.specs.Optional.{guard, followed_by, with_front}
 use Rattle.pddl_reader.specs.Trees.{Trees, none, word, list}
-use Rattle.pddl_reader.specs.Levels.{Levels, behind}
 use Rattle.pddl_reader.specs.Syntax.{NameGroup, keywords_of, last_names, name_group, typed_names, names_typed, leading_name}
 use Rattle.pddl_reader.proofs.ListsOf.{front_none}
 
@@ -58,6 +57,8 @@ no_groups = refl
 pub name_forms-push : (ns : List NameWord) (n : NameWord) → name_forms (ns ++ n ∷ []) ≡ name_forms ns ++ n.text.now ∷ []
 unfolding name_forms
 name_forms-push ns n = map_push name_form ns n
+
+pub ruleset name_forms_pushed = (name_forms-push)
 
 pub name_groups-push : (gs : List groups.NameGroup) (g : groups.NameGroup) → name_groups (gs ++ g ∷ []) ≡ name_groups gs ++ name_group_form g ∷ []
 unfolding name_groups
@@ -135,8 +136,3 @@ typed_group front (n ∷ ns) w t f h e some = rw (h, e) (group_read front (recor
 
 pub ruleset typed_steps =
     (front_none, no_names, no_groups, name_forms-push, name_groups-push, typed_end, typed_last, typed_list, typed_other, typed_name, typed_untyped, typed_unnamed, typed_group)
-
-pub skipped : (below : List Trees) → behind below ≡ behind below
-skipped below = refl
-
-pub ruleset skip_steps = (skipped)

@@ -8,23 +8,23 @@ use Rattle.strips_task.specs.declared.atoms.GroundCond.{GroundCond}
 use Rattle.strips_task.specs.declared.tasks.TaskParts.{TaskParts}
 use Rattle.strips_task.specs.WellFormed.{IsWellFormed, term_types, is_pattern, is_atom, is_action}
 use Rattle.pddl_reader.specs.Optional.{followed_by}
-use Rattle.pddl_reader.specs.Declarations.{takes_terms, predicate_number}
+use Rattle.pddl_reader.specs.Declarations.{ground_of}
 use Rattle.pddl_reader.specs.Domain.{DomainValue, bare_task}
-use Rattle.pddl_reader.specs.Problem.{ground_condition, ground_condition_of, ground_conditions_of, initial_before, initial_of, task_named}
+use Rattle.pddl_reader.specs.Problem.{known_in, ground_condition, ground_condition_of, ground_conditions_of, initial_before, initial_of, task_named}
 use Rattle.pddl_reader.specs.Syntax.{LiteralForm}
-use Rattle.pddl_reader.proofs.WellFormedDomains.{atom_fits, number_taken}
+use Rattle.pddl_reader.proofs.FittingAtoms.{known_of, atom_fits}
 
-ground_fits_by : (task : TaskParts) (positive : Bool) (number : Option ℕ) (c : GroundCond) →
-    ((n : ℕ) → number ≡ Some n → takes_terms task.preds n 0 ≡ true) → option_map (ground_condition positive) number ≡ Some c → is_atom task c.atom ≡ true
-ground_fits_by task positive None c taken h = cc
-ground_fits_by task positive (Some n) c taken h =
+ground_fits_by : (task : TaskParts) (positive : Bool) (atom : Option Atom) (c : GroundCond) → ((a : Atom) → atom ≡ Some a → is_atom task a ≡ true) →
+    option_map (ground_condition positive) atom ≡ Some c → is_atom task c.atom ≡ true
+ground_fits_by task positive None c fits h = cc
+ground_fits_by task positive (Some a) c fits h =
     let P : GroundCond → Type 0 = λ c. is_atom task c.atom ≡ true in
-    let e : ground_condition positive n ≡ c = cc in
-    subst P e (atom_fits task n (taken n refl))
+    let e : ground_condition positive a ≡ c = cc in
+    subst P e (fits a refl)
 
-ground_fits : (task : TaskParts) (l : LiteralForm) (c : GroundCond) → ground_condition_of task.preds l ≡ Some c → is_atom task c.atom ≡ true
+ground_fits : (task : TaskParts) (l : LiteralForm) (c : GroundCond) → ground_condition_of (known_of task) l ≡ Some c → is_atom task c.atom ≡ true
 unfolding ground_condition_of
-ground_fits task l c h = ground_fits_by task l.positive (predicate_number task.preds l.atom) c (number_taken task.preds l.atom) h
+ground_fits task l c h = ground_fits_by task l.positive (ground_of (known_of task) l.atom) c (atom_fits task l.atom) h
 
 grounds_fit_by : (task : TaskParts) (c : Option GroundCond) (cs : Option (List GroundCond)) (all : List GroundCond) →
     ((x : GroundCond) → c ≡ Some x → is_atom task x.atom ≡ true) →
@@ -38,7 +38,7 @@ grounds_fit_by task (Some x) (Some xs) all first rest h =
     let e : x ∷ xs ≡ all = cc in
     subst P e (rw (first x refl, rest xs refl) refl)
 
-grounds_fit : (task : TaskParts) (ls : List LiteralForm) (cs : List GroundCond) → ground_conditions_of task.preds ls ≡ Some cs →
+grounds_fit : (task : TaskParts) (ls : List LiteralForm) (cs : List GroundCond) → ground_conditions_of (known_of task) ls ≡ Some cs →
     list_all (λ c. is_atom task c.atom) cs ≡ true
 unfolding ground_conditions_of
 grounds_fit task [] cs h =
@@ -46,7 +46,7 @@ grounds_fit task [] cs h =
     let e : [] ≡ cs = cc in
     subst P e refl
 grounds_fit task (l ∷ ls) cs h =
-    grounds_fit_by task (ground_condition_of task.preds l) (ground_conditions_of task.preds ls) cs (ground_fits task l) (λ xs e. grounds_fit task ls xs e) h
+    grounds_fit_by task (ground_condition_of (known_of task) l) (ground_conditions_of (known_of task) ls) cs (ground_fits task l) (λ xs e. grounds_fit task ls xs e) h
 
 initial_fit_as : (task : TaskParts) (positive : Bool) (a : Atom) (more : Option (List Atom)) (all : List Atom) → is_atom task a ≡ true →
     ((xs : List Atom) → more ≡ Some xs → list_all (is_atom task) xs ≡ true) →
@@ -67,18 +67,18 @@ unfolding initial_before
 initial_fit_by task None more all first rest h = cc
 initial_fit_by task (Some x) more all first rest h = initial_fit_as task x.positive x.atom more all (first x refl) rest h
 
-initial_fit : (task : TaskParts) (ls : List LiteralForm) (atoms : List Atom) → initial_of task.preds ls ≡ Some atoms → list_all (is_atom task) atoms ≡ true
+initial_fit : (task : TaskParts) (ls : List LiteralForm) (atoms : List Atom) → initial_of (known_of task) ls ≡ Some atoms → list_all (is_atom task) atoms ≡ true
 unfolding initial_of
 initial_fit task [] atoms h =
     let P : List Atom → Type 0 = λ xs. list_all (is_atom task) xs ≡ true in
     let e : [] ≡ atoms = cc in
     subst P e refl
 initial_fit task (l ∷ ls) atoms h =
-    initial_fit_by task (ground_condition_of task.preds l) (initial_of task.preds ls) atoms (ground_fits task l) (λ xs e. initial_fit task ls xs e) h
+    initial_fit_by task (ground_condition_of (known_of task) l) (initial_of (known_of task) ls) atoms (ground_fits task l) (λ xs e. initial_fit task ls xs e) h
 
 -- what fits in a task of the domain fits whatever the problem gives
 pub task_well_formed : (domain : DomainValue) (problem : List ℕ) (initial goals : List LiteralForm) (init : List Atom) (goal : List GroundCond) →
-    IsWellFormed (bare_task domain) → initial_of domain.predicates initial ≡ Some init → ground_conditions_of domain.predicates goals ≡ Some goal →
+    IsWellFormed (bare_task domain) → initial_of (known_in domain) initial ≡ Some init → ground_conditions_of (known_in domain) goals ≡ Some goal →
     IsWellFormed (task_named domain problem init goal)
 unfolding is_action is_pattern term_types
 task_well_formed domain problem initial goals init goal wf i g = record {

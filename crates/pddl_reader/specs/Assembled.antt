@@ -1,6 +1,5 @@
 -- Domains and tasks put together from their parts.
 
-use Rattle.std.specs.Prelude.{ℕ, List}
 use Rattle.std.specs.Map.{keys_of}
 use Rattle.strips_task.specs.declared.tasks.TaskParts.{TaskParts}
 use Rattle.pddl_reader.specs.declared.resolution.domain.Head.{Head}

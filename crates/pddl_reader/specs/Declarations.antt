@@ -1,9 +1,17 @@
 -- Tables of declared names, and the atoms that use them.
 
-use Rattle.std.specs.Prelude.{ℕ, Bool, false, ◌&&◌, nat_eq, nat_lt, is_none, List, [], ◌∷◌, ◌++◌, length, slice_get, Option, Some, None}
+use Rattle.std.specs.Prelude.{if◌then◌else◌, ℕ, Bool, false, ◌&&◌, nat_eq, nat_lt, is_none, List, [], ◌∷◌, ◌++◌, length, slice_get, Option, Some, None}
 use Rattle.std.specs.Option.{option_map}
 use Rattle.std.specs.Map.{values_of}
-use Rattle.pddl_words.specs.Words.{folded}
+use Rattle.pddl_words.specs.Words.{folded, is_name}
+use Rattle.strips_task.specs.declared.atoms.Atom.{Atom}
+use Rattle.strips_task.specs.declared.actions.Pattern.{Pattern}
+use Rattle.strips_task.specs.declared.actions.Term.{Term}
+use Rattle.strips_task.specs.declared.actions.Term.TheVariants.{Param, Object}
+use Rattle.strips_task.specs.WellFormed.{is_fitting}
+use Rattle.pddl_reader.specs.Heads.{is_variable}
+use Rattle.pddl_reader.specs.Objects.{Objects}
+use Rattle.pddl_reader.specs.Variables.{Parameters, parameter_number}
 use Rattle.strips_task.specs.declared.actions.Cond.{Cond}
 use Rattle.strips_task.specs.Names.{number_named}
 use Rattle.pddl_reader.specs.Optional.{guard, followed_by}
@@ -35,19 +43,91 @@ unfoldable pub predicate_taking : Predicates → ℕ → Option ℕ → Option �
 predicate_taking predicates count None = None
 predicate_taking predicates count (Some number) = guard (takes_terms predicates number count) (Some number)
 
--- the number of an atom's predicate
+-- the number of an atom's predicate, where it takes so many terms
 unfoldable pub predicate_number : Predicates → AtomForm → Option ℕ
-predicate_number predicates atom = predicate_taking predicates 0 (number_named predicates (folded atom.predicate))
+predicate_number predicates atom = predicate_taking predicates (length atom.terms) (number_named predicates (folded atom.predicate))
 
--- a condition on a pattern without terms
-abbrev pub condition : Bool → ℕ → Cond
-condition positive number = record { positive = positive; pattern = record { pred = number; terms = [] } }
+-- what atoms may speak of: types with their order, objects and predicates
+pub record Known : Type 0 where
+  pub parents : List ℕ
+  pub objects : Objects
+  pub predicates : Predicates
+
+-- the types of a term, where there is such a parameter or object
+unfoldable pub types_of_term : Known → List (List ℕ) → Term → Option (List ℕ)
+types_of_term known params (Param place) = slice_get params place
+types_of_term known params (Object object) = option_map (λ type. type ∷ []) (slice_get (values_of known.objects) object)
+
+-- a term for each place, where there are as many and each fits
+unfoldable pub fitted_all : {A : Type 0} → (List ℕ → List ℕ → Option A) → List (List ℕ) → List (List ℕ) → Option (List A)
+fitted_all fit [] [] = Some []
+fitted_all fit [] (word ∷ words) = None
+fitted_all fit (place ∷ places) [] = None
+fitted_all fit (place ∷ places) (word ∷ words) = followed_by (fit place word) (fitted_all fit places words)
+
+unfoldable pub fitted_places : {A : Type 0} → (List ℕ → List ℕ → Option A) → Option (List (List ℕ)) → List (List ℕ) → Option (List A)
+fitted_places fit None words = None
+fitted_places fit (Some places) words = fitted_all fit places words
+
+-- the number of the object that a word names
+unfoldable pub object_number : Objects → List ℕ → Option ℕ
+object_number objects word = guard (is_name word) (number_named objects (folded word))
+
+-- the term that a word stands for in an action: a parameter or a constant
+unfoldable pub term_named : Known → Parameters → List ℕ → Option Term
+term_named known parameters word =
+    (if is_variable word then option_map (λ number. Param number) (parameter_number parameters.names word)
+    else option_map (λ number. Object number) (object_number known.objects word))
+
+-- a term that fits its place: each of its types is below some type of the place
+unfoldable pub term_fitted : Known → List (List ℕ) → List ℕ → Option Term → Option Term
+term_fitted known params place None = None
+term_fitted known params place (Some term) = guard (is_fitting known.parents (types_of_term known params term) place) (Some term)
+
+unfoldable pub term_in_place : Known → Parameters → List ℕ → List ℕ → Option Term
+term_in_place known parameters place word = term_fitted known parameters.types place (term_named known parameters word)
+
+-- an object that fits its place
+unfoldable pub object_fitted : Known → List ℕ → Option ℕ → Option ℕ
+object_fitted known place None = None
+object_fitted known place (Some number) = guard (is_fitting known.parents (types_of_term known [] (Object number)) place) (Some number)
+
+unfoldable pub object_in_place : Known → List ℕ → List ℕ → Option ℕ
+object_in_place known place word = object_fitted known place (object_number known.objects word)
+
+abbrev pub pattern_with : ℕ → List Term → Pattern
+pattern_with number terms = record { pred = number; terms = terms }
+
+unfoldable pub pattern_by : Known → Parameters → List (List ℕ) → Option ℕ → Option Pattern
+pattern_by known parameters words None = None
+pattern_by known parameters words (Some number) =
+    option_map (pattern_with number) (fitted_places (term_in_place known parameters) (slice_get (values_of known.predicates) number) words)
+
+-- the pattern that an atom of an action stands for
+unfoldable pub pattern_of : Known → Parameters → AtomForm → Option Pattern
+pattern_of known parameters atom = pattern_by known parameters atom.terms (predicate_number known.predicates atom)
+
+abbrev pub ground_with : ℕ → List ℕ → Atom
+ground_with number args = record { pred = number; args = args }
+
+unfoldable pub ground_by : Known → List (List ℕ) → Option ℕ → Option Atom
+ground_by known words None = None
+ground_by known words (Some number) =
+    option_map (ground_with number) (fitted_places (object_in_place known) (slice_get (values_of known.predicates) number) words)
+
+-- the ground atom that an atom of a problem stands for
+unfoldable pub ground_of : Known → AtomForm → Option Atom
+ground_of known atom = ground_by known atom.terms (predicate_number known.predicates atom)
+
+-- a condition on a pattern
+abbrev pub condition : Bool → Pattern → Cond
+condition positive pattern = record { positive = positive; pattern = pattern }
 
 -- the condition that a literal of an action stands for
-unfoldable pub condition_of : Predicates → LiteralForm → Option Cond
-condition_of predicates literal = option_map (condition literal.positive) (predicate_number predicates literal.atom)
+unfoldable pub condition_of : Known → Parameters → LiteralForm → Option Cond
+condition_of known parameters literal = option_map (condition literal.positive) (pattern_of known parameters literal.atom)
 
 -- the conditions that literals stand for, in text order
-unfoldable pub conditions_of : Predicates → List LiteralForm → Option (List Cond)
-conditions_of predicates [] = Some []
-conditions_of predicates (literal ∷ literals) = followed_by (condition_of predicates literal) (conditions_of predicates literals)
+unfoldable pub conditions_of : Known → Parameters → List LiteralForm → Option (List Cond)
+conditions_of known parameters [] = Some []
+conditions_of known parameters (literal ∷ literals) = followed_by (condition_of known parameters literal) (conditions_of known parameters literals)

@@ -2,7 +2,7 @@
 
 use Rattle.std.specs.Prelude.{ℕ, List, [], ◌∷◌, ◌++◌, Option, Some, None, if◌then◌else◌}
 use Rattle.std.specs.Map.{keys_of}
-use Rattle.std.specs.Option.{option_map, option_and_then}
+use Rattle.std.specs.Option.{option_map}
 use Rattle.pddl_words.specs.Words.{folded}
 use Rattle.strips_task.specs.declared.actions.Action.{Action}
 use Rattle.strips_task.specs.declared.actions.Cond.{Cond}
@@ -13,7 +13,9 @@ use Rattle.pddl_reader.specs.declared.resolution.domain.Head.{Head}
 use Rattle.pddl_reader.specs.declared.resolution.types.KnownTypes.{KnownTypes}
 use Rattle.pddl_reader.specs.Objects.{Objects, objects_from}
 use Rattle.pddl_reader.specs.TypeOrder.{types_of}
-use Rattle.pddl_reader.specs.Declarations.{Predicates, declared, condition_of, conditions_of}
+use Rattle.pddl_reader.specs.Declarations.{Predicates, declared, Known, condition_of, conditions_of}
+use Rattle.pddl_reader.specs.Optional.{through}
+use Rattle.pddl_reader.specs.Variables.{Parameters, parameters_of, places_of}
 use Rattle.pddl_reader.specs.Syntax.{LiteralForm, PredicateForm, ActionForm, DomainForm}
 
 -- what a domain gives of a task, and the names of its types
@@ -25,15 +27,18 @@ pub record DomainValue : Type 0 where
   pub predicates : List (List ℕ × List (List ℕ))
   pub actions : List (List ℕ × Action)
 
--- the table with one more predicate, which takes no terms
-unfoldable pub with_predicate : Predicates → PredicateForm → Option Predicates
-with_predicate table predicate = declared most_predicates table (folded predicate.name) []
+-- the table with an entry, where there are places for it
+unfoldable pub declared_predicate : Predicates → List ℕ → Option (List (List ℕ)) → Option Predicates
+declared_predicate table name None = None
+declared_predicate table name (Some places) = declared most_predicates table name places
+
+-- the table with one more predicate
+unfoldable pub with_predicate : List (List ℕ) → Predicates → PredicateForm → Option Predicates
+with_predicate types table predicate = declared_predicate table (folded predicate.name) (places_of types predicate.variables)
 
 -- the table with more predicates, in text order
-unfoldable pub predicates_from : Predicates → List PredicateForm → Option Predicates
-predicates_from table [] = Some table
-predicates_from table (predicate ∷ predicates) =
-    option_and_then (λ more. predicates_from more predicates) (with_predicate table predicate)
+unfoldable pub predicates_from : List (List ℕ) → Predicates → List PredicateForm → Option Predicates
+predicates_from types table predicates = through (with_predicate types) table predicates
 
 -- what an effect adds and what it deletes, in text order
 unfoldable pub no_effects : Effects
@@ -54,19 +59,24 @@ effects_before None others = None
 effects_before (Some effect) others = option_map (both_effects (lone_effect effect)) others
 
 -- the effects that literals stand for
-unfoldable pub effects_of : Predicates → List LiteralForm → Option Effects
-effects_of predicates [] = Some no_effects
-effects_of predicates (literal ∷ literals) = effects_before (condition_of predicates literal) (effects_of predicates literals)
+unfoldable pub effects_of : Known → Parameters → List LiteralForm → Option Effects
+effects_of known parameters [] = Some no_effects
+effects_of known parameters (literal ∷ literals) = effects_before (condition_of known parameters literal) (effects_of known parameters literals)
 
--- an action without parameters
-unfoldable pub action_with : Option (List Cond) → Option Effects → Option Action
-action_with None effects = None
-action_with (Some pre) None = None
-action_with (Some pre) (Some effects) = Some (record { params = []; pre = pre; add = effects.add; del = effects.del })
+-- an action with parameters of these types
+unfoldable pub action_with : List (List ℕ) → Option (List Cond) → Option Effects → Option Action
+action_with params None effects = None
+action_with params (Some pre) None = None
+action_with params (Some pre) (Some effects) = Some (record { params = params; pre = pre; add = effects.add; del = effects.del })
+
+unfoldable pub action_by : Known → ActionForm → Option Parameters → Option Action
+action_by known action None = None
+action_by known action (Some parameters) =
+    action_with parameters.types (conditions_of known parameters action.precondition) (effects_of known parameters action.effect)
 
 -- the action that syntax stands for
-unfoldable pub action_meant : Predicates → ActionForm → Option Action
-action_meant predicates action = action_with (conditions_of predicates action.precondition) (effects_of predicates action.effect)
+unfoldable pub action_meant : List (List ℕ) → Known → ActionForm → Option Action
+action_meant types known action = action_by known action (parameters_of types action.parameters)
 
 -- the declared actions
 abbrev pub Actions : Type 0
@@ -78,14 +88,12 @@ declared_action table name None = None
 declared_action table name (Some action) = declared most_actions table name action
 
 -- the table with one more action
-unfoldable pub with_action_of : Predicates → Actions → ActionForm → Option Actions
-with_action_of predicates table action = declared_action table (folded action.name) (action_meant predicates action)
+unfoldable pub with_action_of : List (List ℕ) → Known → Actions → ActionForm → Option Actions
+with_action_of types known table action = declared_action table (folded action.name) (action_meant types known action)
 
 -- the table with more actions, in text order
-unfoldable pub actions_from : Predicates → Actions → List ActionForm → Option Actions
-actions_from predicates table [] = Some table
-actions_from predicates table (action ∷ actions) =
-    option_and_then (λ more. actions_from predicates more actions) (with_action_of predicates table action)
+unfoldable pub actions_from : List (List ℕ) → Known → Actions → List ActionForm → Option Actions
+actions_from types known table actions = through (with_action_of types known) table actions
 
 -- what a domain declares before its predicates
 abbrev pub head : List ℕ → KnownTypes → Objects → Head
@@ -110,14 +118,18 @@ domain_value head predicates actions = record {
   actions = actions;
 }
 
+-- what the actions of a domain may speak of
+abbrev pub known_by : Head → Predicates → Known
+known_by head predicates = record { parents = head.parents; objects = head.objects; predicates = predicates }
+
 -- the domain with these predicates
 unfoldable pub domain_with : DomainForm → Head → Option Predicates → Option DomainValue
 domain_with domain head None = None
-domain_with domain head (Some predicates) = option_map (domain_value head predicates) (actions_from predicates [] domain.actions)
+domain_with domain head (Some predicates) = option_map (domain_value head predicates) (actions_from (keys_of head.types) (known_by head predicates) [] domain.actions)
 
 unfoldable pub domain_headed : DomainForm → Option Head → Option DomainValue
 domain_headed domain None = None
-domain_headed domain (Some head) = domain_with domain head (predicates_from [] domain.predicates)
+domain_headed domain (Some head) = domain_with domain head (predicates_from (keys_of head.types) [] domain.predicates)
 
 -- the domain that syntax stands for: types, constants, predicates and actions are declared in turn
 unfoldable pub domain_of : DomainForm → Option DomainValue

@@ -9,13 +9,14 @@ use Rattle.pddl_reader.specs.declared.syntax.AtomSyntax.{AtomSyntax}
 use Rattle.pddl_reader.specs.declared.syntax.LiteralSyntax.{LiteralSyntax}
 use Rattle.pddl_reader.specs.declared.syntax.PredicateSyntax.{PredicateSyntax}
 use Rattle.pddl_reader.specs.declared.syntax.NameGroup as groups
+use Rattle.pddl_reader.specs.declared.syntax.VariableGroup as variables
 use Rattle.pddl_reader.specs.declared.syntax.ActionParts as parts
 use Rattle.pddl_reader.specs.declared.syntax.ActionSyntax.{ActionSyntax}
 use Rattle.pddl_reader.specs.declared.syntax.DomainSections as domain
 use Rattle.pddl_reader.specs.declared.syntax.DomainSyntax.{DomainSyntax}
 use Rattle.pddl_reader.specs.declared.syntax.ProblemSections as problem
 use Rattle.pddl_reader.specs.declared.syntax.ProblemSyntax.{ProblemSyntax}
-use Rattle.pddl_reader.specs.Syntax.{NameGroup, AtomForm, LiteralForm, PredicateForm, ActionForm, ActionParts, DomainForm, DomainSections, ProblemForm, ProblemSections, action_form, domain_form}
+use Rattle.pddl_reader.specs.Syntax.{NameGroup, VariableGroup, AtomForm, LiteralForm, PredicateForm, ActionForm, ActionParts, DomainForm, DomainSections, ProblemForm, ProblemSections, action_form, domain_form}
 
 -- the bytes of a word
 abbrev pub word_form : Word → List ℕ
@@ -36,8 +37,14 @@ name_groups gs = map name_group_form gs
 unfoldable pub word_forms : List Word → List (List ℕ)
 word_forms ws = map word_form ws
 
+abbrev pub variable_group_form : variables.VariableGroup → VariableGroup
+variable_group_form g = record { variables = word_forms g.variables.items; types = name_forms g.kinds.items }
+
+unfoldable pub variable_groups : List variables.VariableGroup → List VariableGroup
+variable_groups gs = map variable_group_form gs
+
 abbrev pub atom_form : AtomSyntax → AtomForm
-atom_form a = record { predicate = a.predicate.text.now }
+atom_form a = record { predicate = a.predicate.text.now; terms = word_forms a.terms.items }
 
 abbrev pub literal_form : LiteralSyntax → LiteralForm
 literal_form l = record { positive = l.positive; atom = atom_form l.atom }
@@ -46,14 +53,14 @@ unfoldable pub literal_forms : List LiteralSyntax → List LiteralForm
 literal_forms ls = map literal_form ls
 
 abbrev pub predicate_form : PredicateSyntax → PredicateForm
-predicate_form p = record { name = p.name.text.now }
+predicate_form p = record { name = p.name.text.now; variables = variable_groups p.variables.items }
 
 unfoldable pub predicate_forms : List PredicateSyntax → List PredicateForm
 predicate_forms ps = map predicate_form ps
 
 unfoldable pub parts_form : parts.ActionParts → ActionParts
 parts_form p = record {
-  parameters = option_map (λ v. word_forms v.items) p.parameters;
+  parameters = option_map (λ v. variable_groups v.items) p.parameters;
   precondition = option_map (λ v. literal_forms v.items) p.precondition;
   effect = option_map (λ v. literal_forms v.items) p.effect;
 }
@@ -110,3 +117,8 @@ given_predicates (Some predicates) = predicates.items
 unfoldable pub given_groups : Option (Vec groups.NameGroup) → List groups.NameGroup
 given_groups None = []
 given_groups (Some found) = found.items
+
+-- the variables kept of a part, where it is given
+unfoldable pub given_variables : Option (Vec variables.VariableGroup) → List variables.VariableGroup
+given_variables None = []
+given_variables (Some found) = found.items

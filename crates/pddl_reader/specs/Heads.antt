@@ -1,10 +1,12 @@
 -- What the first word of a list says of it.
 
-use Rattle.std.specs.Prelude.{ℕ, List, Bool, true, false, Option, Some, None, if◌then◌else◌}
+use Rattle.std.specs.Prelude.{ℕ, List, Bool, true, false, ◌||◌, Option, Some, None, if◌then◌else◌}
 use Rattle.pddl_words.specs.Words.{is_name}
 use Rattle.pddl_words.specs.declared.WordKind.{WordKind}
 use Rattle.pddl_words.specs.declared.WordKind.TheVariants.{Name, Variable, Keyword, Dash, Other}
 use Rattle.pddl_words.specs.Kinds.{is_same_word, kind_of_word}
+use Rattle.pddl_reader.specs.declared.heads.Scope.{Scope}
+use Rattle.pddl_reader.specs.declared.heads.Scope.TheVariants as scope
 use Rattle.pddl_reader.specs.declared.heads.FormulaHead.{FormulaHead}
 use Rattle.pddl_reader.specs.declared.heads.FormulaHead.TheVariants as formula
 use Rattle.pddl_reader.specs.declared.heads.DomainSection.{DomainSection}
@@ -50,6 +52,11 @@ is_variable_kind Other = false
 -- whether a word is a variable: `?` and a name
 unfoldable pub is_variable : List ℕ → Bool
 is_variable w = is_variable_kind (kind_of_word w)
+
+-- Term = N | V in actions, N in problems
+unfoldable pub is_term : Scope → List ℕ → Bool
+is_term scope.Action w = is_name w || is_variable w
+is_term scope.Problem w = is_name w
 
 -- what a word heads where a formula, an effect, an initial atom or the declaration of a predicate is due
 unfoldable pub formula_head : List ℕ → FormulaHead

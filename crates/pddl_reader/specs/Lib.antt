@@ -13,7 +13,9 @@ pub mod Forms
 pub mod Tables
 pub mod TypeOrder
 pub mod Objects
+pub mod Variables
 pub mod Declarations
+pub mod Resolved
 pub mod Domain
 pub mod Domains
 pub mod Problem

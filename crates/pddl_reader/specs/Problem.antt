@@ -7,24 +7,23 @@ use Rattle.strips_task.specs.declared.atoms.Atom.{Atom}
 use Rattle.strips_task.specs.declared.atoms.GroundCond.{GroundCond}
 use Rattle.strips_task.specs.declared.tasks.TaskParts.{TaskParts}
 use Rattle.pddl_reader.specs.Optional.{followed_by}
-use Rattle.pddl_reader.specs.Declarations.{Predicates, predicate_number}
+use Rattle.pddl_reader.specs.Declarations.{Known, ground_of}
 use Rattle.pddl_reader.specs.Domain.{DomainValue}
 use Rattle.pddl_reader.specs.Objects.{Objects, objects_from}
 use Rattle.pddl_reader.specs.Syntax.{LiteralForm, NameGroup, ProblemForm}
 
--- a ground condition on an atom without arguments
-abbrev pub ground_condition : Bool → ℕ → GroundCond
-ground_condition positive number = record { positive = positive; atom = record { pred = number; args = [] } }
+-- a ground condition on an atom
+abbrev pub ground_condition : Bool → Atom → GroundCond
+ground_condition positive atom = record { positive = positive; atom = atom }
 
 -- the ground condition that a literal of a problem stands for
-unfoldable pub ground_condition_of : Predicates → LiteralForm → Option GroundCond
-ground_condition_of predicates literal = option_map (ground_condition literal.positive) (predicate_number predicates literal.atom)
+unfoldable pub ground_condition_of : Known → LiteralForm → Option GroundCond
+ground_condition_of known literal = option_map (ground_condition literal.positive) (ground_of known literal.atom)
 
 -- the ground conditions that literals stand for, in text order
-unfoldable pub ground_conditions_of : Predicates → List LiteralForm → Option (List GroundCond)
-ground_conditions_of predicates [] = Some []
-ground_conditions_of predicates (literal ∷ literals) =
-    followed_by (ground_condition_of predicates literal) (ground_conditions_of predicates literals)
+unfoldable pub ground_conditions_of : Known → List LiteralForm → Option (List GroundCond)
+ground_conditions_of known [] = Some []
+ground_conditions_of known (literal ∷ literals) = followed_by (ground_condition_of known literal) (ground_conditions_of known literals)
 
 -- an initial atom before others; a negated one adds nothing
 unfoldable pub initial_before : Option GroundCond → Option (List Atom) → Option (List Atom)
@@ -32,9 +31,9 @@ initial_before None others = None
 initial_before (Some given) others = (if given.positive then followed_by (Some given.atom) others else others)
 
 -- the initial atoms that literals stand for, in text order
-unfoldable pub initial_of : Predicates → List LiteralForm → Option (List Atom)
-initial_of predicates [] = Some []
-initial_of predicates (literal ∷ literals) = initial_before (ground_condition_of predicates literal) (initial_of predicates literals)
+unfoldable pub initial_of : Known → List LiteralForm → Option (List Atom)
+initial_of known [] = Some []
+initial_of known (literal ∷ literals) = initial_before (ground_condition_of known literal) (initial_of known literals)
 
 -- a task of the domain, with the folded name of the problem
 abbrev pub task_named : DomainValue → List ℕ → List Atom → List GroundCond → TaskParts
@@ -66,11 +65,15 @@ domain_over domain objects = record domain { objects = objects }
 unfoldable pub domain_extended : DomainValue → List NameGroup → Option DomainValue
 domain_extended domain groups = option_map (domain_over domain) (objects_from domain.types domain.objects groups)
 
+-- what the atoms of a problem may speak of
+abbrev pub known_in : DomainValue → Known
+known_in domain = record { parents = domain.parents; objects = domain.objects; predicates = domain.predicates }
+
 -- the task of a problem beside a domain that has its objects
 unfoldable pub problem_within : ProblemForm → Option DomainValue → Option TaskParts
 problem_within problem None = None
 problem_within problem (Some domain) =
-    task_with domain problem.name (initial_of domain.predicates problem.init) (ground_conditions_of domain.predicates problem.goal)
+    task_with domain problem.name (initial_of (known_in domain) problem.init) (ground_conditions_of (known_in domain) problem.goal)
 
 -- the task that the syntax stands for, where objects are declared once and the names used are declared
 unfoldable pub problem_of : DomainValue → ProblemForm → Option TaskParts

@@ -1,14 +1,17 @@
 -- What a reader's answer says of the trees that it walks over.
 
-use Rattle.std.specs.Prelude.{ℕ, Bool, true, false, ◌≡◌, ◌≢◌, List, Option, Some, None, Result, Ok, Err}
+use Rattle.std.specs.Prelude.{ℕ, Bool, true, false, ◌≡◌, ◌≢◌, List, [], ◌∷◌, Option, Some, None, Result, Ok, Err}
 use Rattle.pddl_reader.specs.declared.fault.FaultKind.TheVariants.{OutOfMemory}
 use Rattle.pddl_reader.specs.declared.fault.ReadFault.{ReadFault}
 use Rattle.pddl_words.specs.Words.{is_name}
 use Rattle.pddl_reader.specs.declared.walk.NameWord.{NameWord}
+use Rattle.pddl_reader.specs.Keywords.{object_word}
 use Rattle.pddl_reader.specs.ReadFault.{out_of_memory}
 use Rattle.pddl_reader.specs.Optional.{with_front}
 use Rattle.pddl_reader.specs.Trees.{Trees, word, list}
-use Rattle.pddl_reader.specs.Syntax.{leading_name}
+use Rattle.std.specs.Global.{Vec}
+use Rattle.pddl_reader.specs.Forms.{name_forms}
+use Rattle.pddl_reader.specs.Syntax.{leading_name, typing, typing_of}
 use Rattle.pddl_reader.specs.Levels.{Levels, behind}
 
 -- a fault is want of memory, which has no place, or it says that the fact holds
@@ -40,6 +43,16 @@ abbrev pub TakesName : Result NameWord ReadFault → Levels → Levels → Type 
 TakesName (Ok name) old new = (old.top ≡ word name.text.now new.top) × (is_name name.text.now ≡ true) × (new.below ≡ old.below)
 TakesName (Err e) old new = Refuses e (leading_name old.top ≡ None)
 
+-- the walk steps over the types at the front
+abbrev pub TakesTypes : Result (Vec NameWord) ReadFault → Levels → Levels → Type 0
+TakesTypes (Ok types) old new = (typing_of old.top ≡ Some (typing new.top (name_forms types.items))) × (new.below ≡ old.below)
+TakesTypes (Err e) old new = Refuses e (typing_of old.top ≡ None)
+
+-- the type `object` alone, or memory ran out
+abbrev pub GivesObject : Result (Vec NameWord) ReadFault → Type 0
+GivesObject (Ok types) = name_forms types.items ≡ object_word ∷ []
+GivesObject (Err e) = e ≡ out_of_memory
+
 -- as `ReadsList`, where what is read is put behind `front`, which makes it `all`
 abbrev pub ReadsOnto : {Y : Type 0} → Result (Unit {0}) ReadFault → (Trees → Option (List Y)) → Levels → Levels → List Y → List Y → Type 0
 ReadsOnto (Ok _) read old new front all = (with_front front (read old.top) ≡ Some all) × (new ≡ behind old.below)
@@ -65,7 +78,7 @@ abbrev pub Puts : {Y : Type 0} → Result (Unit {0}) ReadFault → Option Y → 
 Puts (Ok _) defined after = defined ≡ Some after
 Puts (Err e) defined after = Refuses e (defined ≡ None)
 
--- the number is found, or there is none, or memory ran out
+-- what is defined, or that there is nothing, is answered, or memory ran out
 abbrev pub GivesOption : {X : Type 0} → Result (Option X) ReadFault → Option X → Type 0
 GivesOption (Ok x) defined = defined ≡ x
 GivesOption (Err e) defined = e ≡ out_of_memory

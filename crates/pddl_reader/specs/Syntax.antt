@@ -13,27 +13,37 @@ use Rattle.pddl_reader.specs.declared.heads.ActionPart.{ActionPart}
 use Rattle.pddl_reader.specs.declared.heads.ActionPart.TheVariants as part
 use Rattle.pddl_reader.specs.declared.heads.ProblemSection.{ProblemSection}
 use Rattle.pddl_reader.specs.declared.heads.ProblemSection.TheVariants as problem
-use Rattle.pddl_reader.specs.Keywords.{define_word, domain_word, problem_word, object_word}
-use Rattle.pddl_reader.specs.Heads.{is_and, is_dash, is_keyword, formula_head, domain_section, action_part, problem_section}
+use Rattle.pddl_reader.specs.Keywords.{define_word, domain_word, problem_word, either_word, object_word}
+use Rattle.pddl_reader.specs.declared.heads.Scope.{Scope}
+use Rattle.pddl_reader.specs.declared.heads.Scope.TheVariants as scope
+use Rattle.pddl_reader.specs.Heads.{is_and, is_dash, is_keyword, is_term, is_variable, formula_head, domain_section, action_part, problem_section}
 use Rattle.pddl_reader.specs.Optional.{guard, followed_by, joined}
 use Rattle.pddl_reader.specs.Trees.{Trees, none, word, list}
 
--- an atom as written: the word of its predicate
+-- an atom as written: the words of its predicate and of its terms
 pub record AtomForm : Type 0 where
   pub predicate : List ℕ
+  pub terms : List (List ℕ)
 
 -- an atom, or the negation of one
 pub record LiteralForm : Type 0 where
   pub positive : Bool
   pub atom : AtomForm
 
+-- a group of a list of typed variables: its variables, and the names of the types of which they may be
+pub record VariableGroup : Type 0 where
+  pub variables : List (List ℕ)
+  pub types : List (List ℕ)
+
 -- the declaration of a predicate
 pub record PredicateForm : Type 0 where
   pub name : List ℕ
+  pub variables : List VariableGroup
 
 -- an action, with the literals of its precondition and of its effect in text order
 pub record ActionForm : Type 0 where
   pub name : List ℕ
+  pub parameters : List VariableGroup
   pub precondition : List LiteralForm
   pub effect : List LiteralForm
 
@@ -60,7 +70,7 @@ pub record ProblemForm : Type 0 where
 
 -- the parts of an action that are given
 pub record ActionParts : Type 0 where
-  pub parameters : Option (List (List ℕ))
+  pub parameters : Option (List VariableGroup)
   pub precondition : Option (List LiteralForm)
   pub effect : Option (List LiteralForm)
 
@@ -152,9 +162,73 @@ leading_name none = None
 leading_name (word w others) = guard (is_name w) (Some w)
 leading_name (list inside others) = None
 
--- an atom: its predicate, and its terms, of which this reader takes none
-unfoldable pub atom_of : List ℕ → Trees → Option AtomForm
-atom_of predicate terms = ended terms (Some (record { predicate = predicate }))
+-- each tree is a word that passes the test, and these are the words
+unfoldable pub words_of : (List ℕ → Bool) → Trees → Option (List (List ℕ))
+words_of test none = Some []
+words_of test (word w others) = followed_by (guard (test w) (Some w)) (words_of test others)
+words_of test (list inside others) = None
+
+-- the values, where there is one at least
+unfoldable pub some_of : Option (List (List ℕ)) → Option (List (List ℕ))
+some_of None = None
+some_of (Some []) = None
+some_of (Some (w ∷ ws)) = Some (w ∷ ws)
+
+-- N+
+unfoldable pub names_of : Trees → Option (List (List ℕ))
+names_of trees = some_of (words_of is_name trees)
+
+-- `either N+`
+unfoldable pub either_in : Trees → Option (List (List ℕ))
+either_in trees = option_and_then names_of (behind_word either_word trees)
+
+-- the last group of a list of typed variables, if it has a variable: its type is `object`
+unfoldable pub last_variables : List (List ℕ) → List VariableGroup
+last_variables [] = []
+last_variables (v ∷ vs) = record { variables = v ∷ vs; types = object_word ∷ [] } ∷ []
+
+-- a group, which has a variable at least, where it has types
+unfoldable pub variable_group : List (List ℕ) → Option (List (List ℕ)) → Option VariableGroup
+variable_group [] types = None
+variable_group (v ∷ vs) None = None
+variable_group (v ∷ vs) (Some types) = Some (record { variables = v ∷ vs; types = types })
+
+-- Typed(V): groups `V+ - N` or `V+ - (either N+)`, and then possibly a last group `V+` of type `object`; behind the variables of
+-- a group that has begun
+unfoldable mutual
+  pub typed_variables : List (List ℕ) → Trees → Option (List VariableGroup)
+  typed_variables variables none = Some (last_variables variables)
+  typed_variables variables (word w others) =
+      (if is_dash w then variables_typed variables others else guard (is_variable w) (typed_variables (variables ++ w ∷ []) others))
+  typed_variables variables (list inside others) = None
+
+  -- the types behind the dash, and the groups behind them
+  pub variables_typed : List (List ℕ) → Trees → Option (List VariableGroup)
+  variables_typed variables none = None
+  variables_typed variables (word w others) =
+      followed_by (variable_group variables (guard (is_name w) (Some (w ∷ [])))) (typed_variables [] others)
+  variables_typed variables (list inside others) = followed_by (variable_group variables (either_in inside)) (typed_variables [] others)
+
+-- the types at the front, and what follows them
+pub record Typing : Type 0 where
+  pub types : List (List ℕ)
+  pub others : Trees
+
+abbrev pub typing : Trees → List (List ℕ) → Typing
+typing others types = record { types = types; others = others }
+
+unfoldable pub typing_of : Trees → Option Typing
+typing_of none = None
+typing_of (word w others) = guard (is_name w) (Some (typing others (w ∷ [])))
+typing_of (list inside others) = option_map (typing others) (either_in inside)
+
+-- an atom of a predicate and terms
+abbrev pub atom_with : List ℕ → List (List ℕ) → AtomForm
+atom_with predicate terms = record { predicate = predicate; terms = terms }
+
+-- an atom: its predicate, and its terms
+unfoldable pub atom_of : Scope → List ℕ → Trees → Option AtomForm
+atom_of scope predicate terms = option_map (atom_with predicate) (words_of (is_term scope) terms)
 
 -- what a name that is no reserved word heads
 abbrev pub name_by : {A : Type 0} → FormulaHead → Option A → Option A
@@ -164,21 +238,21 @@ name_by formula.Not value = None
 name_by formula.Reserved value = None
 name_by formula.Other value = None
 
--- Atom = `(N)`, where N is no reserved word
-unfoldable pub atom_in : Trees → Option AtomForm
-atom_in none = None
-atom_in (word w terms) = name_by (formula_head w) (atom_of w terms)
-atom_in (list inside others) = None
+-- Atom = `(N` Term*`)`, where N is no reserved word
+unfoldable pub atom_in : Scope → Trees → Option AtomForm
+atom_in scope none = None
+atom_in scope (word w terms) = name_by (formula_head w) (atom_of scope w terms)
+atom_in scope (list inside others) = None
 
 -- a literal with its sign
 abbrev pub literal : Bool → AtomForm → LiteralForm
 literal positive atom = record { positive = positive; atom = atom }
 
 -- what `not` negates: one atom
-unfoldable pub negated_of : Trees → Option LiteralForm
-negated_of none = None
-negated_of (word w others) = None
-negated_of (list inside others) = ended others (option_map (literal false) (atom_in inside))
+unfoldable pub negated_of : Scope → Trees → Option LiteralForm
+negated_of scope none = None
+negated_of scope (word w others) = None
+negated_of scope (list inside others) = ended others (option_map (literal false) (atom_in scope inside))
 
 -- what a word heads where a literal may stand
 abbrev pub literal_by : FormulaHead → Option AtomForm → Option LiteralForm → Option LiteralForm
@@ -189,13 +263,13 @@ literal_by formula.Reserved atom negated = None
 literal_by formula.Other atom negated = None
 
 -- Literal = Atom | `(not` Atom`)`, from its first word
-unfoldable pub literal_of : List ℕ → Trees → Option LiteralForm
-literal_of w others = literal_by (formula_head w) (atom_of w others) (negated_of others)
+unfoldable pub literal_of : Scope → List ℕ → Trees → Option LiteralForm
+literal_of scope w others = literal_by (formula_head w) (atom_of scope w others) (negated_of scope others)
 
 -- InitItem = Literal
 unfoldable pub init_item_in : Trees → Option LiteralForm
 init_item_in none = None
-init_item_in (word w others) = literal_of w others
+init_item_in (word w others) = literal_of scope.Problem w others
 init_item_in (list inside others) = None
 
 -- a literal as a conjunction
@@ -204,35 +278,35 @@ alone l = l ∷ []
 
 -- Formula = `()` | `(and` Formula*`)` | Literal, and an Effect is the same; nested `and` is flattened in text order
 unfoldable mutual
-  pub formula_in : Trees → Option (List LiteralForm)
-  formula_in none = Some []
-  formula_in (word w others) = (if is_and w then conjuncts_of others else option_map alone (literal_of w others))
-  formula_in (list inside others) = None
+  pub formula_in : Scope → Trees → Option (List LiteralForm)
+  formula_in scope none = Some []
+  formula_in scope (word w others) = (if is_and w then conjuncts_of scope others else option_map alone (literal_of scope w others))
+  formula_in scope (list inside others) = None
 
-  pub conjuncts_of : Trees → Option (List LiteralForm)
-  conjuncts_of none = Some []
-  conjuncts_of (word w others) = None
-  conjuncts_of (list inside others) = joined (formula_in inside) (conjuncts_of others)
+  pub conjuncts_of : Scope → Trees → Option (List LiteralForm)
+  conjuncts_of scope none = Some []
+  conjuncts_of scope (word w others) = None
+  conjuncts_of scope (list inside others) = joined (formula_in scope inside) (conjuncts_of scope others)
 
--- the variables of a predicate, of which this reader takes none
+-- a predicate with its variables
+abbrev pub predicate_with : List ℕ → List VariableGroup → PredicateForm
+predicate_with name variables = record { name = name; variables = variables }
+
+-- a predicate: its name, and its variables
 unfoldable pub predicate_of : List ℕ → Trees → Option PredicateForm
-predicate_of w variables = ended variables (Some (record { name = w }))
+predicate_of w variables = option_map (predicate_with w) (typed_variables [] variables)
 
--- `(N)`, where N is no reserved word
+-- `(N` Typed(V)`)`, where N is no reserved word
 unfoldable pub predicate_in : Trees → Option PredicateForm
 predicate_in none = None
 predicate_in (word w variables) = name_by (formula_head w) (predicate_of w variables)
 predicate_in (list inside others) = None
 
--- the parameters of an action, of which this reader takes none
-unfoldable pub parameters_of : Trees → Option (List (List ℕ))
-parameters_of trees = ended trees (Some [])
-
 -- an action of which no part is given
 unfoldable pub no_parts : ActionParts
 no_parts = record { parameters = None; precondition = None; effect = None }
 
-abbrev pub with_parameters : ActionParts → List (List ℕ) → ActionParts
+abbrev pub with_parameters : ActionParts → List VariableGroup → ActionParts
 with_parameters given value = record given { parameters = Some value }
 
 abbrev pub with_precondition : ActionParts → List LiteralForm → ActionParts
@@ -249,16 +323,16 @@ is_part_given part.Effect given = is_some given.effect
 
 -- the parts with this one, whose value is the list
 unfoldable pub part_by : ActionPart → ActionParts → Trees → Option ActionParts
-part_by part.Parameters given value = option_map (with_parameters given) (parameters_of value)
-part_by part.Precondition given value = option_map (with_precondition given) (formula_in value)
-part_by part.Effect given value = option_map (with_effect given) (formula_in value)
+part_by part.Parameters given value = option_map (with_parameters given) (typed_variables [] value)
+part_by part.Precondition given value = option_map (with_precondition given) (formula_in scope.Action value)
+part_by part.Effect given value = option_map (with_effect given) (formula_in scope.Action value)
 
 -- the parts with the one that a word names, each at most once
 unfoldable pub part_named : Option ActionPart → ActionParts → Trees → Option ActionParts
 part_named None given value = None
 part_named (Some named) given value = guard (not (is_part_given named given)) (part_by named given value)
 
--- ActPart = `:parameters ()` | `:precondition` Formula | `:effect` Effect, in any order
+-- ActPart = `:parameters (`Typed(V)`)` | `:precondition` Formula | `:effect` Effect, in any order
 unfoldable pub parts_of : ActionParts → Trees → Option ActionParts
 parts_of given none = Some given
 parts_of given (word w none) = None
@@ -266,9 +340,14 @@ parts_of given (word w (word v others)) = None
 parts_of given (word w (list value others)) = option_and_then (λ more. parts_of more others) (part_named (action_part w) given value)
 parts_of given (list inside others) = None
 
--- an action with its name; a part that is not given has no literals
+-- an action with its name; a part that is not given holds nothing
 unfoldable pub action_form : List ℕ → ActionParts → ActionForm
-action_form name parts = record { name = name; precondition = unwrap_or parts.precondition []; effect = unwrap_or parts.effect [] }
+action_form name parts = record {
+  name = name;
+  parameters = unwrap_or parts.parameters [];
+  precondition = unwrap_or parts.precondition [];
+  effect = unwrap_or parts.effect [];
+}
 
 -- `(:action N` ActPart*`)`, behind the keyword
 unfoldable pub action_of : Trees → Option ActionForm
@@ -316,7 +395,7 @@ unfoldable pub domain_section_headed : Option DomainSection → DomainSections �
 domain_section_headed None given trees = None
 domain_section_headed (Some headed) given trees = guard (not (is_domain_section_given headed given)) (domain_section_by headed given trees)
 
--- DomSection = `(:requirements K*)` | `(:types Typed(N))` | `(:constants Typed(N))` | `(:predicates (N)*)` | `(:action N` ActPart*`)`
+-- DomSection = `(:requirements K*)` | `(:types Typed(N))` | `(:constants Typed(N))` | `(:predicates (N` Typed(V)`)*)` | `(:action N` ActPart*`)`
 unfoldable pub domain_section_in : DomainSections → Trees → Option DomainSections
 domain_section_in given none = None
 domain_section_in given (word w others) = domain_section_headed (domain_section w) given others
@@ -391,7 +470,7 @@ with_goal given value = record given { goal = Some value }
 unfoldable pub goal_of : Trees → Option (List LiteralForm)
 goal_of none = None
 goal_of (word w others) = None
-goal_of (list inside others) = ended others (formula_in inside)
+goal_of (list inside others) = ended others (formula_in scope.Problem inside)
 
 -- whether a section is given already
 unfoldable pub is_problem_section_given : ProblemSection → ProblemSections → Bool

@@ -1,11 +1,11 @@
 -- The types of a domain and their order (PDDL 2.1, Fox and Long 2003, section 2: types form a tree below `object`).
 
-use Rattle.std.specs.Prelude.{ℕ, zero, suc, Bool, true, ◌&&◌, nat_eq, nat_lt, is_some, List, [], ◌∷◌, ◌++◌, map, length, slice_index, Option, Some, None, unwrap_or, codes, if◌then◌else◌}
+use Rattle.std.specs.Prelude.{◌≡◌, ◌<◌, ◌↔◌, IsTrue, ℕ, zero, suc, Bool, true, ◌&&◌, nat_eq, nat_lt, is_some, List, [], ◌∷◌, ◌++◌, map, length, slice_index, Option, Some, None, unwrap_or, if◌then◌else◌}
 use Rattle.std.specs.List.{list_all}
 use Rattle.std.specs.Str.{bytes_eq}
 use Rattle.pddl_words.specs.Words.{folded}
 use Rattle.strips_task.specs.Names.{number_named}
-use Rattle.strips_task.specs.Types.{is_below}
+use Rattle.strips_task.specs.Types.{IsTypeTree, ancestor, is_below}
 use Rattle.strips_task.specs.WellFormed.{most_types}
 use Rattle.pddl_reader.specs.declared.resolution.types.KnownTypes.{KnownTypes}
 use Rattle.pddl_reader.specs.declared.resolution.types.TypeTables.{TypeTables}
@@ -87,6 +87,14 @@ is_tree parents =
     && (nat_eq (slice_index parents 0) 0
     && (list_all (λ parent. nat_lt parent (length parents)) parents
     && all_below (λ type. is_below parents type 0) (length parents)))
+
+-- the test is passed by the trees below `object`, and by nothing else
+abbrev pub IsTreeTested : Type 0
+IsTreeTested = (parents : List ℕ) → IsTrue (is_tree parents) ↔ IsTypeTree parents
+
+-- in a tree no type but `object` stands some parents above itself
+abbrev pub HasNoCycles : Type 0
+HasNoCycles = (parents : List ℕ) → IsTypeTree parents → (type steps : ℕ) → type < length parents → ancestor parents (suc steps) type ≡ type → type ≡ 0
 
 -- the types with their order, where their parents form a tree
 unfoldable pub ordered : Option TypeTables → Option KnownTypes

@@ -3,7 +3,7 @@
 ghost use Rattle.std.specs.Prelude.{◌≡◌};
 ghost use Rattle.pddl_words.specs.Words.{is_name};
 ghost use Rattle.pddl_reader.specs.Keywords.{is_connective, is_quantifier, is_comparison, is_other_reserved};
-ghost use Rattle.pddl_reader.specs.Heads.{is_and, is_dash, is_either, is_keyword, is_variable, formula_head, domain_section, action_part, problem_section};
+ghost use Rattle.pddl_reader.specs.Heads.{is_and, is_dash, is_either, is_keyword, is_term, is_variable, formula_head, domain_section, action_part, problem_section};
 
 use pddl_tokens::{WordKind, same_folded, word_kind};
 
@@ -16,6 +16,13 @@ pub(crate) enum FormulaHead {
     Reserved,
     Name,
     Other,
+}
+
+/// Where an atom stands. Variables may be terms in actions alone.
+#[derive(Clone, Copy, Debug)]
+pub(crate) enum Scope {
+    Action,
+    Problem,
 }
 
 /// The sections of a domain.
@@ -97,6 +104,17 @@ pub(crate) fn is_variable(word: &[u8]) -> bool
         WordKind::Keyword => false,
         WordKind::Dash => false,
         WordKind::Other => false,
+    }
+}
+
+/// Whether the word may be a term.
+#[tactic(auto, unfolding(crate::specs::Heads::is_term))]
+pub(crate) fn is_term(scope: Scope, word: &[u8]) -> bool
+    ensures { result ≡ is_term scope word.now }
+{
+    match scope {
+        Scope::Action => is_name(word) || is_variable(word),
+        Scope::Problem => is_name(word),
     }
 }
 

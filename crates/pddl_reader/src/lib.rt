@@ -1,4 +1,4 @@
-//! Reads PDDL domains and problems (PDDL 2.1, Fox and Long 2003), for now those whose predicates and actions have no parameters.
+//! Reads PDDL domains and problems (PDDL 2.1, Fox and Long 2003, level 1): STRIPS with types, and negated conditions.
 //!
 //! A text passes through three layers. [`text`] finds bad bytes and wrong parentheses in one pass. [`syntax`] then walks over
 //! the tokens by recursive descent and keeps what the grammar allows as tables of slices of the text. [`resolution`] looks the

@@ -3,8 +3,12 @@
 //! Tables are filled in text order, so that a name's number is its place among those declared. Each look-up is one hash.
 
 pub(crate) mod actions;
+pub(crate) mod atoms;
 pub(crate) mod domain;
 pub(crate) mod names;
 pub(crate) mod objects;
 pub(crate) mod problem;
+pub(crate) mod tables;
+pub(crate) mod terms;
 pub(crate) mod types;
+pub(crate) mod variables;

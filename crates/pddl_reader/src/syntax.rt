@@ -10,32 +10,42 @@ pub(crate) mod lists;
 pub(crate) mod problem;
 pub(crate) mod refusals;
 pub(crate) mod typed;
+pub(crate) mod variables;
 
 use crate::walk::{NameWord, Word};
 
 /// An atom as written.
-#[derive(Clone, Copy, Debug)]
+#[derive(Drop)]
 pub(crate) struct AtomSyntax<'a> {
     pub(crate) predicate: NameWord<'a>,
+    pub(crate) terms: Vec<Word<'a>>,
 }
 
 /// An atom, or the negation of one.
-#[derive(Clone, Copy, Debug)]
+#[derive(Drop)]
 pub(crate) struct LiteralSyntax<'a> {
     pub(crate) positive: bool,
     pub(crate) atom: AtomSyntax<'a>,
 }
 
+/// A group of a list of typed variables, with the names of the types of which they may be.
+#[derive(Drop)]
+pub(crate) struct VariableGroup<'a> {
+    pub(crate) variables: Vec<Word<'a>>,
+    pub(crate) kinds: Vec<NameWord<'a>>,
+}
+
 /// The declaration of a predicate.
-#[derive(Clone, Copy, Debug)]
+#[derive(Drop)]
 pub(crate) struct PredicateSyntax<'a> {
     pub(crate) name: NameWord<'a>,
+    pub(crate) variables: Vec<VariableGroup<'a>>,
 }
 
 /// The parts of an action that are given.
 #[derive(Drop)]
 pub(crate) struct ActionParts<'a> {
-    pub(crate) parameters: Option<Vec<Word<'a>>>,
+    pub(crate) parameters: Option<Vec<VariableGroup<'a>>>,
     pub(crate) precondition: Option<Vec<LiteralSyntax<'a>>>,
     pub(crate) effect: Option<Vec<LiteralSyntax<'a>>>,
 }

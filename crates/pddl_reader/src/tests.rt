@@ -1,5 +1,7 @@
 //! Kinds and places of faults, which no clause tells apart, and whole texts once.
 
+ghost use Rattle.std.specs.Prelude.{◌≤◌};
+
 use crate::{FaultKind, ReadFault, read_domain, read_problem};
 use pddl_tokens::Span;
 use std::alloc::Global;
@@ -29,23 +31,6 @@ fn refuses_domain(alloc: Global, text: &[u8], kind: FaultKind, start: u32, end: 
                     span: Span { start, end },
                 }
         }
-    }
-}
-
-/// Whether a text is refused as a problem of the small domain for this cause at this place.
-fn refuses_problem(alloc: Global, text: &[u8], kind: FaultKind, start: u32, end: u32) -> bool {
-    match read_domain(alloc, LAMP) {
-        Ok(domain) => match read_problem(alloc, domain, text) {
-            Ok(_) => false,
-            Err(fault) => {
-                fault
-                    == ReadFault {
-                        kind,
-                        span: Span { start, end },
-                    }
-            }
-        },
-        Err(_) => false,
     }
 }
 
@@ -106,314 +91,487 @@ fn lists_inside_lists(rt: HostRuntime) -> Result<(), Fail> {
     Ok(())
 }
 
-#[test]
-fn what_is_not_read(rt: HostRuntime) {
-    let alloc = rt.alloc();
-    assert!(rt;
-        refuses_domain(
-            alloc,
-            b"(define (domain t) (:functions (c)))",
-            FaultKind::Unsupported,
-            20,
-            30
-        )
-    );
-    assert!(rt;
-        refuses_domain(
-            alloc,
-            b"(define (domain t) (types))",
-            FaultKind::Expected,
-            20,
-            25
-        )
-    );
-    assert!(rt;
-        refuses_domain(
-            alloc,
-            b"(define (domain f) (:predicates (p)) (:action g :precondition (forall (?x) (p))))",
-            FaultKind::Unsupported,
-            63,
-            69
-        )
-    );
-    assert!(rt;
-        refuses_domain(
-            alloc,
-            b"(define (domain f) (:predicates (and)))",
-            FaultKind::Unsupported,
-            33,
-            36
-        )
-    );
-    assert!(rt;
-        refuses_domain(
-            alloc,
-            b"(define (domain f) (:predicates (p ?x)))",
-            FaultKind::Unsupported,
-            35,
-            37
-        )
-    );
-    assert!(rt;
-        refuses_domain(
-            alloc,
-            b"(define (domain f) (:action g :precondition (not (not (p)))))",
-            FaultKind::Unsupported,
-            50,
-            53
-        )
-    );
-    assert!(rt;
-        refuses_domain(
-            alloc,
-            b"(define (domain f) (:action g :precondition (not)))",
-            FaultKind::Expected,
-            48,
-            49
-        )
-    );
-}
+/// A domain with types and a constant.
+const DEPOT: &[u8] = b"(define (domain depot)
+  (:types truck - vehicle vehicle)
+  (:constants home - truck)
+  (:predicates (at ?v - vehicle) (lit)))
+";
 
-#[test]
-fn what_stands_twice(rt: HostRuntime) {
-    let alloc = rt.alloc();
-    assert!(rt;
-        refuses_domain(
-            alloc,
-            b"(define (domain f) (:predicates) (:PREDICATES))",
-            FaultKind::Repeated,
-            34,
-            45
-        )
-    );
-    assert!(rt;
-        refuses_domain(
-            alloc,
-            b"(define (domain f) (:predicates (p) (P)))",
-            FaultKind::Repeated,
-            37,
-            38
-        )
-    );
-    assert!(rt;
-        refuses_domain(
-            alloc,
-            b"(define (domain f) (:action a) (:action a))",
-            FaultKind::Repeated,
-            40,
-            41
-        )
-    );
-    assert!(rt;
-        refuses_domain(
-            alloc,
-            b"(define (domain f) (:action a :effect () :effect ()))",
-            FaultKind::Repeated,
-            41,
-            48
-        )
-    );
-}
-
-#[test]
-fn faults_of_problems(rt: HostRuntime) {
-    let alloc = rt.alloc();
-    assert!(rt;
-        refuses_problem(
-            alloc,
-            b"(define (problem x) (:domain lamp) (:init (drak)) (:goal (lit)))",
-            FaultKind::UnknownName,
-            43,
-            47
-        )
-    );
-    assert!(rt;
-        refuses_problem(
-            alloc,
-            b"(define (problem x) (:domain lamp))",
-            FaultKind::Expected,
-            34,
-            35
-        )
-    );
-    assert!(rt;
-        refuses_problem(
-            alloc,
-            b"(define (problem x) (:goal (lit)))",
-            FaultKind::Expected,
-            33,
-            34
-        )
-    );
-}
-
-/// A text, and the fault that it is refused for.
-#[derive(Clone, Copy)]
-struct Case {
-    text: &'static str,
-    kind: FaultKind,
+/// A text, and where its fault stands.
+#[derive(Drop)]
+struct MarkedText {
+    text: Vec<u8>,
     start: u32,
     end: u32,
 }
 
-/// How many of the cases are refused as domains with another fault, or not at all.
-fn other_domains(alloc: Global, cases: &[Case]) -> usize {
-    let mut others = 0;
-    for case in cases {
-        if !refuses_domain(alloc, case.text.as_bytes(), case.kind, case.start, case.end)
-            && others < 100
-        {
-            others += 1;
+/// The text of a line in which brackets stand around the bytes of the fault.
+fn marked(alloc: Global, line: &str) -> Result<MarkedText, Fail> {
+    let mut text = Vec::new(alloc);
+    let mut place: u32 = 0;
+    let mut start = 0;
+    let mut end = 0;
+    for byte in line.as_bytes() {
+        if *byte == b'[' {
+            start = place;
+        } else if *byte == b']' {
+            end = place;
+        } else {
+            text.push(*byte)?;
+            place = place.wrapping_add(1);
         }
     }
-    others
+    Ok(MarkedText { text, start, end })
 }
 
-/// How many of the cases are refused as problems of the small domain with another fault, or not at all.
-fn other_problems(alloc: Global, cases: &[Case]) -> usize {
-    let mut others = 0;
-    for case in cases {
-        if !refuses_problem(alloc, case.text.as_bytes(), case.kind, case.start, case.end)
-            && others < 100
-        {
-            others += 1;
+/// Whether a fault has the kind with this name and stands at the mark.
+fn is_marked(fault: ReadFault, kind: &str, case: &MarkedText) -> bool {
+    fault.kind.word() == kind && fault.span.start == case.start && fault.span.end == case.end
+}
+
+/// Why a text is refused as a domain.
+fn domain_fault(alloc: Global, text: &[u8]) -> Option<ReadFault> {
+    match read_domain(alloc, text) {
+        Ok(_) => None,
+        Err(fault) => Some(fault),
+    }
+}
+
+/// Why a text is refused as a problem of a domain.
+fn problem_fault(alloc: Global, domain: &[u8], text: &[u8]) -> Option<ReadFault> {
+    match read_domain(alloc, domain) {
+        Ok(domain) => match read_problem(alloc, domain, text) {
+            Ok(_) => None,
+            Err(fault) => Some(fault),
+        },
+        Err(fault) => Some(fault),
+    }
+}
+
+/// Whether a line of a table is a kind and a text that is refused so: as a domain, or as a problem of the domain with types.
+fn holds(alloc: Global, line: &str, is_problem: bool) -> Result<bool, Fail> {
+    let Some((kind, rest)) = line.split_once(' ') else {
+        return Ok(false);
+    };
+    let case = marked(alloc, rest)?;
+    let fault = if is_problem {
+        problem_fault(alloc, DEPOT, case.text.as_slice())
+    } else {
+        domain_fault(alloc, case.text.as_slice())
+    };
+    match fault {
+        Some(fault) => Ok(is_marked(fault, kind, &case)),
+        None => Ok(false),
+    }
+}
+
+/// How many lines of a table do not hold, up to 99.
+fn failures(alloc: Global, table: &str, is_problem: bool) -> Result<u32, Fail> {
+    let mut count: u32 = 0;
+    for line in table.lines() {
+        if !holds(alloc, line, is_problem)? && count < 99 {
+            count += 1;
         }
     }
-    others
+    Ok(count)
+}
+
+/// Faults of the grammar of domains.
+const SHAPES_OF_DOMAINS: &str = "\
+Expected ([defin] (domain t))
+Expected (define ([problem] t))
+Expected (define (domain [?t]))
+Expected (define (domain t [u]))
+Expected (define (domain[)])
+Expected (define[)]
+Expected (define (domain t) [x])
+Expected (define (domain t) ([types] a))
+Expected (define (domain t) ([)])
+Expected (define (domain t) ([(]a)))
+Unsupported (define (domain t) ([:functions] (c)))
+Unsupported (define (domain t) ([:parameters]))
+Unsupported (define (domain t) ([:objects] a))
+Expected (define (domain t) ([:1a]))
+Expected (define (domain t) ([and]))
+Expected (define (domain t) (:requirements [strips]))
+Expected (define (domain t) (:requirements [(]:strips)))
+Repeated (define (domain t) (:requirements) ([:requirements]))
+Expected (define (domain t) (:types [?a]))
+Expected (define (domain t) (:types [(]a)))
+Expected (define (domain t) (:types [-] a))
+Expected (define (domain t) (:types a -[)])
+Expected (define (domain t) (:types a - [:b]))
+Unsupported (define (domain t) (:types a - ([either] b c)))
+Unsupported (define (domain t) (:types a - ([either] ?x (y))))
+Expected (define (domain t) (:types a - [(]foo b)))
+Expected (define (domain t) (:types a - [(])))
+Expected (define (domain t) (:types a - [(](either b))))
+Repeated (define (domain t) (:types) ([:TYPES]))
+Repeated (define (domain t) (:constants) ([:constants]))
+";
+
+/// Faults of the declarations of predicates.
+const TYPED_LISTS: &str = "\
+Unsupported (define (domain t) (:predicates ([and])))
+Unsupported (define (domain t) (:predicates ([not] ?a)))
+Unsupported (define (domain t) (:predicates ([=] ?a ?b)))
+Expected (define (domain t) (:predicates ([?p])))
+Expected (define (domain t) (:predicates ([)]))
+Expected (define (domain t) (:predicates [p]))
+Expected (define (domain t) (:predicates ([(]p))))
+Expected (define (domain t) (:predicates (p [a])))
+Expected (define (domain t) (:predicates (p [(]?x))))
+Expected (define (domain t) (:predicates (p ?x - [?y])))
+Expected (define (domain t) (:predicates (p ?x -[)]))
+Expected (define (domain t) (:predicates (p [-] t)))
+Expected (define (domain t) (:predicates (p ?x - ([foo] a))))
+Expected (define (domain t) (:predicates (p ?x - ([)])))
+Expected (define (domain t) (:predicates (p ?x - ([(]either a)))))
+Expected (define (domain t) (:predicates (p ?x - (either[)])))
+Expected (define (domain t) (:predicates (p ?x - (either a [?y]))))
+Expected (define (domain t) (:predicates (p ?x - (either a [(]b)))))
+Expected (define (domain t) (:predicates (p ?x [:y])))
+Repeated (define (domain t) (:predicates) ([:predicates]))
+";
+
+/// Faults of the grammar of actions.
+const SHAPES_OF_ACTIONS: &str = "\
+Expected (define (domain t) (:action[)])
+Expected (define (domain t) (:action [:a]))
+Expected (define (domain t) (:action [(]a)))
+Expected (define (domain t) (:action a [x]))
+Expected (define (domain t) (:action a [(])))
+Expected (define (domain t) (:action a :parameters[)])
+Expected (define (domain t) (:action a :parameters [:effect] ()))
+Unsupported (define (domain t) (:action a [:predicates] ()))
+Expected (define (domain t) (:action a [:1] ()))
+Repeated (define (domain t) (:action a :effect () [:effect] ()))
+Repeated (define (domain t) (:action a :parameters () [:parameters] ()))
+Repeated (define (domain t) (:action a :precondition () [:precondition] ()))
+Expected (define (domain t) (:action a :parameters ([x])))
+Unsupported (define (domain t) (:action a :effect ([forall] (?x) (p))))
+Unsupported (define (domain t) (:action a :effect ([when] (p) (p))))
+Unsupported (define (domain t) (:action a :precondition ([or] (p))))
+Unsupported (define (domain t) (:action a :precondition ([=] ?x ?y)))
+Unsupported (define (domain t) (:action a :precondition ([either])))
+Unsupported (define (domain t) (:action a :precondition (not ([not] (p)))))
+Unsupported (define (domain t) (:action a :precondition (not ([and] (p)))))
+Unsupported (define (domain t) (:action a :precondition (not ([>] a b))))
+Expected (define (domain t) (:action a :precondition (not[)]))
+Expected (define (domain t) (:action a :precondition (not ([)])))
+Expected (define (domain t) (:action a :precondition (not [p])))
+Expected (define (domain t) (:action a :precondition (not (p) [x])))
+Expected (define (domain t) (:action a :precondition (not ([(]p)))))
+Unsupported (define (domain t) (:action a :precondition (p [(]f ?x))))
+Unsupported (define (domain t) (:action a :effect (increase [(]total-cost) 1)))
+Expected (define (domain t) (:action a :precondition (p [:x])))
+Expected (define (domain t) (:action a :precondition ([?x])))
+Expected (define (domain t) (:action a :precondition ([:p])))
+Expected (define (domain t) (:action a :precondition (and [p])))
+Expected (define (domain t) (:action a :precondition ([(]p))))
+";
+
+/// Faults of types and constants.
+const TYPES: &str = "\
+Repeated (define (domain t) (:types a - b c - a [a] - c))
+Repeated (define (domain t) (:types a - b [a]))
+TypeCycle (define (domain t) (:types [a] - b b - a))
+TypeCycle (define (domain t) (:types [a] - a))
+TypeCycle (define (domain t) (:types [a] b - a))
+TypeCycle (define (domain t) (:types d - a [a] - b b - a))
+TypeCycle (define (domain t) (:types b - c d - e e - d1 d1 - d2 [d2] - d3 d3 - d2))
+TypeCycle (define (domain t) (:types [object] - a))
+TypeCycle (define (domain t) (:types object - object [object] - a))
+TypeCycle (define (domain t) (:types [object] - a a - b a - c))
+Repeated (define (domain t) (:types a - b b - a [a] - c))
+UnknownName (define (domain t) (:constants a - [b]))
+Repeated (define (domain t) (:types b) (:constants a - b [a]))
+Repeated (define (domain t) (:types b) (:constants a - b [A] - u))
+UnknownName (define (domain t) (:constants a - [u] b - v))
+UnknownName (define (domain t) (:predicates (p ?x - v)) (:constants c - [w]))
+";
+
+/// Faults of declarations, and the order in which they are found.
+const DECLARATIONS: &str = "\
+Repeated (define (domain t) (:predicates (p) ([P] ?x - u)))
+UnknownName (define (domain t) (:predicates (p ?x - [u])))
+UnknownName (define (domain t) (:predicates (p ?x - (either object [u]))))
+UnknownName (define (domain t) (:action a :precondition (q)) (:predicates (p ?x - [u])))
+Repeated (define (domain t) (:action a) (:action [a]))
+Repeated (define (domain t) (:action a :parameters (?x [?X])))
+Repeated (define (domain t) (:types t) (:action a :parameters (?x - t [?x] - u)))
+UnknownName (define (domain t) (:action a :parameters (?x - [u])))
+UnknownName (define (domain t) (:action a :precondition ([q])))
+UnknownName (define (domain t) (:predicates (p)) (:action a :effect (r) :precondition ([q])))
+UnknownName (define (domain t) (:predicates (p)) (:action a :effect (and (p) (not ([q])))))
+UnknownName (define (domain t) (:predicates (p)) (:action a :precondition ([q]) :parameters ()))
+UnknownName (define (domain t) (:predicates (p)) (:action a :precondition (q) :parameters (?x - [u])))
+";
+
+/// Faults of the atoms of actions.
+const ATOMS: &str = "\
+WrongCount (define (domain t) (:predicates (p ?x)) (:action a :precondition ([p])))
+WrongCount (define (domain t) (:predicates (p ?x)) (:action a :parameters (?y) :precondition ([p] ?y ?y)))
+UnknownName (define (domain t) (:predicates (p ?x)) (:action a :parameters (?y) :precondition (p [?x])))
+UnknownName (define (domain t) (:predicates (p ?x)) (:action a :effect (p [c])))
+WrongType (define (domain t) (:types t u) (:predicates (p ?x - t)) (:action a :parameters (?y - u) :precondition (p [?y])))
+WrongType (define (domain t) (:types t u) (:predicates (p ?x ?y - t)) (:action a :parameters (?z - u) :precondition (p [?z] ?w)))
+WrongType (define (domain t) (:types t u) (:predicates (p ?x - t)) (:action a :parameters (?y - (either t u)) :precondition (p [?y])))
+WrongType (define (domain t) (:types t u) (:constants c - u) (:predicates (p ?x - t)) (:action a :effect (p [c])))
+WrongType (define (domain t) (:types t - u u) (:predicates (p ?x - t)) (:action a :parameters (?y - u) :effect (not (p [?y]))))
+";
+
+/// Faults of the grammar of problems.
+const SHAPES_OF_PROBLEMS: &str = "\
+Expected (define (problem x) (:goal (lit))[)]
+Expected (define (problem x) (:goal (lit))[)] x
+Expected (define (problem x) (:domain d)[)]
+Expected (define ([domain] x))
+Repeated (define (problem x) (:domain d) ([:domain] d))
+Expected (define (problem x) (:domain d) (:goal (lit)) ([goal]))
+Unsupported (define (problem x) (:domain d) (:goal (lit)) ([:types]))
+Unsupported (define (problem x) (:domain d) ([:constraints] (x)))
+Expected (define (problem x) (:domain d) (:goal[)])
+Expected (define (problem x) (:domain d) (:goal [lit]))
+Expected (define (problem x) (:domain d) (:goal (lit) [(]lit)))
+Repeated (define (problem x) (:domain d) (:goal (lit)) ([:goal] (lit)))
+Unsupported (define (problem x) (:domain d) (:goal ([or] (lit))))
+Unsupported (define (problem x) (:domain d) (:goal (not ([not] (lit)))))
+Expected (define (problem x) (:domain d) (:init [lit]))
+Expected (define (problem x) (:domain d) (:init ([)]) (:goal ()))
+Unsupported (define (problem x) (:domain d) (:init ([and] (lit))))
+Unsupported (define (problem x) (:domain d) (:init ([=] (f) 1)))
+Unsupported (define (problem x) (:domain d) (:init (not ([and]))))
+Expected (define (problem x) (:domain d) (:init (at [?v])) (:goal ()))
+Unsupported (define (problem x) (:domain d) (:init (at [(]f))) (:goal ()))
+Repeated (define (problem x) (:domain d) (:metric) ([:metric]))
+Repeated (define (problem x) (:domain d) (:length (x 1)) ([:length]))
+Repeated (define (problem x) (:domain d) (:objects) ([:objects]))
+Expected (define (problem x) (:domain d) (:requirements [x]))
+Unsupported (define (problem x) (:domain d) (:objects a - ([either] b)))
+";
+
+/// Faults of the names in problems, and their order.
+const NAMES: &str = "\
+Repeated (define (problem x) (:domain d) (:objects [home] - vehicle) (:goal ()))
+UnknownName (define (problem x) (:domain d) (:objects a - [ship]) (:goal ()))
+Repeated (define (problem x) (:domain d) (:objects a - truck [a] - ship) (:goal ()))
+UnknownName (define (problem x) (:domain d) (:init (at [b])) (:goal ()))
+WrongCount (define (problem x) (:domain d) (:init ([at])) (:goal ()))
+WrongCount (define (problem x) (:domain d) (:init ([lit] home)) (:goal ()))
+WrongType (define (problem x) (:domain d) (:objects c) (:init (at [c])) (:goal ()))
+UnknownName (define (problem x) (:domain d) (:goal (q)) (:init ([r])))
+UnknownName (define (problem x) (:domain d) (:init (not (at [b]))) (:goal ()))
+UnknownName (define (problem x) (:domain d) (:init (lit)) (:goal (and (lit) ([dark]))))
+UnknownName (define (problem x) (:domain d) (:goal (q)) (:objects a - [ship]))
+UnknownName (define (problem x) (:domain d) (:goal (not (at [nobody]))))
+";
+
+#[test]
+fn the_shape_of_domains(rt: HostRuntime) -> Result<(), Fail> {
+    assert_eq!(rt; failures(rt.alloc(), SHAPES_OF_DOMAINS, false)?, 0);
+    Ok(())
 }
 
 #[test]
-fn types_and_constants(rt: HostRuntime) {
-    let cases = [
-        Case {
-            text: "(define (domain t) (:types a - b c - a a - c))",
-            kind: FaultKind::Repeated,
-            start: 39,
-            end: 40,
-        },
-        Case {
-            text: "(define (domain t) (:types a - b b - a))",
-            kind: FaultKind::TypeCycle,
-            start: 27,
-            end: 28,
-        },
-        Case {
-            text: "(define (domain t) (:types a - a))",
-            kind: FaultKind::TypeCycle,
-            start: 27,
-            end: 28,
-        },
-        Case {
-            text: "(define (domain t) (:types d - a a - b b - a))",
-            kind: FaultKind::TypeCycle,
-            start: 33,
-            end: 34,
-        },
-        Case {
-            text: "(define (domain t) (:types object - a))",
-            kind: FaultKind::TypeCycle,
-            start: 27,
-            end: 33,
-        },
-        Case {
-            text: "(define (domain t) (:types a - (either b c)))",
-            kind: FaultKind::Unsupported,
-            start: 32,
-            end: 38,
-        },
-        Case {
-            text: "(define (domain t) (:types a - (foo b)))",
-            kind: FaultKind::Expected,
-            start: 31,
-            end: 32,
-        },
-        Case {
-            text: "(define (domain t) (:types a - ()))",
-            kind: FaultKind::Expected,
-            start: 31,
-            end: 32,
-        },
-        Case {
-            text: "(define (domain t) (:types - a))",
-            kind: FaultKind::Expected,
-            start: 27,
-            end: 28,
-        },
-        Case {
-            text: "(define (domain t) (:types a -))",
-            kind: FaultKind::Expected,
-            start: 30,
-            end: 31,
-        },
-        Case {
-            text: "(define (domain t) (:types a - b a))",
-            kind: FaultKind::Repeated,
-            start: 33,
-            end: 34,
-        },
-        Case {
-            text: "(define (domain t) (:types ?a))",
-            kind: FaultKind::Expected,
-            start: 27,
-            end: 29,
-        },
-        Case {
-            text: "(define (domain t) (:requirements strips))",
-            kind: FaultKind::Expected,
-            start: 34,
-            end: 40,
-        },
-        Case {
-            text: "(define (domain t) (:constants a - b))",
-            kind: FaultKind::UnknownName,
-            start: 35,
-            end: 36,
-        },
-        Case {
-            text: "(define (domain t) (:types b) (:constants a - b a))",
-            kind: FaultKind::Repeated,
-            start: 48,
-            end: 49,
-        },
-        Case {
-            text: "(define (domain t) (:types) (:types))",
-            kind: FaultKind::Repeated,
-            start: 29,
-            end: 35,
-        },
-    ];
-    assert_eq!(rt; other_domains(rt.alloc(), &cases), 0);
+fn typed_lists(rt: HostRuntime) -> Result<(), Fail> {
+    assert_eq!(rt; failures(rt.alloc(), TYPED_LISTS, false)?, 0);
+    Ok(())
 }
 
 #[test]
-fn objects_and_what_is_skipped(rt: HostRuntime) {
-    let cases = [
-        Case {
-            text: "(define (problem x) (:domain d) (:goal ()) (:objects a - b))",
-            kind: FaultKind::UnknownName,
-            start: 57,
-            end: 58,
-        },
-        Case {
-            text: "(define (problem x) (:domain d) (:metric m (n (:k))) (:goal))",
-            kind: FaultKind::Expected,
-            start: 59,
-            end: 60,
-        },
-        Case {
-            text: "(define (problem x) (:metric) (:metric))",
-            kind: FaultKind::Repeated,
-            start: 31,
-            end: 38,
-        },
-        Case {
-            text: "(define (problem x) (:length) (:requirements) (:types))",
-            kind: FaultKind::Unsupported,
-            start: 47,
-            end: 53,
-        },
-    ];
-    assert_eq!(rt; other_problems(rt.alloc(), &cases), 0);
+fn the_shape_of_actions(rt: HostRuntime) -> Result<(), Fail> {
+    assert_eq!(rt; failures(rt.alloc(), SHAPES_OF_ACTIONS, false)?, 0);
+    Ok(())
+}
+
+#[test]
+fn types_and_constants(rt: HostRuntime) -> Result<(), Fail> {
+    assert_eq!(rt; failures(rt.alloc(), TYPES, false)?, 0);
+    Ok(())
+}
+
+#[test]
+fn predicates_and_actions(rt: HostRuntime) -> Result<(), Fail> {
+    assert_eq!(rt; failures(rt.alloc(), DECLARATIONS, false)?, 0);
+    Ok(())
+}
+
+#[test]
+fn atoms_of_actions(rt: HostRuntime) -> Result<(), Fail> {
+    assert_eq!(rt; failures(rt.alloc(), ATOMS, false)?, 0);
+    Ok(())
+}
+
+#[test]
+fn the_shape_of_problems(rt: HostRuntime) -> Result<(), Fail> {
+    assert_eq!(rt; failures(rt.alloc(), SHAPES_OF_PROBLEMS, true)?, 0);
+    Ok(())
+}
+
+#[test]
+fn names_in_problems(rt: HostRuntime) -> Result<(), Fail> {
+    assert_eq!(rt; failures(rt.alloc(), NAMES, true)?, 0);
+    Ok(())
+}
+
+/// Whether a text is read as a domain.
+fn is_domain(alloc: Global, text: &str) -> bool {
+    read_domain(alloc, text.as_bytes()).is_ok()
+}
+
+#[test]
+fn domains_that_are_read(rt: HostRuntime) {
+    let alloc = rt.alloc();
+    assert!(rt;
+        is_domain(
+            alloc,
+            "(define (domain t) (:types a a - b b) (:predicates (p ?x ?x)))"
+        )
+    );
+    assert!(rt;
+        is_domain(
+            alloc,
+            "(define (domain t) (:types a - object object - object))"
+        )
+    );
+    assert!(rt;
+        is_domain(
+            alloc,
+            "(define (domain and) (:types not) (:constants either - not))"
+        )
+    );
+    assert!(rt;
+        is_domain(
+            alloc,
+            "(define (domain t) (:types t - u) (:predicates (p ?x - u)) (:action a :parameters (?y - t) :precondition (not (p ?y))))"
+        )
+    );
+    assert!(rt;
+        is_domain(
+            alloc,
+            "(define (domain t) (:types t u) (:predicates (p ?x - (either u t))) (:action a :parameters (?y - (either t u t)) :effect (p ?y)))"
+        )
+    );
+    assert!(rt;
+        is_domain(
+            alloc,
+            "(define (domain t) (:constants c) (:predicates (p ?x)) (:action a :effect (and (and) () (p c) (not (p C)))))"
+        )
+    );
+}
+
+#[test]
+fn problems_that_are_read(rt: HostRuntime) {
+    let alloc = rt.alloc();
+    let home =
+        b"(define (problem x) (:domain y) (:objects home - truck) (:init (at home) (not (lit))) (:goal (not (lit))))";
+    assert!(rt; problem_fault(alloc, DEPOT, home).is_none());
+    let skipped =
+        b"(define (problem x) (:goal ()) (:metric minimize (+ 1 (x :y ?z))) (:length (:serial 3)) (:requirements) (:domain y))";
+    assert!(rt; problem_fault(alloc, DEPOT, skipped).is_none());
+}
+
+/// A text with numbered words in the midst, each between `word` and `end`.
+fn numbered(
+    alloc: Global,
+    front: &str,
+    word: &str,
+    end: &str,
+    count: u32,
+    back: &str,
+) -> Result<Vec<u8>, Fail> {
+    let mut text = Vec::new(alloc);
+    text.extend_from_slice(front.as_bytes())?;
+    for number in 0..count {
+        let item = format!(in alloc; " {word}{number}{end}")?;
+        text.extend_from_slice(item.as_bytes())?;
+    }
+    text.extend_from_slice(back.as_bytes())?;
+    Ok(text)
+}
+
+/// Whether the first text is read as a domain, and the second is refused since it has too many of something.
+fn is_limit(alloc: Global, most: &[u8], more: &[u8]) -> bool {
+    let refused = match read_domain(alloc, more) {
+        Ok(_) => false,
+        Err(fault) => fault.kind == FaultKind::TooMany,
+    };
+    refused && read_domain(alloc, most).is_ok()
+}
+
+/// Whether a domain may have so many numbered words, and not one more.
+fn ends_at(
+    alloc: Global,
+    front: &str,
+    word: &str,
+    end: &str,
+    most: u32,
+    back: &str,
+) -> Result<bool, Fail>
+    requires { most ≤ 65535 }
+{
+    let fits = numbered(alloc, front, word, end, most, back)?;
+    let exceeds = numbered(alloc, front, word, end, most + 1, back)?;
+    Ok(is_limit(alloc, fits.as_slice(), exceeds.as_slice()))
+}
+
+#[test]
+fn limits_of_names(rt: HostRuntime) -> Result<(), Fail> {
+    let alloc = rt.alloc();
+    assert!(rt; ends_at(alloc, "(define (domain t) (:types", "t", "", 1024, "))")?);
+    assert!(rt;
+        ends_at(
+            alloc,
+            "(define (domain t) (:constants",
+            "c",
+            "",
+            65535,
+            "))"
+        )?
+    );
+    assert!(rt;
+        ends_at(
+            alloc,
+            "(define (domain t) (:predicates",
+            "(p",
+            ")",
+            4096,
+            "))"
+        )?
+    );
+    assert!(rt; ends_at(alloc, "(define (domain t)", "(:action a", ")", 4096, ")")?);
+    Ok(())
+}
+
+#[test]
+fn limits_of_variables(rt: HostRuntime) -> Result<(), Fail> {
+    let alloc = rt.alloc();
+    assert!(rt;
+        ends_at(
+            alloc,
+            "(define (domain t) (:predicates (p",
+            "?x",
+            "",
+            32,
+            ")))"
+        )?
+    );
+    assert!(rt;
+        ends_at(
+            alloc,
+            "(define (domain t) (:action a :parameters (",
+            "?x",
+            "",
+            32,
+            ")))"
+        )?
+    );
+    let types =
+        "(define (domain t) (:types t0 t1 t2 t3 t4 t5 t6 t7 t8 t9 t10 t11 t12 t13 t14 t15 t16 t17 t18 t19 t20 t21 t22 t23 t24 t25 t26 t27 t28 t29 t30 t31 t32) (:predicates (p ?x - (either";
+    assert!(rt; ends_at(alloc, types, "t", "", 32, "))))")?);
+    Ok(())
 }
 
 #[test]

@@ -173,25 +173,6 @@ fn words_in_lower_case(rt: HostRuntime) -> Result<(), Fail> {
 }
 
 #[test]
-fn a_million_steps(rt: HostRuntime) -> Result<(), Fail> {
-    for (behind, line) in [
-        (b"[1]".as_slice(), 0),
-        (b"\n(b)".as_slice(), 1_000_002),
-        (b"[1] 5: (b)".as_slice(), 1_000_001),
-    ] {
-        let mut text = Vec::new(rt.alloc());
-        for _ in 0..1_000_000 {
-            text.extend_from_slice(b"(a)\n")?;
-        }
-        text.extend_from_slice(behind)?;
-        let plan = read_plan(rt.alloc(), &text)?;
-        assert_eq!(rt; fault_line(&plan), line);
-        assert_eq!(rt; step_count(&plan), if line == 0 { 1_000_000 } else { 0 });
-    }
-    Ok(())
-}
-
-#[test]
 fn bundles(rt: HostRuntime) -> Result<(), Fail> {
     for (bundle, sizes) in [
         (b"".as_slice(), [0].as_slice()),

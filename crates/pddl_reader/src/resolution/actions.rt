@@ -1,16 +1,21 @@
 //! What the literals of actions stand for, and the table of actions.
 
-ghost use Rattle.std.specs.Prelude.{◌≡◌, ◌≤◌, length, [], IfOk, OnOk};
+ghost use Rattle.std.specs.Prelude.{◌≡◌, ◌≤◌, length, [], OnOk, Some};
+ghost use Rattle.std.specs.Map.{keys_of};
+ghost use Rattle.pddl_reader.specs.Resolved.{known_form, parameters_form};
 ghost use Rattle.pddl_reader.specs.Declarations.{condition_of, conditions_of};
-ghost use Rattle.pddl_reader.specs.Forms.{action_forms, action_syntax_form, given_literals, literal_form, literal_forms};
+ghost use Rattle.pddl_reader.specs.Forms.{action_forms, action_syntax_form, given_literals, given_variables, literal_form, literal_forms};
 ghost use Rattle.pddl_reader.specs.Reading.{Gives, Puts};
-ghost use Rattle.pddl_reader.specs.Domain.{action_meant, actions_from, both_effects, effects_of, lone_effect, with_action_of};
+ghost use Rattle.pddl_reader.specs.Domain.{action_by, action_meant, actions_from, both_effects, effects_of, lone_effect, with_action_of};
 
 use crate::fault::ReadFault;
-use crate::resolution::names::{check_new, name, predicate_number};
-use crate::syntax::{ActionSyntax, LiteralSyntax};
+use crate::resolution::atoms::pattern;
+use crate::resolution::names::{check_new, name};
+use crate::resolution::tables::Declared;
+use crate::resolution::variables::{ActionParameters, parameters};
+use crate::syntax::{ActionSyntax, LiteralSyntax, VariableGroup};
 use std::alloc::{AllocError, Global};
-use strips_task::{Action, Alternatives, Cond, NameTable, Pattern, Seq, ShortSeq};
+use strips_task::{Action, Alternatives, Cond, NameTable, Pattern, Seq};
 
 /// The table of the declared predicates, with the types of which each argument may be.
 pub(crate) type Predicates = NameTable<Seq<Alternatives>>;
@@ -26,19 +31,17 @@ pub(crate) struct Effects {
 #[tactic(auto, using(crate::proofs::DeclarationSteps::condition_steps))]
 fn condition(
     alloc: Global,
-    predicates: &Predicates,
+    known: &Declared<'_>,
+    parameters: &ActionParameters<'_>,
     literal: &LiteralSyntax<'_>,
 ) -> Result<Cond, ReadFault>
-    requires { length predicates.now ≤ 4096 }
-    ensures { Gives (λ condition. condition) result (condition_of predicates.now (literal_form literal.now)) }
+    requires { length parameters.now.names.items ≤ 32 }
+    ensures { Gives (λ condition. condition) result (condition_of (known_form known.now) (parameters_form parameters.now) (literal_form literal.now)) }
 {
-    let pred = predicate_number(alloc, predicates, &literal.atom)?;
+    let pattern = pattern(alloc, known, parameters, &literal.atom)?;
     Ok(Cond {
         positive: literal.positive,
-        pattern: Pattern {
-            pred,
-            terms: ShortSeq::new(alloc),
-        },
+        pattern,
     })
 }
 
@@ -46,15 +49,16 @@ fn condition(
 #[tactic(auto, using(crate::proofs::DeclarationSteps::conditions_steps))]
 fn conditions(
     alloc: Global,
-    predicates: &Predicates,
+    known: &Declared<'_>,
+    parameters: &ActionParameters<'_>,
     literals: &[LiteralSyntax<'_>],
 ) -> Result<Seq<Cond>, ReadFault>
-    requires { length predicates.now ≤ 4096 }
-    ensures { Gives (λ conditions. conditions) result (conditions_of predicates.now (literal_forms literals.now)) }
+    requires { length parameters.now.names.items ≤ 32 }
+    ensures { Gives (λ conditions. conditions) result (conditions_of (known_form known.now) (parameters_form parameters.now) (literal_forms literals.now)) }
 {
     let mut conditions = Seq::new(alloc);
     'conditions: for literal in literals {
-        conditions.push(condition(alloc, predicates, literal)?)?;
+        conditions.push(condition(alloc, known, parameters, literal)?)?;
     }
     Ok(conditions)
 }
@@ -76,18 +80,19 @@ fn put_effect(effects: &mut Effects, effect: Cond) -> Result<(), AllocError>
 #[tactic(auto, using(crate::proofs::ActionMeaning::effects_steps))]
 fn effect(
     alloc: Global,
-    predicates: &Predicates,
+    known: &Declared<'_>,
+    parameters: &ActionParameters<'_>,
     literals: &[LiteralSyntax<'_>],
 ) -> Result<Effects, ReadFault>
-    requires { length predicates.now ≤ 4096 }
-    ensures { Gives (λ effects. effects) result (effects_of predicates.now (literal_forms literals.now)) }
+    requires { length parameters.now.names.items ≤ 32 }
+    ensures { Gives (λ effects. effects) result (effects_of (known_form known.now) (parameters_form parameters.now) (literal_forms literals.now)) }
 {
     let mut effects = Effects {
         add: Seq::new(alloc),
         del: Seq::new(alloc),
     };
     'effects: for literal in literals {
-        put_effect(&mut effects, condition(alloc, predicates, literal)?)?;
+        put_effect(&mut effects, condition(alloc, known, parameters, literal)?)?;
     }
     Ok(effects)
 }
@@ -105,24 +110,64 @@ pub(crate) fn given_literals<'s, 'a>(
     }
 }
 
+/// The variables of a part, if it is given.
+#[tactic(auto, unfolding(crate::specs::Forms::given_variables))]
+fn given_variables<'s, 'a>(part: &'s Option<Vec<VariableGroup<'a>>>) -> &'s [VariableGroup<'a>]
+    ensures { result.now ≡ given_variables part.now }
+{
+    match part {
+        Some(groups) => groups.as_slice(),
+        None => &[],
+    }
+}
+
+/// What an action asks and does.
+#[derive(Drop)]
+struct ActionBody {
+    pre: Seq<Cond>,
+    effects: Effects,
+}
+
+/// What an action with these parameters asks and does.
+#[tactic(auto, using(crate::proofs::ActionMeaning::body_steps))]
+fn body(
+    alloc: Global,
+    known: &Declared<'_>,
+    parameters: &ActionParameters<'_>,
+    syntax: &ActionSyntax<'_>,
+) -> Result<ActionBody, ReadFault>
+    requires { length parameters.now.names.items ≤ 32 }
+    ensures { Gives (λ body. record { params = parameters.now.types; pre = body.pre; add = body.effects.add; del = body.effects.del }) result
+        (action_by (known_form known.now) (action_syntax_form syntax.now) (Some (parameters_form parameters.now))) }
+{
+    let precondition = given_literals(&syntax.parts.precondition);
+    let pre = conditions(alloc, known, parameters, precondition)?;
+    let effects = effect(
+        alloc,
+        known,
+        parameters,
+        given_literals(&syntax.parts.effect),
+    )?;
+    Ok(ActionBody { pre, effects })
+}
+
 /// The action that syntax stands for.
 #[tactic(auto, using(crate::proofs::ActionMeaning::action_steps))]
 fn action(
     alloc: Global,
-    predicates: &Predicates,
+    types: &NameTable<()>,
+    known: &Declared<'_>,
     syntax: &ActionSyntax<'_>,
 ) -> Result<Action, ReadFault>
-    requires { length predicates.now ≤ 4096 }
-    ensures { Gives (λ action. action) result (action_meant predicates.now (action_syntax_form syntax.now)) }
+    requires { length types.now ≤ 1025 }
+    ensures { Gives (λ action. action) result (action_meant (keys_of types.now) (known_form known.now) (action_syntax_form syntax.now)) }
 {
-    let pre = conditions(
-        alloc,
-        predicates,
-        given_literals(&syntax.parts.precondition),
-    )?;
-    let Effects { add, del } = effect(alloc, predicates, given_literals(&syntax.parts.effect))?;
+    let parameters = parameters(alloc, types, given_variables(&syntax.parts.parameters))?;
+    let ActionBody { pre, effects } = body(alloc, known, &parameters, syntax)?;
+    let ActionParameters { names: _, types } = parameters;
+    let Effects { add, del } = effects;
     Ok(Action {
-        params: Seq::new(alloc),
+        params: types,
         pre,
         add,
         del,
@@ -133,33 +178,35 @@ fn action(
 #[tactic(auto, using(crate::proofs::ActionMeaning::declaration_steps))]
 fn declare_action(
     alloc: Global,
-    predicates: &Predicates,
+    types: &NameTable<()>,
+    known: &Declared<'_>,
     table: &mut NameTable<Action>,
     syntax: &ActionSyntax<'_>,
 ) -> Result<(), ReadFault>
-    requires { length predicates.now ≤ 4096 }
-    ensures { Puts result (with_action_of predicates.now table.old (action_syntax_form syntax.now)) table.new }
+    requires { length types.now ≤ 1025 }
+    ensures { Puts result (with_action_of (keys_of types.now) (known_form known.now) table.old (action_syntax_form syntax.now)) table.new }
 {
     let name = name(alloc, syntax.name)?;
     check_new(table, &name, syntax.name)?;
-    let action = action(alloc, predicates, syntax)?;
+    let action = action(alloc, types, known, syntax)?;
     table.push(name, action)?;
     Ok(())
 }
 
 /// Declares the actions.
-#[tactic(auto, using(crate::proofs::ActionMeaning::actions_steps))]
+#[tactic(auto, using(crate::proofs::Through::through_steps, crate::proofs::ActionMeaning::actions_steps))]
 pub(crate) fn actions(
     alloc: Global,
-    predicates: &Predicates,
+    types: &NameTable<()>,
+    known: &Declared<'_>,
     declared: &[ActionSyntax<'_>],
 ) -> Result<NameTable<Action>, ReadFault>
-    requires { length predicates.now ≤ 4096 }
-    ensures { Gives (λ table. table) result (actions_from predicates.now [] (action_forms declared.now)) }
+    requires { length types.now ≤ 1025 }
+    ensures { Gives (λ table. table) result (actions_from (keys_of types.now) (known_form known.now) [] (action_forms declared.now)) }
 {
     let mut table = NameTable::new(alloc);
     'actions: for action in declared {
-        declare_action(alloc, predicates, &mut table, action)?;
+        declare_action(alloc, types, known, &mut table, action)?;
     }
     Ok(table)
 }

@@ -2,20 +2,21 @@
 
 ghost use Rattle.std.specs.Prelude.{◌≡◌, ◌≤◌, length, [], IfOk};
 ghost use Rattle.std.specs.Map.{keys_of};
-ghost use Rattle.pddl_reader.specs.Domain.{bare_task, domain_of, domain_value, domain_with, head_of, predicates_from, with_predicate};
+ghost use Rattle.pddl_reader.specs.Domain.{domain_of, domain_value, domain_with, head_of, predicates_from, with_predicate};
 ghost use Rattle.pddl_reader.specs.Domains.{IsDomain};
 ghost use Rattle.pddl_reader.specs.Objects.{objects_from};
 ghost use Rattle.pddl_reader.specs.Problem.{domain_extended};
 ghost use Rattle.pddl_reader.specs.Forms.{domain_syntax_form, given_groups, given_predicates, name_groups, predicate_form, predicate_forms};
 ghost use Rattle.pddl_reader.specs.Reading.{Gives, Puts};
-ghost use Rattle.strips_task.specs.WellFormed.{IsWellFormed};
 ghost use Rattle.pddl_reader.specs.Assembled.{domain_assembled, domain_joined};
 
 use crate::fault::ReadFault;
 use crate::resolution::actions::{Predicates, actions};
 use crate::resolution::names::{check_new, name};
 use crate::resolution::objects::more_objects;
+use crate::resolution::tables::Declared;
 use crate::resolution::types::{KnownTypes, types};
+use crate::resolution::variables::places;
 use crate::syntax::{DomainSyntax, NameGroup, PredicateSyntax};
 use std::alloc::Global;
 use std::marker::Model;
@@ -45,16 +46,15 @@ impl Model for Domain {
 }
 
 impl Domain {
-    ghost use Rattle.strips_task.specs.WellFormed.{IsWellFormed};
-    ghost use Rattle.pddl_reader.specs.Domain.{bare_task};
+    ghost use Rattle.pddl_reader.specs.Problem.{known_in};
+    ghost use Rattle.pddl_reader.specs.Resolved.{known_form};
 
-    /// The table of the predicates.
-    pub(crate) fn predicates(&self) -> &Predicates
-        ensures table { result.now ≡ self.now.predicates }
-        ensures few { length result.now ≤ 4096 }
-        ensures well_formed { IsWellFormed (bare_task self.now) }
+    /// What the atoms of a problem may speak of.
+    pub(crate) fn known(&self) -> Declared<'_>
+        ensures known { known_form result ≡ known_in self.now }
+        ensures kept { IsDomain self.now }
     {
-        &self.predicates
+        Declared::new(&self.parents, &self.objects, &self.predicates)
     }
 }
 
@@ -62,28 +62,36 @@ impl Domain {
 #[tactic(auto, using(crate::proofs::DeclarationSteps::predicate_steps))]
 fn declare_predicate(
     alloc: Global,
+    types: &NameTable<()>,
     table: &mut Predicates,
     predicate: &PredicateSyntax<'_>,
 ) -> Result<(), ReadFault>
-    requires { length table.old ≤ 4096 }
+    requires few { length types.now ≤ 1025 }
+    requires room { length table.old ≤ 4096 }
     ensures within { length table.new ≤ 4096 }
-    ensures given { Puts result (with_predicate table.old (predicate_form predicate.now)) table.new }
+    ensures given { Puts result (with_predicate (keys_of types.now) table.old (predicate_form predicate.now)) table.new }
 {
     let name = name(alloc, predicate.name)?;
     check_new(table, &name, predicate.name)?;
-    table.push(name, Seq::new(alloc))?;
+    let places = places(alloc, types, predicate.variables.as_slice())?;
+    table.push(name, places)?;
     Ok(())
 }
 
 /// Declares the predicates.
-#[tactic(auto, using(crate::proofs::DeclarationSteps::predicates_steps))]
-fn predicates(alloc: Global, declared: &[PredicateSyntax<'_>]) -> Result<Predicates, ReadFault>
+#[tactic(auto, using(crate::proofs::Through::through_steps, crate::proofs::DeclarationSteps::predicates_steps))]
+fn predicates(
+    alloc: Global,
+    types: &NameTable<()>,
+    declared: &[PredicateSyntax<'_>],
+) -> Result<Predicates, ReadFault>
+    requires { length types.now ≤ 1025 }
     ensures within { IfOk result (λ table. length table ≤ 4096) }
-    ensures given { Gives (λ table. table) result (predicates_from [] (predicate_forms declared.now)) }
+    ensures given { Gives (λ table. table) result (predicates_from (keys_of types.now) [] (predicate_forms declared.now)) }
 {
     let mut table = NameTable::new(alloc);
     'predicates: for predicate in declared {
-        declare_predicate(alloc, &mut table, predicate)?;
+        declare_predicate(alloc, types, &mut table, predicate)?;
     }
     Ok(table)
 }
@@ -126,11 +134,21 @@ fn resolve_tables(
     head: &Head,
     syntax: &DomainSyntax<'_>,
 ) -> Result<Tables, ReadFault>
+    requires types { length head.now.types ≤ 1025 }
+    requires objects { length head.now.objects ≤ 65535 }
     ensures { Gives (domain_assembled head.now) result
-        (domain_with (domain_syntax_form syntax.now) head.now (predicates_from [] (predicate_forms (given_predicates syntax.now.sections.predicates)))) }
+        (domain_with (domain_syntax_form syntax.now) head.now
+        (predicates_from (keys_of head.now.types) [] (predicate_forms (given_predicates syntax.now.sections.predicates)))) }
 {
-    let predicates = predicates(alloc, given_predicates(&syntax.sections.predicates))?;
-    let actions = actions(alloc, &predicates, syntax.sections.actions.as_slice())?;
+    let declared = given_predicates(&syntax.sections.predicates);
+    let predicates = predicates(alloc, &head.types, declared)?;
+    let known = Declared::new(&head.parents, &head.objects, &predicates);
+    let actions = actions(
+        alloc,
+        &head.types,
+        &known,
+        syntax.sections.actions.as_slice(),
+    )?;
     Ok(Tables {
         predicates,
         actions,

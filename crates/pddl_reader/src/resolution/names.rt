@@ -57,7 +57,7 @@ fn takes_terms(predicates: &NameTable<Seq<Alternatives>>, number: usize, count: 
     predicates.get(number).1.len() == count
 }
 
-/// The number of the predicate of an atom without terms.
+/// The number of the predicate of an atom, which takes as many terms as the atom has.
 #[tactic(auto, using(crate::proofs::TableSteps::number_steps))]
 pub(crate) fn predicate_number(
     alloc: Global,
@@ -72,7 +72,7 @@ pub(crate) fn predicate_number(
     let Some(number) = predicates.number_of(name.as_bytes()) else {
         return Err(ReadFault::new(FaultKind::UnknownName, word.span));
     };
-    if !takes_terms(predicates, number, 0) {
+    if !takes_terms(predicates, number, atom.terms.len()) {
         return Err(ReadFault::new(FaultKind::WrongCount, word.span));
     }
     Ok(number as u16)

@@ -1,6 +1,7 @@
 //! Objects are declared behind the constants of a domain; then initial atoms and the goal are looked up in its tables.
 
-ghost use Rattle.std.specs.Prelude.{◌≡◌, ◌≤◌, length, IfOk, Some};
+ghost use Rattle.std.specs.Prelude.{◌≡◌, IfOk, Some};
+ghost use Rattle.pddl_reader.specs.Resolved.{known_form};
 ghost use Rattle.pddl_reader.specs.Forms.{literal_form, literal_forms, problem_syntax_form};
 ghost use Rattle.pddl_reader.specs.Problem.{ground_condition_of, ground_conditions_of, initial_of, problem_of, problem_within};
 ghost use Rattle.pddl_reader.specs.Reading.{Gives};
@@ -8,30 +9,28 @@ ghost use Rattle.strips_task.specs.WellFormed.{IsWellFormed};
 ghost use Rattle.pddl_reader.specs.Assembled.{task_assembled};
 
 use crate::fault::ReadFault;
-use crate::resolution::actions::{Predicates, given_literals};
+use crate::resolution::actions::given_literals;
+use crate::resolution::atoms::ground_atom;
 use crate::resolution::domain::{Domain, extended, given_groups};
-use crate::resolution::names::{name, predicate_number};
+use crate::resolution::names::name;
+use crate::resolution::tables::Declared;
 use crate::syntax::{LiteralSyntax, ProblemSyntax};
 use std::alloc::Global;
-use strips_task::{Atom, CondList, GroundCond, InitialAtoms, Name, Seq, ShortSeq, Task, TaskParts};
+use strips_task::{CondList, GroundCond, InitialAtoms, Name, Seq, Task, TaskParts};
 
 /// The ground condition that a literal of a problem stands for.
 #[tactic(auto, using(crate::proofs::ProblemMeaning::condition_steps))]
 fn ground_condition(
     alloc: Global,
-    predicates: &Predicates,
+    known: &Declared<'_>,
     literal: &LiteralSyntax<'_>,
 ) -> Result<GroundCond, ReadFault>
-    requires { length predicates.now ≤ 4096 }
-    ensures { Gives (λ condition. condition) result (ground_condition_of predicates.now (literal_form literal.now)) }
+    ensures { Gives (λ condition. condition) result (ground_condition_of (known_form known.now) (literal_form literal.now)) }
 {
-    let pred = predicate_number(alloc, predicates, &literal.atom)?;
+    let atom = ground_atom(alloc, known, &literal.atom)?;
     Ok(GroundCond {
         positive: literal.positive,
-        atom: Atom {
-            pred,
-            args: ShortSeq::new(alloc),
-        },
+        atom,
     })
 }
 
@@ -39,15 +38,14 @@ fn ground_condition(
 #[tactic(auto, using(crate::proofs::ProblemMeaning::conditions_steps))]
 fn ground_conditions(
     alloc: Global,
-    predicates: &Predicates,
+    known: &Declared<'_>,
     literals: &[LiteralSyntax<'_>],
 ) -> Result<CondList, ReadFault>
-    requires { length predicates.now ≤ 4096 }
-    ensures { Gives (λ conditions. conditions) result (ground_conditions_of predicates.now (literal_forms literals.now)) }
+    ensures { Gives (λ conditions. conditions) result (ground_conditions_of (known_form known.now) (literal_forms literals.now)) }
 {
     let mut conditions = Seq::new(alloc);
     'conditions: for literal in literals {
-        conditions.push(ground_condition(alloc, predicates, literal)?)?;
+        conditions.push(ground_condition(alloc, known, literal)?)?;
     }
     Ok(conditions)
 }
@@ -56,15 +54,14 @@ fn ground_conditions(
 #[tactic(auto, using(crate::proofs::ProblemMeaning::initial_steps))]
 fn initial(
     alloc: Global,
-    predicates: &Predicates,
+    known: &Declared<'_>,
     literals: &[LiteralSyntax<'_>],
 ) -> Result<InitialAtoms, ReadFault>
-    requires { length predicates.now ≤ 4096 }
-    ensures { Gives (λ atoms. atoms) result (initial_of predicates.now (literal_forms literals.now)) }
+    ensures { Gives (λ atoms. atoms) result (initial_of (known_form known.now) (literal_forms literals.now)) }
 {
     let mut atoms = InitialAtoms::new(alloc);
     'items: for literal in literals {
-        let given = ground_condition(alloc, predicates, literal)?;
+        let given = ground_condition(alloc, known, literal)?;
         if given.positive {
             atoms.push(given.atom)?;
         }
@@ -120,9 +117,9 @@ fn resolve_given(
     ensures meaning { Gives (task_assembled domain.now) result (problem_within (problem_syntax_form syntax.now) (Some domain.now)) }
     ensures well_formed { IfOk result (λ given. IsWellFormed (task_assembled domain.now given)) }
 {
-    let predicates = domain.predicates();
-    let init = initial(alloc, predicates, given_literals(&syntax.init))?;
-    let goal = ground_conditions(alloc, predicates, syntax.goal.as_slice())?;
+    let known = domain.known();
+    let init = initial(alloc, &known, given_literals(&syntax.init))?;
+    let goal = ground_conditions(alloc, &known, syntax.goal.as_slice())?;
     let problem = name(alloc, syntax.name)?;
     Ok(Given {
         problem,

@@ -242,6 +242,7 @@ fn cycle_fault(
             return Ok(ReadFault::new(FaultKind::TypeCycle, word.span));
         }
     }
+    // Parents that form no tree have a cycle, and all types on it are declared, so one of them was found.
     Ok(ReadFault::at(FaultKind::TypeCycle, 0, 0))
 }
 

@@ -3,29 +3,18 @@
 ghost use Rattle.std.specs.Prelude.{◌≡◌};
 ghost use Rattle.pddl_reader.specs.Levels.{here};
 ghost use Rattle.pddl_reader.specs.Reading.{ReadsInto, ReadsList};
-ghost use Rattle.pddl_reader.specs.Forms.{action_syntax_form, literal_forms, parts_form, word_forms};
-ghost use Rattle.pddl_reader.specs.Syntax.{action_of, formula_in, is_part_given, no_parts, parameters_of, part_by, parts_of};
+ghost use Rattle.pddl_reader.specs.Forms.{action_syntax_form, literal_forms, parts_form};
+ghost use Rattle.pddl_reader.specs.Syntax.{action_of, formula_in, is_part_given, no_parts, part_by, parts_of};
 
 use crate::fault::{FaultKind, ReadFault};
-use crate::heads::{ActionPart, action_part, is_name};
+use crate::heads::{ActionPart, Scope, action_part, is_name};
 use crate::syntax::formula::formula;
 use crate::syntax::lists::enter_list;
-use crate::syntax::refusals::{Scope, keyword_fault, variable_fault};
+use crate::syntax::refusals::keyword_fault;
+use crate::syntax::variables::typed_variables;
 use crate::syntax::{ActionParts, ActionSyntax, LiteralSyntax};
-use crate::walk::{Item, NameWord, Walk, Word};
+use crate::walk::{Item, NameWord, Walk};
 use std::alloc::Global;
-
-/// Reads the parameters of an action.
-#[tactic(auto, using(crate::proofs::ActionSteps::parameter_steps))]
-fn parameters<'a>(alloc: Global, walk: &mut Walk<'a>) -> Result<Vec<Word<'a>>, ReadFault>
-    ensures { ReadsList (λ v. word_forms v.items) result parameters_of (here walk.old.cursor) (here walk.new.cursor) }
-{
-    match walk.next() {
-        Item::Close(_) => Ok(Vec::new(alloc)),
-        Item::Text(word) => Err(variable_fault(word)),
-        Item::Open(span) => Err(ReadFault::new(FaultKind::Expected, span)),
-    }
-}
 
 /// Reads a formula or an effect as the list of its literals.
 #[tactic(auto, using(crate::proofs::FormulaSteps::no_literals, crate::proofs::FormulaSteps::no_front))]
@@ -34,10 +23,10 @@ pub(crate) fn literals<'a>(
     walk: &mut Walk<'a>,
     scope: Scope,
 ) -> Result<Vec<LiteralSyntax<'a>>, ReadFault>
-    ensures { ReadsList (λ v. literal_forms v.items) result formula_in (here walk.old.cursor) (here walk.new.cursor) }
+    ensures { ReadsList (λ v. literal_forms v.items) result (formula_in scope) (here walk.old.cursor) (here walk.new.cursor) }
 {
     let mut literals = Vec::new(alloc);
-    formula(walk, scope, &mut literals)?;
+    formula(alloc, walk, scope, &mut literals)?;
     Ok(literals)
 }
 
@@ -65,7 +54,7 @@ fn part<'a>(
         (parts_form parts.new) }
 {
     match part {
-        ActionPart::Parameters => parts.parameters = Some(parameters(alloc, walk)?),
+        ActionPart::Parameters => parts.parameters = Some(typed_variables(alloc, walk)?),
         ActionPart::Precondition => parts.precondition = Some(literals(
             alloc,
             walk,

@@ -11,8 +11,9 @@ use crate::fault::{FaultKind, ReadFault};
 use crate::heads::{DomainSection, FormulaHead, domain_section, formula_head};
 use crate::syntax::action::action;
 use crate::syntax::lists::{enter_list, expect_word, header, leave_list};
-use crate::syntax::refusals::{keyword_fault, variable_fault};
+use crate::syntax::refusals::keyword_fault;
 use crate::syntax::typed::{keywords, typed_names};
+use crate::syntax::variables::typed_variables;
 use crate::syntax::{DomainSections, DomainSyntax, PredicateSyntax};
 use crate::walk::{Item, NameWord, Walk};
 use std::alloc::Global;
@@ -20,26 +21,24 @@ use std::alloc::Global;
 /// Reads the variables that a predicate declares.
 #[tactic(auto, using(crate::proofs::DomainSteps::predicate_of_steps))]
 fn predicate_variables<'a>(
+    alloc: Global,
     walk: &mut Walk<'a>,
     name: NameWord<'a>,
 ) -> Result<PredicateSyntax<'a>, ReadFault>
     ensures { ReadsList predicate_form result (predicate_of name.entry.text.now) (here walk.old.cursor) (here walk.new.cursor) }
 {
-    match walk.next() {
-        Item::Close(_) => Ok(PredicateSyntax { name }),
-        Item::Text(word) => Err(variable_fault(word)),
-        Item::Open(span) => Err(ReadFault::new(FaultKind::Expected, span)),
-    }
+    let variables = typed_variables(alloc, walk)?;
+    Ok(PredicateSyntax { name, variables })
 }
 
 /// Reads the declaration of a predicate.
 #[tactic(auto, using(crate::proofs::DomainSteps::predicate_in_steps))]
-fn predicate<'a>(walk: &mut Walk<'a>) -> Result<PredicateSyntax<'a>, ReadFault>
+fn predicate<'a>(alloc: Global, walk: &mut Walk<'a>) -> Result<PredicateSyntax<'a>, ReadFault>
     ensures { ReadsList predicate_form result predicate_in (here walk.old.cursor) (here walk.new.cursor) }
 {
     match walk.next() {
         Item::Text(word) => match formula_head(word.text) {
-            FormulaHead::Name => predicate_variables(walk, NameWord::new(word)),
+            FormulaHead::Name => predicate_variables(alloc, walk, NameWord::new(word)),
             FormulaHead::And => Err(ReadFault::new(FaultKind::Unsupported, word.span)),
             FormulaHead::Not => Err(ReadFault::new(FaultKind::Unsupported, word.span)),
             FormulaHead::Reserved => Err(ReadFault::new(FaultKind::Unsupported, word.span)),
@@ -60,7 +59,7 @@ fn predicates<'a>(alloc: Global, walk: &mut Walk<'a>) -> Result<Vec<PredicateSyn
         match walk.next() {
             Item::Close(_) => return Ok(predicates),
             Item::Text(word) => return Err(ReadFault::new(FaultKind::Expected, word.span)),
-            Item::Open(_) => predicates.push(predicate(walk)?)?,
+            Item::Open(_) => predicates.push(predicate(alloc, walk)?)?,
         }
     }
 }

@@ -3,40 +3,59 @@
 ghost use Rattle.std.specs.Prelude.{◌≡◌};
 ghost use Rattle.pddl_reader.specs.Levels.{here};
 ghost use Rattle.pddl_reader.specs.Reading.{ReadsList, ReadsOnto};
-ghost use Rattle.pddl_reader.specs.Forms.{atom_form, literal_form, literal_forms};
-ghost use Rattle.pddl_reader.specs.Syntax.{atom_of, atom_in, negated_of, literal_of, formula_in, conjuncts_of};
+ghost use Rattle.pddl_reader.specs.Forms.{atom_form, literal_form, literal_forms, word_forms};
+ghost use Rattle.pddl_reader.specs.Heads.{is_term};
+ghost use Rattle.pddl_reader.specs.Syntax.{atom_of, atom_in, negated_of, literal_of, formula_in, conjuncts_of, words_of};
 
 use crate::fault::{FaultKind, ReadFault};
-use crate::heads::{FormulaHead, formula_head, is_and};
+use crate::heads::{FormulaHead, Scope, formula_head, is_and, is_term};
 use crate::syntax::lists::{enter_list, leave_list};
-use crate::syntax::refusals::{Scope, term_fault};
 use crate::syntax::{AtomSyntax, LiteralSyntax};
 use crate::walk::{Item, NameWord, Walk, Word};
+use std::alloc::Global;
 
-/// Reads the terms of an atom behind its predicate.
+/// Reads the terms of an atom.
+#[tactic(auto, using(crate::proofs::WordSteps::word_list_steps))]
+fn terms<'a>(alloc: Global, walk: &mut Walk<'a>, scope: Scope) -> Result<Vec<Word<'a>>, ReadFault>
+    ensures { ReadsList (λ v. word_forms v.items) result (words_of (is_term scope)) (here walk.old.cursor) (here walk.new.cursor) }
+{
+    let mut terms = Vec::new(alloc);
+    'terms: loop {
+        match walk.next() {
+            Item::Close(_) => return Ok(terms),
+            Item::Open(span) => return Err(ReadFault::new(FaultKind::Unsupported, span)),
+            Item::Text(word) => {
+                if !is_term(scope, word.text) {
+                    return Err(ReadFault::new(FaultKind::Expected, word.span));
+                }
+                terms.push(word)?;
+            }
+        }
+    }
+}
+
+/// Reads an atom behind its predicate.
 #[tactic(auto, using(crate::proofs::FormulaSteps::atom_of_steps))]
 fn atom_terms<'a>(
+    alloc: Global,
     walk: &mut Walk<'a>,
     scope: Scope,
     predicate: NameWord<'a>,
 ) -> Result<AtomSyntax<'a>, ReadFault>
-    ensures { ReadsList atom_form result (atom_of predicate.entry.text.now) (here walk.old.cursor) (here walk.new.cursor) }
+    ensures { ReadsList atom_form result (atom_of scope predicate.entry.text.now) (here walk.old.cursor) (here walk.new.cursor) }
 {
-    match walk.next() {
-        Item::Close(_) => Ok(AtomSyntax { predicate }),
-        Item::Text(term) => Err(term_fault(scope, term)),
-        Item::Open(span) => Err(ReadFault::new(FaultKind::Unsupported, span)),
-    }
+    let terms = terms(alloc, walk, scope)?;
+    Ok(AtomSyntax { predicate, terms })
 }
 
 /// Reads an atom where nothing else may stand.
 #[tactic(auto, using(crate::proofs::FormulaSteps::atom_in_steps))]
-fn atom<'a>(walk: &mut Walk<'a>, scope: Scope) -> Result<AtomSyntax<'a>, ReadFault>
-    ensures { ReadsList atom_form result atom_in (here walk.old.cursor) (here walk.new.cursor) }
+fn atom<'a>(alloc: Global, walk: &mut Walk<'a>, scope: Scope) -> Result<AtomSyntax<'a>, ReadFault>
+    ensures { ReadsList atom_form result (atom_in scope) (here walk.old.cursor) (here walk.new.cursor) }
 {
     match walk.next() {
         Item::Text(word) => match formula_head(word.text) {
-            FormulaHead::Name => atom_terms(walk, scope, NameWord::new(word)),
+            FormulaHead::Name => atom_terms(alloc, walk, scope, NameWord::new(word)),
             FormulaHead::And => Err(ReadFault::new(FaultKind::Unsupported, word.span)),
             FormulaHead::Not => Err(ReadFault::new(FaultKind::Unsupported, word.span)),
             FormulaHead::Reserved => Err(ReadFault::new(FaultKind::Unsupported, word.span)),
@@ -49,11 +68,15 @@ fn atom<'a>(walk: &mut Walk<'a>, scope: Scope) -> Result<AtomSyntax<'a>, ReadFau
 
 /// Reads what `not` negates.
 #[tactic(auto, using(crate::proofs::FormulaSteps::negated_steps))]
-fn negated<'a>(walk: &mut Walk<'a>, scope: Scope) -> Result<LiteralSyntax<'a>, ReadFault>
-    ensures { ReadsList literal_form result negated_of (here walk.old.cursor) (here walk.new.cursor) }
+fn negated<'a>(
+    alloc: Global,
+    walk: &mut Walk<'a>,
+    scope: Scope,
+) -> Result<LiteralSyntax<'a>, ReadFault>
+    ensures { ReadsList literal_form result (negated_of scope) (here walk.old.cursor) (here walk.new.cursor) }
 {
     enter_list(walk)?;
-    let atom = atom(walk, scope)?;
+    let atom = atom(alloc, walk, scope)?;
     leave_list(walk)?;
     Ok(LiteralSyntax {
         positive: false,
@@ -64,21 +87,22 @@ fn negated<'a>(walk: &mut Walk<'a>, scope: Scope) -> Result<LiteralSyntax<'a>, R
 /// Reads a literal behind its first word.
 #[tactic(auto, using(crate::proofs::FormulaSteps::literal_steps))]
 pub(crate) fn literal<'a>(
+    alloc: Global,
     walk: &mut Walk<'a>,
     scope: Scope,
     head: Word<'a>,
 ) -> Result<LiteralSyntax<'a>, ReadFault>
-    ensures { ReadsList literal_form result (literal_of head.entry.text.now) (here walk.old.cursor) (here walk.new.cursor) }
+    ensures { ReadsList literal_form result (literal_of scope head.entry.text.now) (here walk.old.cursor) (here walk.new.cursor) }
 {
     match formula_head(head.text) {
         FormulaHead::Name => {
-            let atom = atom_terms(walk, scope, NameWord::new(head))?;
+            let atom = atom_terms(alloc, walk, scope, NameWord::new(head))?;
             Ok(LiteralSyntax {
                 positive: true,
                 atom,
             })
         }
-        FormulaHead::Not => negated(walk, scope),
+        FormulaHead::Not => negated(alloc, walk, scope),
         FormulaHead::And => Err(ReadFault::new(FaultKind::Unsupported, head.span)),
         FormulaHead::Reserved => Err(ReadFault::new(FaultKind::Unsupported, head.span)),
         FormulaHead::Other => Err(ReadFault::new(FaultKind::Expected, head.span)),
@@ -89,11 +113,12 @@ pub(crate) fn literal<'a>(
 #[cycle(formulas)]
 #[tactic(auto, using(crate::proofs::FormulaSteps::formula_steps, std::proofs::lemmas::List::map_push))]
 pub(crate) fn formula<'a>(
+    alloc: Global,
     walk: &mut Walk<'a>,
     scope: Scope,
     literals: &mut Vec<LiteralSyntax<'a>>,
 ) -> Result<(), ReadFault>
-    ensures { ReadsOnto result formula_in (here walk.old.cursor) (here walk.new.cursor)
+    ensures { ReadsOnto result (formula_in scope) (here walk.old.cursor) (here walk.new.cursor)
         (literal_forms literals.old.items) (literal_forms literals.new.items) }
 {
     match walk.next() {
@@ -101,9 +126,9 @@ pub(crate) fn formula<'a>(
         Item::Open(span) => Err(ReadFault::new(FaultKind::Expected, span)),
         Item::Text(word) => {
             if is_and(word.text) {
-                return conjuncts(walk, scope, literals);
+                return conjuncts(alloc, walk, scope, literals);
             }
-            let literal = literal(walk, scope, word)?;
+            let literal = literal(alloc, walk, scope, word)?;
             literals.push(literal)?;
             Ok(())
         }
@@ -114,17 +139,18 @@ pub(crate) fn formula<'a>(
 #[cycle(formulas)]
 #[tactic(auto, using(crate::proofs::FormulaSteps::conjunct_steps))]
 fn conjuncts<'a>(
+    alloc: Global,
     walk: &mut Walk<'a>,
     scope: Scope,
     literals: &mut Vec<LiteralSyntax<'a>>,
 ) -> Result<(), ReadFault>
-    ensures { ReadsOnto result conjuncts_of (here walk.old.cursor) (here walk.new.cursor)
+    ensures { ReadsOnto result (conjuncts_of scope) (here walk.old.cursor) (here walk.new.cursor)
         (literal_forms literals.old.items) (literal_forms literals.new.items) }
 {
     'conjuncts: loop {
         match walk.next() {
             Item::Close(_) => return Ok(()),
-            Item::Open(_) => formula(walk, scope, literals)?,
+            Item::Open(_) => formula(alloc, walk, scope, literals)?,
             Item::Text(word) => return Err(ReadFault::new(FaultKind::Expected, word.span)),
         }
     }

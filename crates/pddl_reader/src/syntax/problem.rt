@@ -8,11 +8,11 @@ ghost use Rattle.pddl_reader.specs.Forms.{literal_form, literal_forms, problem_s
 ghost use Rattle.pddl_reader.specs.Syntax.{goal_of, init_item_in, is_problem_section_given, lists_of, no_problem_sections, problem_in, problem_section_by, problem_section_in, problem_sections_of, problem_syntax};
 
 use crate::fault::{FaultKind, ReadFault};
-use crate::heads::{ProblemSection, problem_section};
+use crate::heads::{ProblemSection, Scope, problem_section};
 use crate::syntax::action::literals;
 use crate::syntax::formula::literal;
 use crate::syntax::lists::{enter_list, expect_word, header, leave_list, lone_name};
-use crate::syntax::refusals::{Scope, keyword_fault};
+use crate::syntax::refusals::keyword_fault;
 use crate::syntax::typed::{keywords, skip, typed_names};
 use crate::syntax::{LiteralSyntax, ProblemSections, ProblemSyntax};
 use crate::walk::{Item, Walk};
@@ -21,11 +21,11 @@ use std::alloc::Global;
 
 /// Reads an initial atom, which may be negated.
 #[tactic(auto, using(crate::proofs::ProblemSteps::init_item_steps))]
-fn init_item<'a>(walk: &mut Walk<'a>) -> Result<LiteralSyntax<'a>, ReadFault>
+fn init_item<'a>(alloc: Global, walk: &mut Walk<'a>) -> Result<LiteralSyntax<'a>, ReadFault>
     ensures { ReadsList literal_form result init_item_in (here walk.old.cursor) (here walk.new.cursor) }
 {
     match walk.next() {
-        Item::Text(word) => literal(walk, Scope::Problem, word),
+        Item::Text(word) => literal(alloc, walk, Scope::Problem, word),
         Item::Open(span) => Err(ReadFault::new(FaultKind::Expected, span)),
         Item::Close(span) => Err(ReadFault::new(FaultKind::Expected, span)),
     }
@@ -41,7 +41,7 @@ fn init<'a>(alloc: Global, walk: &mut Walk<'a>) -> Result<Vec<LiteralSyntax<'a>>
         match walk.next() {
             Item::Close(_) => return Ok(items),
             Item::Text(word) => return Err(ReadFault::new(FaultKind::Expected, word.span)),
-            Item::Open(_) => items.push(init_item(walk)?)?,
+            Item::Open(_) => items.push(init_item(alloc, walk)?)?,
         }
     }
 }

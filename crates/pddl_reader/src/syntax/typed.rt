@@ -36,7 +36,7 @@ pub(crate) fn keywords(walk: &mut Walk<'_>) -> Result<(), ReadFault>
 
 /// The name `object`, which no word of a text spells: the type of a last group without one.
 #[tactic(auto, unfolding(pddl_words::specs::Words::is_name))]
-fn object() -> NameWord<'static>
+pub(crate) fn object() -> NameWord<'static>
     ensures { result.text.now ≡ object_word }
 {
     NameWord::new(Word {
@@ -106,7 +106,6 @@ pub(crate) fn typed_names<'a>(
 
 /// Steps out of the list in which the walk stands, over whatever it holds.
 #[cycle(skipping)]
-#[tactic(auto, using(crate::proofs::TypedSteps::skip_steps))]
 pub(crate) fn skip(walk: &mut Walk<'_>)
     ensures { here walk.new.cursor ≡ behind (here walk.old.cursor).below }
 {

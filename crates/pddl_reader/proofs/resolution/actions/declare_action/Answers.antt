@@ -1,7 +1,9 @@
 use Rattle.std.proofs.Common.{◌≡◌, true}
+use Rattle.std.specs.Map.{keys_of}
 use Rattle.pddl_words.specs.Words.{folded}
 use Rattle.pddl_reader.specs.Declarations.{may_declare}
 use Rattle.pddl_reader.specs.Forms.{action_syntax_form}
+use Rattle.pddl_reader.specs.Resolved.{known_form}
 use Rattle.pddl_reader.specs.Syntax.{action_form}
 use Rattle.pddl_reader.proofs.ActionMeaning.{action_declared}
 use Rattle.pddl_reader.proofs.resolution.actions.declare_action.Goals as goal
@@ -12,4 +14,5 @@ returns c =
     let table = c.args.table.now in
     let allowed : may_declare 4096 table (folded c.args.syntax.now.name.text.now) ≡ true = rw (← c.in_ok-name.ensures) c.in_ok-check_new.ensures in
     rw (c.in_ok-push.ensures.ok, c.in_ok-name.ensures)
-    (action_declared c.args.predicates.now table (action_syntax_form c.args.syntax.now) c.in_ok-action.action allowed c.in_ok-action.ensures)
+    (action_declared (keys_of c.args.types.now) (known_form c.args.known.now) table (action_syntax_form c.args.syntax.now) c.in_ok-action.action allowed
+    c.in_ok-action.ensures)

@@ -1,12 +1,21 @@
-use Rattle.std.proofs.Common.{[]}
-use Rattle.pddl_reader.specs.Domain.{predicates_from}
-use Rattle.pddl_reader.specs.Forms.{given_predicates, predicate_forms}
+use Rattle.std.proofs.Common.{◌≡◌, [], Some, refl, subst}
+use Rattle.std.specs.Map.{keys_of}
+use Rattle.pddl_reader.specs.Declarations.{Known}
+use Rattle.pddl_reader.specs.Domain.{actions_from, known_by, predicates_from}
+use Rattle.pddl_reader.specs.Forms.{action_forms, given_predicates, predicate_forms}
+use Rattle.pddl_reader.specs.Resolved.{known_form}
 use Rattle.pddl_reader.proofs.DomainMeaning.{domain_meant}
 use Rattle.pddl_reader.proofs.resolution.domain.resolve_tables.Goals as goal
 
 pub returns : goal.returns
 returns c =
-    domain_meant c.args.syntax.now c.args.head.now (predicates_from [] (predicate_forms (given_predicates c.args.syntax.now.sections.predicates)))
-    c.in_ok-predicates.predicates c.in_ok-actions.actions
-    (rw (← c.given_predicates.ensures) c.in_ok-predicates.ensures.given)
-    (rw (← c.as_slice.ensures.value) c.in_ok-actions.ensures)
+    let head = c.args.head.now in
+    let syntax = c.args.syntax.now in
+    let predicates = c.in_ok-predicates.predicates in
+    let made = c.new-known.ensures in
+    let known : known_form c.new-known.result ≡ known_by head predicates = rw (made.parents, made.objects, made.predicates) refl in
+    let P : Known → Type 0 = λ k. actions_from (keys_of head.types) k [] (action_forms syntax.sections.actions.items) ≡ Some c.in_ok-actions.actions in
+    domain_meant syntax head (predicates_from (keys_of head.types) [] (predicate_forms (given_predicates syntax.sections.predicates))) predicates
+    c.in_ok-actions.actions
+    (rw (← c.given_predicates-declared.ensures) c.in_ok-predicates.ensures.given)
+    (subst P known (rw (← c.as_slice.ensures.value) c.in_ok-actions.ensures))

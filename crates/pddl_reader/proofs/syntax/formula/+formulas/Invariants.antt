@@ -14,8 +14,8 @@ decreases-formula l = size (here l.walk.now.cursor).top
 
 abbrev pub invariant-conjuncts-conjuncts : goal.invariant-conjuncts-conjuncts
 invariant-conjuncts-conjuncts l = record {
-  so_far : with_front (literal_forms l.literals.items) (conjuncts_of (here l.walk.cursor).top)
-      ≡ with_front (literal_forms l.fn.literals.items) (conjuncts_of (here l.fn.walk.cursor).top);
+  so_far : with_front (literal_forms l.literals.items) (conjuncts_of l.scope (here l.walk.cursor).top)
+      ≡ with_front (literal_forms l.fn.literals.items) (conjuncts_of l.scope (here l.fn.walk.cursor).top);
   below : (here l.walk.cursor).below ≡ (here l.fn.walk.cursor).below;
   smaller : size (here l.walk.cursor).top ≤ size (here l.fn.walk.cursor).top;
 }

@@ -1,0 +1,196 @@
+-- What the types of variables and the parameters of actions keep.
+
+use Rattle.std.proofs.Common.{◌≡◌, ℕ, ◌+◌, ◌<◌, ◌≤◌, ◌++◌, ◌&&◌, Bool, true, false, nat_le, nat_lt, is_none, List, [], ◌∷◌, length, map, Option, Some, None, refl, ◌∙◌, subst, arith, length-append}
+use Rattle.std.proofs.lemmas.Bool.{leb-true, le-leb, ltb-true, lt-ltb, and_parts}
+use Rattle.std.proofs.lemmas.List.{length-map}
+use Rattle.std.proofs.lemmas.List.Folds.{list_all-append}
+use Rattle.std.specs.List.{list_all}
+use Rattle.std.specs.Option.{option_and_then, option_map}
+use Rattle.strips_task.specs.WellFormed.{are_alternatives, are_variables}
+use Rattle.pddl_reader.specs.declared.resolution.variables.ActionParameters.{ActionParameters}
+use Rattle.pddl_reader.specs.Forms.{word_forms}
+use Rattle.pddl_reader.specs.declared.walk.Word.{Word}
+use Rattle.pddl_reader.specs.Objects.{type_number}
+use Rattle.pddl_reader.specs.Optional.{guard, through}
+use Rattle.pddl_reader.specs.Resolved.{parameters_form}
+use Rattle.pddl_reader.specs.Syntax.{VariableGroup}
+use Rattle.pddl_reader.specs.Variables.{alternative_behind, alternative_named, alternatives_of, places_behind, group_placed, places_of, Parameters, parameter_number, parameter_named, parameters_with, group_named, no_parameters, parameters_of}
+use Rattle.pddl_reader.proofs.KeptObjects.{type_number-within}
+use Rattle.pddl_reader.proofs.Through.{through_keeps, guard_held}
+
+-- numbers of types, no more than the limit
+record AreTypes (count : ℕ) (numbers : List ℕ) : Type 0 where
+  few : length numbers ≤ 32
+  known : list_all (λ type. nat_lt type count) numbers ≡ true
+
+alternative_kept_by : (count : ℕ) (numbers more : List ℕ) (number : Option ℕ) → ((n : ℕ) → number ≡ Some n → n < count) → AreTypes count numbers →
+    guard (nat_lt (length numbers) 32) (alternative_behind numbers number) ≡ Some more → AreTypes count more
+unfolding alternative_behind guard
+alternative_kept_by count numbers more None within kept h = by (nat_lt (length numbers) 32) h
+  where
+    by : (test : Bool) → guard {A = List ℕ} test None ≡ Some more → AreTypes count more
+    by true e = cc
+    by false e = cc
+alternative_kept_by count numbers more (Some n) within kept h =
+    let held = guard_held (nat_lt (length numbers) 32) (numbers ++ n ∷ []) more h in
+    let room : length numbers < 32 = ltb-true (length numbers) 32 held.0 in
+    let grown : length (numbers ++ n ∷ []) ≤ 32 = rw length-append (omega arith) in
+    let all : list_all (λ type. nat_lt type count) (numbers ++ n ∷ []) ≡ true =
+    rw (list_all-append (λ type. nat_lt type count) numbers (n ∷ []), kept.known, lt-ltb n count (within n refl)) refl in
+    subst (AreTypes count) held.1 (record { few = grown; known = all })
+
+alternative_kept : (count : ℕ) (types : List (List ℕ)) → length types ≡ count → (numbers word more : List ℕ) → AreTypes count numbers →
+    alternative_named types numbers word ≡ Some more → AreTypes count more
+unfolding alternative_named
+alternative_kept count types is numbers word more kept h =
+    alternative_kept_by count numbers more (type_number types word)
+    (λ n e. let lt : n < length types = type_number-within types word n e in omega arith) kept h
+
+alternatives_kept : (parents : List ℕ) (types words : List (List ℕ)) (numbers : List ℕ) → length types ≡ length parents → alternatives_of types words ≡ Some numbers →
+    are_alternatives parents numbers ≡ true
+unfolding alternatives_of are_alternatives
+alternatives_kept parents types words numbers is h =
+    let kept = through_keeps (AreTypes (length parents)) (alternative_named types) (λ s x t k e. alternative_kept (length parents) types is s x t k e) [] words numbers
+    (record { few = omega arith; known = refl }) h in
+    rw (le-leb (length numbers) 32 kept.few, kept.known) refl
+
+-- places that variables may have
+record ArePlaces (parents : List ℕ) (places : List (List ℕ)) : Type 0 where
+  few : length places ≤ 32
+  typed : list_all (are_alternatives parents) places ≡ true
+
+all_alike : (test : List ℕ → Bool) (variables : List (List ℕ)) (types : List ℕ) → test types ≡ true → list_all test (map (λ _. types) variables) ≡ true
+all_alike test [] types h = refl
+all_alike test (v ∷ vs) types h = rw (h, all_alike test vs types h) refl
+
+behind_typed : (parents : List ℕ) (places variables : List (List ℕ)) (types : List ℕ) → list_all (are_alternatives parents) places ≡ true →
+    are_alternatives parents types ≡ true → list_all (are_alternatives parents) (places_behind places variables types) ≡ true
+unfolding places_behind
+behind_typed parents places variables types kept h =
+    rw (list_all-append (are_alternatives parents) places (map (λ _. types) variables), kept, all_alike (are_alternatives parents) variables types h) refl
+
+pub behind-length : (places variables : List (List ℕ)) (types : List ℕ) → length (places_behind places variables types) ≡ length places + length variables
+unfolding places_behind
+behind-length places variables types = rw (length-append, length-map variables (λ (v : List ℕ). types)) refl
+
+group_kept_by : (parents : List ℕ) (places variables more : List (List ℕ)) (found : Option (List ℕ)) → ((ns : List ℕ) → found ≡ Some ns → are_alternatives parents ns ≡ true) →
+    ArePlaces parents places → guard (nat_le (length places + length variables) 32) (option_map (places_behind places variables) found) ≡ Some more → ArePlaces parents more
+unfolding guard
+group_kept_by parents places variables more None known kept h = by (nat_le (length places + length variables) 32) h
+  where
+    by : (test : Bool) → guard {A = List (List ℕ)} test None ≡ Some more → ArePlaces parents more
+    by true e = cc
+    by false e = cc
+group_kept_by parents places variables more (Some ns) known kept h =
+    let held = guard_held (nat_le (length places + length variables) 32) (places_behind places variables ns) more h in
+    let room : length places + length variables ≤ 32 = leb-true (length places + length variables) 32 held.0 in
+    let grown : length (places_behind places variables ns) ≤ 32 = rw (behind-length places variables ns) room in
+    subst (ArePlaces parents) held.1 (record { few = grown; typed = behind_typed parents places variables ns kept.typed (known ns refl) })
+
+group_kept : (parents : List ℕ) (types : List (List ℕ)) → length types ≡ length parents → (places : List (List ℕ)) (group : VariableGroup) (more : List (List ℕ)) →
+    ArePlaces parents places → group_placed types places group ≡ Some more → ArePlaces parents more
+unfolding group_placed
+group_kept parents types is places group more kept h =
+    group_kept_by parents places group.variables more (alternatives_of types group.types) (λ ns e. alternatives_kept parents types group.types ns is e) kept h
+
+-- the places of a predicate are such as a task may have
+pub places_kept : (parents : List ℕ) (types : List (List ℕ)) (groups : List VariableGroup) (places : List (List ℕ)) → length types ≡ length parents →
+    places_of types groups ≡ Some places → are_variables parents places ≡ true
+unfolding places_of are_variables
+places_kept parents types groups places is h =
+    let kept = through_keeps (ArePlaces parents) (group_placed types) (group_kept parents types is) [] groups places (record { few = omega arith; typed = refl }) h in
+    rw (le-leb (length places) 32 kept.few, kept.typed) refl
+
+-- each parameter has its types
+record AreParameters (parents : List ℕ) (p : Parameters) : Type 0 where
+  few : length p.names ≤ 32
+  paired : length p.types ≡ length p.names
+  typed : list_all (are_alternatives parents) p.types ≡ true
+
+parameter_counted : (names : List (List ℕ)) (word : List ℕ) (more : List (List ℕ)) → parameter_named names word ≡ Some more →
+    (length more ≡ length names + 1) × (length more ≤ 32)
+unfolding parameter_named
+parameter_counted names word more h =
+    let held = guard_held (nat_lt (length names) 32 && is_none (parameter_number names word)) (names ++ word ∷ []) more h in
+    let room : length names < 32 = ltb-true (length names) 32 (and_parts (nat_lt (length names) 32) (is_none (parameter_number names word)) held.0).0 in
+    let grown : length (names ++ word ∷ []) ≡ length names + 1 = rw length-append refl in
+    rw (← held.1) (grown, omega arith)
+
+none_some : {A : Type 0} (x : A) → None ≡ Some x → ⊥
+none_some x h = cc
+
+parameters_counted : (names words more : List (List ℕ)) → length names ≤ 32 → through parameter_named names words ≡ Some more →
+    (length more ≡ length names + length words) × (length more ≤ 32)
+unfolding through
+parameters_counted names [] more few h =
+    let same : names ≡ more = cc in
+    rw (← same) (omega arith, few)
+parameters_counted names (w ∷ ws) more few h =
+    by (parameter_named names w) (parameter_counted names w) (λ ns k e. parameters_counted ns ws more k e) h
+  where
+    by : (next : Option (List (List ℕ))) → ((ns : List (List ℕ)) → next ≡ Some ns → (length ns ≡ length names + 1) × (length ns ≤ 32)) →
+        ((ns : List (List ℕ)) → length ns ≤ 32 → through parameter_named ns ws ≡ Some more → (length more ≡ length ns + length ws) × (length more ≤ 32)) →
+        option_and_then (λ ns. through parameter_named ns ws) next ≡ Some more → (length more ≡ length names + length (w ∷ ws)) × (length more ≤ 32)
+    by None first rest e = absurd (none_some more e)
+    by (Some ns) first rest e =
+        let one = first ns refl in
+        let all = rest ns one.1 e in
+        (omega (arith, one.0, all.0), all.1)
+
+named_kept_by : (parents : List ℕ) (p : Parameters) (variables : List (List ℕ)) (more : Parameters) (names : Option (List (List ℕ))) (found : Option (List ℕ)) →
+    ((ns : List (List ℕ)) → names ≡ Some ns → (length ns ≡ length p.names + length variables) × (length ns ≤ 32)) →
+    ((ts : List ℕ) → found ≡ Some ts → are_alternatives parents ts ≡ true) → AreParameters parents p →
+    parameters_with p variables names found ≡ Some more → AreParameters parents more
+unfolding parameters_with
+named_kept_by parents p variables more None found counted known kept h = cc
+named_kept_by parents p variables more (Some ns) None counted known kept h = cc
+named_kept_by parents p variables more (Some ns) (Some ts) counted known kept h =
+    let same : record { names = ns; types = places_behind p.types variables ts } ≡ more = cc in
+    let count = counted ns refl in
+    let pairs : length (places_behind p.types variables ts) ≡ length ns =
+    behind-length p.types variables ts ∙ (let e : length p.types ≡ length p.names = kept.paired in omega (arith, e, count.0)) in
+    subst (AreParameters parents) same (record { few = count.1; paired = pairs; typed = behind_typed parents p.types variables ts kept.typed (known ts refl) })
+
+named_kept : (parents : List ℕ) (types : List (List ℕ)) → length types ≡ length parents → (p : Parameters) (group : VariableGroup) (more : Parameters) →
+    AreParameters parents p → group_named types p group ≡ Some more → AreParameters parents more
+unfolding group_named
+named_kept parents types is p group more kept h =
+    named_kept_by parents p group.variables more (through parameter_named p.names group.variables) (alternatives_of types group.types)
+    (λ ns e. parameters_counted p.names group.variables ns kept.few e) (λ ts e. alternatives_kept parents types group.types ts is e) kept h
+
+-- the parameters of an action are such as a task may have
+pub parameters_kept : (parents : List ℕ) (types : List (List ℕ)) (groups : List VariableGroup) (p : Parameters) → length types ≡ length parents →
+    parameters_of types groups ≡ Some p → are_variables parents p.types ≡ true
+unfolding parameters_of are_variables
+parameters_kept parents types groups p is h =
+    let kept = through_keeps (AreParameters parents) (group_named types) (named_kept parents types is) no_parameters groups p
+    (record { few = omega arith; paired = refl; typed = refl }) h in
+    let few : length p.types ≤ 32 = rw kept.paired kept.few in
+    rw (le-leb (length p.types) 32 few, kept.typed) refl
+
+words_counted : (ws : List Word) → length (word_forms ws) ≡ length ws
+unfolding word_forms
+words_counted ws = length-map ws (λ (w : Word). w.text.now)
+
+group_few : (types : List (List ℕ)) (p : Parameters) (group : VariableGroup) (more : Parameters) → length p.names ≤ 32 → group_named types p group ≡ Some more →
+    length more.names ≤ 32
+unfolding group_named parameters_with
+group_few types p group more few h =
+    by (through parameter_named p.names group.variables) (alternatives_of types group.types) (λ ns e. parameters_counted p.names group.variables ns few e) h
+  where
+    by : (names : Option (List (List ℕ))) (found : Option (List ℕ)) →
+        ((ns : List (List ℕ)) → names ≡ Some ns → (length ns ≡ length p.names + length group.variables) × (length ns ≤ 32)) →
+        parameters_with p group.variables names found ≡ Some more → length more.names ≤ 32
+    by None found counted e = cc
+    by (Some ns) None counted e = cc
+    by (Some ns) (Some ts) counted e =
+        let same : record { names = ns; types = places_behind p.types group.variables ts } ≡ more = cc in
+        rw (← same) (counted ns refl).1
+
+-- there are no more parameters than the limit
+pub few_parameters : (types : List (List ℕ)) (groups : List VariableGroup) (p : ActionParameters) → parameters_of types groups ≡ Some (parameters_form p) →
+    length p.names.items ≤ 32
+unfolding parameters_of
+few_parameters types groups p h =
+    let P : Parameters → Type 0 = λ q. length q.names ≤ 32 in
+    rw (← words_counted p.names.items) (through_keeps P (group_named types) (group_few types) no_parameters groups (parameters_form p) (omega arith) h)

@@ -1,0 +1,120 @@
+-- Terms in their places, one equation for each case.
+
+use Rattle.std.proofs.Common.{◌≡◌, ℕ, ◌&&◌, Bool, true, false, List, [], ◌∷◌, Option, Some, None, refl}
+use Rattle.std.proofs.lemmas.List.{append-nil}
+use Rattle.std.specs.List.{list_any, slice_get}
+use Rattle.std.specs.Map.{values_of}
+use Rattle.pddl_words.specs.Words.{is_name, folded}
+use Rattle.strips_task.specs.declared.actions.Term.{Term}
+use Rattle.strips_task.specs.declared.actions.Term.TheVariants.{Param, Object}
+use Rattle.strips_task.specs.Names.{number_named}
+use Rattle.strips_task.specs.Types.{is_below}
+use Rattle.strips_task.specs.WellFormed.{fits, is_fitting}
+use Rattle.pddl_reader.specs.declared.walk.Word.{Word}
+use Rattle.pddl_reader.specs.Declarations.{Known, types_of_term, fitted_all, object_number, term_named, term_fitted, term_in_place, object_fitted, object_in_place}
+use Rattle.pddl_reader.specs.Forms.{word_forms}
+use Rattle.pddl_reader.specs.Heads.{is_variable}
+use Rattle.pddl_reader.specs.Objects.{Objects}
+use Rattle.pddl_reader.specs.Optional.{guard, with_front}
+use Rattle.pddl_reader.specs.Variables.{Parameters, parameter_number}
+use Rattle.pddl_reader.proofs.Items.{item_steps, word_item_steps}
+use Rattle.pddl_reader.proofs.ListsOf.{with_item, with_front-followed_by, item_none, item_some, front_none}
+
+pub parameter_fits : (known : Known) (params : List (List ℕ)) (place : List ℕ) (number : ℕ) (types : List ℕ) → slice_get params number ≡ Some types →
+    is_fitting known.parents (types_of_term known params (Param number)) place ≡ fits known.parents types place
+unfolding types_of_term is_fitting
+parameter_fits known params place number types h = rw h refl
+
+pub parameter_unknown : (known : Known) (params : List (List ℕ)) (place : List ℕ) (number : ℕ) → slice_get params number ≡ None →
+    is_fitting known.parents (types_of_term known params (Param number)) place ≡ false
+unfolding types_of_term is_fitting
+parameter_unknown known params place number h = rw h refl
+
+and_true : (b : Bool) → (b && true) ≡ b
+and_true true = refl
+and_true false = refl
+
+pub object_fits : (known : Known) (params : List (List ℕ)) (place : List ℕ) (number type : ℕ) → slice_get (values_of known.objects) number ≡ Some type →
+    is_fitting known.parents (types_of_term known params (Object number)) place ≡ list_any (is_below known.parents type) place
+unfolding types_of_term is_fitting fits
+object_fits known params place number type h = rw h (and_true (list_any (is_below known.parents type) place))
+
+pub object_unknown : (known : Known) (params : List (List ℕ)) (place : List ℕ) (number : ℕ) → slice_get (values_of known.objects) number ≡ None →
+    is_fitting known.parents (types_of_term known params (Object number)) place ≡ false
+unfolding types_of_term is_fitting
+object_unknown known params place number h = rw h refl
+
+pub ruleset fitting_steps = (parameter_fits, parameter_unknown, object_fits, object_unknown)
+
+pub no_object_name : (objects : Objects) (w : List ℕ) → is_name w ≡ false → object_number objects w ≡ None
+unfolding object_number guard
+no_object_name objects w h = rw h refl
+
+pub object_name : (objects : Objects) (w : List ℕ) → is_name w ≡ true → object_number objects w ≡ number_named objects (folded w)
+unfolding object_number guard
+object_name objects w h = rw h refl
+
+pub ruleset object_steps = (no_object_name, object_name)
+
+pub object_missing : (known : Known) (place w : List ℕ) → object_number known.objects w ≡ None → object_in_place known place w ≡ None
+unfolding object_in_place object_fitted
+object_missing known place w h = rw h refl
+
+pub object_misplaced : (known : Known) (place w : List ℕ) (number : ℕ) → object_number known.objects w ≡ Some number →
+    is_fitting known.parents (types_of_term known [] (Object number)) place ≡ false → object_in_place known place w ≡ None
+unfolding object_in_place object_fitted guard
+object_misplaced known place w number h e = rw (h, e) refl
+
+pub object_placed : (known : Known) (place w : List ℕ) (number : ℕ) → object_number known.objects w ≡ Some number →
+    is_fitting known.parents (types_of_term known [] (Object number)) place ≡ true → object_in_place known place w ≡ Some number
+unfolding object_in_place object_fitted guard
+object_placed known place w number h e = rw (h, e) refl
+
+pub ruleset object_place_steps = (object_missing, object_misplaced, object_placed)
+
+pub fitted_end : {A : Type 0} (front : List A) (fit : List ℕ → List ℕ → Option A) → with_front front (fitted_all fit [] (word_forms [])) ≡ Some front
+unfolding fitted_all with_front word_forms
+fitted_end front fit = rw append-nil refl
+
+pub fitted_item : {A : Type 0} (front : List A) (fit : List ℕ → List ℕ → Option A) (place : List ℕ) (places : List (List ℕ)) (x : Word) (xs : List Word) →
+    with_front front (fitted_all fit (place ∷ places) (word_forms (x ∷ xs))) ≡ with_item front (fit place x.text.now) (fitted_all fit places (word_forms xs))
+unfolding fitted_all word_forms
+fitted_item front fit place places x xs = with_front-followed_by front (fit place x.text.now) (fitted_all fit places (word_forms xs))
+
+pub ruleset fitted_steps = (item_steps, word_item_steps, front_none, fitted_end, fitted_item, item_none, item_some)
+
+pub variable_unknown : (known : Known) (p : Parameters) (w : List ℕ) → is_variable w ≡ true → parameter_number p.names w ≡ None → term_named known p w ≡ None
+unfolding term_named
+variable_unknown known p w h e = rw (h, e) refl
+
+pub variable_known : (known : Known) (p : Parameters) (w : List ℕ) (number : ℕ) → is_variable w ≡ true → parameter_number p.names w ≡ Some number →
+    term_named known p w ≡ Some (Param number)
+unfolding term_named
+variable_known known p w number h e = rw (h, e) refl
+
+pub constant_unknown : (known : Known) (p : Parameters) (w : List ℕ) → is_variable w ≡ false → object_number known.objects w ≡ None → term_named known p w ≡ None
+unfolding term_named
+constant_unknown known p w h e = rw (h, e) refl
+
+pub constant_known : (known : Known) (p : Parameters) (w : List ℕ) (number : ℕ) → is_variable w ≡ false → object_number known.objects w ≡ Some number →
+    term_named known p w ≡ Some (Object number)
+unfolding term_named
+constant_known known p w number h e = rw (h, e) refl
+
+pub ruleset term_steps = (variable_unknown, variable_known, constant_unknown, constant_known)
+
+pub term_missing : (known : Known) (p : Parameters) (place w : List ℕ) → term_named known p w ≡ None → term_in_place known p place w ≡ None
+unfolding term_in_place term_fitted
+term_missing known p place w h = rw h refl
+
+pub term_misplaced : (known : Known) (p : Parameters) (place w : List ℕ) (term : Term) → term_named known p w ≡ Some term →
+    is_fitting known.parents (types_of_term known p.types term) place ≡ false → term_in_place known p place w ≡ None
+unfolding term_in_place term_fitted guard
+term_misplaced known p place w term h e = rw (h, e) refl
+
+pub term_placed : (known : Known) (p : Parameters) (place w : List ℕ) (term : Term) → term_named known p w ≡ Some term →
+    is_fitting known.parents (types_of_term known p.types term) place ≡ true → term_in_place known p place w ≡ Some term
+unfolding term_in_place term_fitted guard
+term_placed known p place w term h e = rw (h, e) refl
+
+pub ruleset term_place_steps = (term_missing, term_misplaced, term_placed)

@@ -1,0 +1,19 @@
+use Rattle.std.proofs.lemmas.Result.{err_from_is_err_and}
+use Rattle.pddl_reader.specs.Resolved.{known_form, parameters_form}
+use Rattle.pddl_reader.proofs.AtomSteps.{pattern_unfit, pattern_fit}
+use Rattle.pddl_reader.proofs.resolution.atoms.pattern.Goals as goal
+
+pub returns-in_err-terms : goal.returns-in_err-terms
+returns-in_err-terms c =
+    let p = err_from_is_err_and c.from_residual-in_err-terms.result c.from_residual-in_err-terms.ensures.1 in
+    let e = c.in_err-terms.ensures in
+    rw (p.1, p.2) (
+      e.0,
+      λ k. pattern_unfit (known_form c.args.known.now) (parameters_form c.args.parameters.now) c.args.syntax.now c.in_ok-pred.pred
+          c.places_of-places.result.now c.in_ok-pred.ensures c.places_of-places.ensures.places (rw (← c.as_slice.ensures.value) (e.1 k)),
+    )
+
+pub returns : goal.returns
+returns c =
+    pattern_fit (known_form c.args.known.now) (parameters_form c.args.parameters.now) c.args.syntax.now c.in_ok-pred.pred c.places_of-places.result.now
+    c.in_ok-terms.terms c.in_ok-pred.ensures c.places_of-places.ensures.places (rw (← c.as_slice.ensures.value) c.in_ok-terms.ensures)

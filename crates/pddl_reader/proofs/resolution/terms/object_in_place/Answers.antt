@@ -1,0 +1,18 @@
+use Rattle.std.proofs.Common.{◌≡◌, ◌∙◌, ap, sym}
+use Rattle.pddl_reader.specs.declared.fault.FaultKind.TheVariants.{WrongType, OutOfMemory}
+use Rattle.pddl_reader.specs.declared.fault.ReadFault.{ReadFault}
+use Rattle.pddl_reader.specs.Resolved.{known_form}
+use Rattle.pddl_reader.proofs.TermSteps.{object_misplaced, object_placed}
+use Rattle.pddl_reader.proofs.resolution.terms.object_in_place.Goals as goal
+
+pub returns-then-not-term_fits : goal.returns-then-not-term_fits
+returns-then-not-term_fits c = (
+  λ k. let z : WrongType ≡ OutOfMemory = sym (ap (λ (f : ReadFault). f.kind) c.new-then-not-term_fits.ensures) ∙ k in cc,
+  λ _. object_misplaced (known_form c.args.known.now) c.args.place.now c.args.word.text.now c.in-Some.number (c.in_ok-number.ensures ∙ c.in-Some.is)
+      (sym c.term_fits.ensures ∙ c.if-not-term_fits.true),
+)
+
+pub returns : goal.returns
+returns c =
+    object_placed (known_form c.args.known.now) c.args.place.now c.args.word.text.now c.in-Some.number (c.in_ok-number.ensures ∙ c.in-Some.is)
+    (sym c.term_fits.ensures ∙ c.if-not-term_fits.false)

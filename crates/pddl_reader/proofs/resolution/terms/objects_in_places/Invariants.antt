@@ -1,0 +1,11 @@
+use Rattle.std.proofs.Common.{◌≡◌, drop}
+use Rattle.pddl_reader.specs.Declarations.{fitted_all, object_in_place}
+use Rattle.pddl_reader.specs.Forms.{word_forms}
+use Rattle.pddl_reader.specs.Optional.{with_front}
+use Rattle.pddl_reader.specs.Resolved.{known_form}
+use Rattle.pddl_reader.proofs.resolution.terms.objects_in_places.Given as goal
+
+abbrev pub invariant-places : goal.invariant-places
+invariant-places l =
+    with_front l.objects (fitted_all (object_in_place (known_form l.known)) (drop l.index l.places) (word_forms (drop l.index l.words)))
+    ≡ fitted_all (object_in_place (known_form l.known)) l.places (word_forms l.words)

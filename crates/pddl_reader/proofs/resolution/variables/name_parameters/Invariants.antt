@@ -1,0 +1,10 @@
+use Rattle.std.proofs.Common.{◌≡◌, drop}
+use Rattle.pddl_reader.specs.Forms.{word_forms}
+use Rattle.pddl_reader.specs.Optional.{through}
+use Rattle.pddl_reader.specs.Variables.{parameter_named}
+use Rattle.pddl_reader.proofs.resolution.variables.name_parameters.Given as goal
+
+abbrev pub invariant-words : goal.invariant-words
+invariant-words l =
+    through parameter_named (word_forms l.names.items) (word_forms (drop l.word-index l.words))
+    ≡ through parameter_named (word_forms l.fn.names.items) (word_forms l.words)

@@ -1,0 +1,13 @@
+-- What resolution keeps, as the definitions name it.
+
+use Rattle.pddl_reader.specs.declared.resolution.variables.ActionParameters.{ActionParameters}
+use Rattle.pddl_reader.specs.declared.resolution.tables.Declared.{Declared}
+use Rattle.pddl_reader.specs.Declarations.{Known}
+use Rattle.pddl_reader.specs.Forms.{word_forms}
+use Rattle.pddl_reader.specs.Variables.{Parameters}
+
+abbrev pub parameters_form : ActionParameters → Parameters
+parameters_form p = record { names = word_forms p.names.items; types = p.types }
+
+abbrev pub known_form : Declared → Known
+known_form k = record { parents = k.parents.now; objects = k.objects.now; predicates = k.predicates.now }

@@ -1,0 +1,67 @@
+-- The types of which variables may be, and the parameters of actions.
+
+use Rattle.std.specs.Prelude.{ℕ, ◌+◌, ◌&&◌, nat_le, nat_lt, is_none, List, [], ◌∷◌, ◌++◌, length, map, Option, Some, None}
+use Rattle.std.specs.List.{position_from}
+use Rattle.std.specs.Option.{option_map}
+use Rattle.pddl_words.specs.Kinds.{is_same_word}
+use Rattle.strips_task.specs.WellFormed.{most_variables, most_alternatives}
+use Rattle.pddl_reader.specs.Objects.{type_number}
+use Rattle.pddl_reader.specs.Optional.{guard, through}
+use Rattle.pddl_reader.specs.Syntax.{VariableGroup}
+
+-- one more alternative behind others, where it is a type
+unfoldable pub alternative_behind : List ℕ → Option ℕ → Option (List ℕ)
+alternative_behind numbers None = None
+alternative_behind numbers (Some number) = Some (numbers ++ number ∷ [])
+
+-- a word of a choice names a type; there are no more alternatives than the limit
+unfoldable pub alternative_named : List (List ℕ) → List ℕ → List ℕ → Option (List ℕ)
+alternative_named types numbers word = guard (nat_lt (length numbers) most_alternatives) (alternative_behind numbers (type_number types word))
+
+-- the numbers of the types of a choice, in text order
+unfoldable pub alternatives_of : List (List ℕ) → List (List ℕ) → Option (List ℕ)
+alternatives_of types words = through (alternative_named types) [] words
+
+-- places behind others, one of these types for each variable
+unfoldable pub places_behind : List (List ℕ) → List (List ℕ) → List ℕ → List (List ℕ)
+places_behind places variables types = places ++ map (λ _. types) variables
+
+-- the places of a group; there are no more variables than the limit
+unfoldable pub group_placed : List (List ℕ) → List (List ℕ) → VariableGroup → Option (List (List ℕ))
+group_placed types places group =
+    guard (nat_le (length places + length group.variables) most_variables)
+    (option_map (places_behind places group.variables) (alternatives_of types group.types))
+
+-- for each variable the types of which it may be
+unfoldable pub places_of : List (List ℕ) → List VariableGroup → Option (List (List ℕ))
+places_of types groups = through (group_placed types) [] groups
+
+-- the parameters of an action: their names, and for each the types of which it may be
+pub record Parameters : Type 0 where
+  pub names : List (List ℕ)
+  pub types : List (List ℕ)
+
+-- the number of a parameter by its name
+unfoldable pub parameter_number : List (List ℕ) → List ℕ → Option ℕ
+parameter_number names word = position_from (is_same_word word) 0 names
+
+-- a parameter has a name of its own; there are no more parameters than the limit
+unfoldable pub parameter_named : List (List ℕ) → List ℕ → Option (List (List ℕ))
+parameter_named names word = guard (nat_lt (length names) most_variables && is_none (parameter_number names word)) (Some (names ++ word ∷ []))
+
+unfoldable pub parameters_with : Parameters → List (List ℕ) → Option (List (List ℕ)) → Option (List ℕ) → Option Parameters
+parameters_with parameters variables None types = None
+parameters_with parameters variables (Some names) None = None
+parameters_with parameters variables (Some names) (Some types) = Some (record { names = names; types = places_behind parameters.types variables types })
+
+-- the parameters of a group behind others
+unfoldable pub group_named : List (List ℕ) → Parameters → VariableGroup → Option Parameters
+group_named types parameters group =
+    parameters_with parameters group.variables (through parameter_named parameters.names group.variables) (alternatives_of types group.types)
+
+abbrev pub no_parameters : Parameters
+no_parameters = record { names = []; types = [] }
+
+-- the parameters that groups declare
+unfoldable pub parameters_of : List (List ℕ) → List VariableGroup → Option Parameters
+parameters_of types groups = through (group_named types) no_parameters groups

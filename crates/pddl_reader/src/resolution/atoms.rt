@@ -1,0 +1,63 @@
+//! The patterns and the ground atoms that atoms stand for.
+
+ghost use Rattle.std.specs.Prelude.{◌≡◌, ◌≤◌, length, slice_get, true, Some};
+ghost use Rattle.std.specs.Map.{values_of};
+ghost use Rattle.pddl_reader.specs.Declarations.{ground_of, pattern_of, takes_terms};
+ghost use Rattle.pddl_reader.specs.Forms.{atom_form};
+ghost use Rattle.pddl_reader.specs.Reading.{Gives};
+ghost use Rattle.pddl_reader.specs.Resolved.{known_form, parameters_form};
+
+use crate::fault::ReadFault;
+use crate::resolution::names::predicate_number;
+use crate::resolution::tables::Declared;
+use crate::resolution::terms::{objects_in_places, terms_in_places};
+use crate::resolution::variables::ActionParameters;
+use crate::syntax::AtomSyntax;
+use std::alloc::Global;
+use strips_task::{Alternatives, Atom, NameTable, Pattern, Seq};
+
+/// The places of a predicate.
+#[tactic(auto, using(crate::proofs::AtomSteps::places_steps))]
+fn places_of(
+    predicates: &NameTable<Seq<Alternatives>>,
+    number: u16,
+    count: usize,
+) -> &[Alternatives]
+    requires { takes_terms predicates.now number count ≡ true }
+    ensures places { slice_get (values_of predicates.now) number ≡ Some result.now }
+    ensures as_many { length result.now ≡ count }
+{
+    predicates.get(usize::from(number)).1.as_slice()
+}
+
+/// The ground atom that an atom of a problem stands for.
+#[tactic(auto, using(crate::proofs::AtomSteps::ground_steps))]
+pub(crate) fn ground_atom(
+    alloc: Global,
+    known: &Declared<'_>,
+    syntax: &AtomSyntax<'_>,
+) -> Result<Atom, ReadFault>
+    ensures { Gives (λ atom. atom) result (ground_of (known_form known.now) (atom_form syntax.now)) }
+{
+    let pred = predicate_number(alloc, known.predicates, syntax)?;
+    let places = places_of(known.predicates, pred, syntax.terms.len());
+    let args = objects_in_places(alloc, known, places, syntax.terms.as_slice())?;
+    Ok(Atom { pred, args })
+}
+
+/// The pattern that an atom of an action stands for.
+#[tactic(auto, using(crate::proofs::AtomSteps::pattern_steps))]
+pub(crate) fn pattern(
+    alloc: Global,
+    known: &Declared<'_>,
+    parameters: &ActionParameters<'_>,
+    syntax: &AtomSyntax<'_>,
+) -> Result<Pattern, ReadFault>
+    requires { length parameters.now.names.items ≤ 32 }
+    ensures { Gives (λ pattern. pattern) result (pattern_of (known_form known.now) (parameters_form parameters.now) (atom_form syntax.now)) }
+{
+    let pred = predicate_number(alloc, known.predicates, syntax)?;
+    let places = places_of(known.predicates, pred, syntax.terms.len());
+    let terms = terms_in_places(alloc, known, parameters, places, syntax.terms.as_slice())?;
+    Ok(Pattern { pred, terms })
+}

@@ -1,0 +1,36 @@
+//! The tables in which the names of atoms are looked up.
+
+ghost use Rattle.std.specs.Prelude.{◌≡◌, ◌≤◌, length};
+
+use strips_task::{Alternatives, NameTable, Seq, TypeList};
+
+/// What atoms may speak of: types with their order, objects and predicates.
+#[derive(Clone, Copy)]
+pub(crate) struct Declared<'d> {
+    pub(crate) parents: &'d TypeList,
+    pub(crate) objects: &'d NameTable<u16>,
+    pub(crate) predicates: &'d NameTable<Seq<Alternatives>>,
+    ghost few_objects: { length objects.now ≤ 65535 },
+    ghost few_predicates: { length predicates.now ≤ 4096 },
+}
+
+impl<'d> Declared<'d> {
+    /// What is declared by these tables.
+    pub(crate) fn new(
+        parents: &'d TypeList,
+        objects: &'d NameTable<u16>,
+        predicates: &'d NameTable<Seq<Alternatives>>,
+    ) -> Self
+        requires few_objects { length objects.now ≤ 65535 }
+        requires few_predicates { length predicates.now ≤ 4096 }
+        ensures parents { result.parents.now ≡ parents.now }
+        ensures objects { result.objects.now ≡ objects.now }
+        ensures predicates { result.predicates.now ≡ predicates.now }
+    {
+        Declared {
+            parents,
+            objects,
+            predicates,
+        }
+    }
+}

@@ -1,0 +1,182 @@
+//! Terms are looked up, and tested against the places where they stand.
+
+ghost use Rattle.std.specs.Prelude.{◌≡◌, ◌<◌, ◌≤◌, length, IfOk, IfSome};
+ghost use Rattle.std.specs.List.{list_any};
+ghost use Rattle.strips_task.specs.Types.{is_below};
+ghost use Rattle.strips_task.specs.WellFormed.{fits, is_fitting};
+ghost use Rattle.pddl_reader.specs.Declarations.{fitted_all, object_in_place, object_number, term_in_place, term_named, types_of_term};
+ghost use Rattle.pddl_reader.specs.Forms.{word_forms};
+ghost use Rattle.pddl_reader.specs.Reading.{Gives, GivesOption};
+ghost use Rattle.pddl_reader.specs.Resolved.{known_form, parameters_form};
+
+use crate::fault::{FaultKind, ReadFault};
+use crate::heads::{is_name, is_variable};
+use crate::resolution::names::name;
+use crate::resolution::tables::Declared;
+use crate::resolution::variables::{ActionParameters, parameter_number};
+use crate::walk::{NameWord, Word};
+use std::alloc::Global;
+use strips_task::{Alternatives, NameTable, ShortSeq, Term, TypeList};
+
+/// Whether a type is below some of the others.
+fn fits_some(parents: &TypeList, number: u16, places: &[u16]) -> bool
+    ensures { result ≡ list_any (is_below parents.now number) places.now }
+{
+    places.iter().any(|place| parents.is_below(number, *place))
+}
+
+/// Whether each of the first types is below some of the second.
+#[tactic(auto, unfolding(strips_task::specs::WellFormed::fits))]
+fn fits(parents: &TypeList, types: &[u16], places: &[u16]) -> bool
+    ensures { result ≡ fits parents.now types.now places.now }
+{
+    types
+        .iter()
+        .all(|number| fits_some(parents, *number, places))
+}
+
+/// Whether a term is a parameter or an object that fits a place for these types.
+#[tactic(auto, using(crate::proofs::TermSteps::fitting_steps))]
+fn term_fits(known: &Declared<'_>, params: &[Alternatives], term: Term, place: &[u16]) -> bool
+    ensures { result ≡ is_fitting known.now.parents.now (types_of_term (known_form known.now) params.now term) place.now }
+{
+    match term {
+        Term::Param(number) => match params.get(usize::from(number)) {
+            Some(types) => fits(known.parents, types.as_slice(), place),
+            None => false,
+        },
+        Term::Object(number) => match known.objects.value(usize::from(number)) {
+            Some(kind) => fits_some(known.parents, *kind, place),
+            None => false,
+        },
+    }
+}
+
+/// The number of the object that a word names.
+#[tactic(auto, using(crate::proofs::TermSteps::object_steps))]
+fn object_number(
+    alloc: Global,
+    objects: &NameTable<u16>,
+    word: Word<'_>,
+) -> Result<Option<u16>, ReadFault>
+    requires { length objects.now ≤ 65535 }
+    ensures { GivesOption result (object_number objects.now word.entry.text.now) }
+{
+    if !is_name(word.text) {
+        return Ok(None);
+    }
+    let name = name(alloc, NameWord::new(word))?;
+    match objects.number_of(name.as_bytes()) {
+        Some(number) => Ok(Some(number as u16)),
+        None => Ok(None),
+    }
+}
+
+/// The object that a word names, where it fits its place.
+#[tactic(auto, using(crate::proofs::TermSteps::object_place_steps))]
+fn object_in_place(
+    alloc: Global,
+    known: &Declared<'_>,
+    place: &[u16],
+    word: Word<'_>,
+) -> Result<u16, ReadFault>
+    ensures { Gives (λ number. number) result (object_in_place (known_form known.now) place.now word.entry.text.now) }
+{
+    let Some(number) = object_number(alloc, known.objects, word)? else {
+        return Err(ReadFault::new(FaultKind::UnknownName, word.span));
+    };
+    if !term_fits(known, &[], Term::Object(number), place) {
+        return Err(ReadFault::new(FaultKind::WrongType, word.span));
+    }
+    Ok(number)
+}
+
+/// The objects that words name, where each fits its place.
+#[tactic(auto, using(crate::proofs::TermSteps::fitted_steps))]
+pub(crate) fn objects_in_places(
+    alloc: Global,
+    known: &Declared<'_>,
+    places: &[Alternatives],
+    words: &[Word<'_>],
+) -> Result<ShortSeq<u16>, ReadFault>
+    requires { length places.now ≡ length words.now }
+    ensures { Gives (λ objects. objects) result (fitted_all (object_in_place (known_form known.now)) places.now (word_forms words.now)) }
+{
+    let mut objects = ShortSeq::new(alloc);
+    'places: for index in 0..places.len() {
+        let number = object_in_place(alloc, known, places[index].as_slice(), words[index])?;
+        objects.push(number)?;
+    }
+    Ok(objects)
+}
+
+/// The term that a word stands for in an action.
+#[tactic(auto, using(crate::proofs::TermSteps::term_steps))]
+fn term(
+    alloc: Global,
+    known: &Declared<'_>,
+    parameters: &ActionParameters<'_>,
+    word: Word<'_>,
+) -> Result<Option<Term>, ReadFault>
+    requires { length parameters.now.names.items ≤ 32 }
+    ensures { GivesOption result (term_named (known_form known.now) (parameters_form parameters.now) word.entry.text.now) }
+{
+    if is_variable(word.text) {
+        return match parameter_number(parameters.names.as_slice(), word.text) {
+            Some(number) => Ok(Some(Term::Param(number as u16))),
+            None => Ok(None),
+        };
+    }
+    match object_number(alloc, known.objects, word)? {
+        Some(number) => Ok(Some(Term::Object(number))),
+        None => Ok(None),
+    }
+}
+
+/// The term that a word stands for in an action, where it fits its place.
+#[tactic(auto, using(crate::proofs::TermSteps::term_place_steps))]
+fn term_in_place(
+    alloc: Global,
+    known: &Declared<'_>,
+    parameters: &ActionParameters<'_>,
+    place: &[u16],
+    word: Word<'_>,
+) -> Result<Term, ReadFault>
+    requires { length parameters.now.names.items ≤ 32 }
+    ensures { Gives (λ term. term) result (term_in_place (known_form known.now) (parameters_form parameters.now) place.now word.entry.text.now) }
+{
+    let Some(found) = term(alloc, known, parameters, word)? else {
+        return Err(ReadFault::new(FaultKind::UnknownName, word.span));
+    };
+    if !term_fits(known, parameters.types.as_slice(), found, place) {
+        return Err(ReadFault::new(FaultKind::WrongType, word.span));
+    }
+    Ok(found)
+}
+
+/// The terms that words stand for in an action, where each fits its place.
+#[tactic(auto, using(crate::proofs::TermSteps::fitted_steps))]
+pub(crate) fn terms_in_places(
+    alloc: Global,
+    known: &Declared<'_>,
+    parameters: &ActionParameters<'_>,
+    places: &[Alternatives],
+    words: &[Word<'_>],
+) -> Result<ShortSeq<Term>, ReadFault>
+    requires few { length parameters.now.names.items ≤ 32 }
+    requires as_many { length places.now ≡ length words.now }
+    ensures { Gives (λ terms. terms) result (fitted_all (term_in_place (known_form known.now) (parameters_form parameters.now)) places.now (word_forms words.now)) }
+{
+    let mut terms = ShortSeq::new(alloc);
+    'places: for index in 0..places.len() {
+        let term = term_in_place(
+            alloc,
+            known,
+            parameters,
+            places[index].as_slice(),
+            words[index],
+        )?;
+        terms.push(term)?;
+    }
+    Ok(terms)
+}

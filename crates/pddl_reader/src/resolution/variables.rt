@@ -1,0 +1,224 @@
+//! The types of which variables may be, and the parameters of actions.
+
+ghost use Rattle.std.specs.Prelude.{◌≡◌, ◌<◌, ◌≤◌, ◌+◌, nat_le, length, IfOk, IfSome, OnOk};
+ghost use Rattle.std.specs.Map.{keys_of};
+ghost use Rattle.pddl_reader.specs.Forms.{name_forms, variable_group_form, variable_groups, word_forms};
+ghost use Rattle.pddl_reader.specs.Optional.{through};
+ghost use Rattle.pddl_reader.specs.Reading.{Allows, Gives, Puts};
+ghost use Rattle.pddl_reader.specs.Resolved.{parameters_form};
+ghost use Rattle.pddl_reader.specs.Variables.{alternatives_of, group_named, group_placed, parameter_named, parameter_number, parameters_of, places_behind, places_of};
+
+use crate::fault::{FaultKind, ReadFault};
+use crate::resolution::objects::type_number;
+use crate::syntax::VariableGroup;
+use crate::walk::{NameWord, Word};
+use pddl_tokens::same_folded;
+use std::alloc::{AllocError, Global};
+use strips_task::{Alternatives, NameTable, Seq};
+
+/// How many variables a predicate or an action may have.
+const MOST_VARIABLES: usize = 32;
+
+/// Of how many types a variable may be.
+const MOST_ALTERNATIVES: usize = 32;
+
+/// The types that words name.
+#[tactic(auto, using(crate::proofs::VariableMeaning::alternative_steps))]
+fn alternatives(
+    alloc: Global,
+    types: &NameTable<()>,
+    words: &[NameWord<'_>],
+) -> Result<Alternatives, ReadFault>
+    requires { length types.now ≤ 1025 }
+    ensures { Gives (λ numbers. numbers) result (alternatives_of (keys_of types.now) (name_forms words.now)) }
+{
+    let mut numbers = Seq::new(alloc);
+    'words: for word in words {
+        if numbers.len() >= MOST_ALTERNATIVES {
+            return Err(ReadFault::new(FaultKind::TooMany, word.span));
+        }
+        let Some(number) = type_number(alloc, types, *word)? else {
+            return Err(ReadFault::new(FaultKind::UnknownName, word.span));
+        };
+        numbers.push(number)?;
+    }
+    Ok(numbers)
+}
+
+/// A copy of the types.
+fn copy(alloc: Global, types: &Alternatives) -> Result<Alternatives, AllocError>
+    ensures { IfOk result (λ copy. copy ≡ types.now) }
+{
+    let mut numbers = Vec::new(alloc);
+    numbers.extend_from_slice(types.as_slice())?;
+    Ok(Seq::from_vec(numbers))
+}
+
+/// Puts places of these types behind others, one for each variable.
+#[tactic(auto, using(crate::proofs::VariableMeaning::place_steps))]
+fn put_places(
+    alloc: Global,
+    places: &mut Seq<Alternatives>,
+    variables: &[Word<'_>],
+    types: &Alternatives,
+) -> Result<(), AllocError>
+    ensures { OnOk result (places.new ≡ places_behind places.old (word_forms variables.now) types.now) }
+{
+    'variables: for _ in variables {
+        places.push(copy(alloc, types)?)?;
+    }
+    Ok(())
+}
+
+/// Tests that so many variables may stand behind others.
+fn check_room(count: usize, variables: &[Word<'_>]) -> Result<(), ReadFault>
+    requires { count ≤ 32 }
+    ensures { Allows result (nat_le (count + length variables.now) 32) }
+{
+    if variables.len() > MOST_VARIABLES - count {
+        let first = variables[MOST_VARIABLES - count];
+        return Err(ReadFault::new(FaultKind::TooMany, first.span));
+    }
+    Ok(())
+}
+
+/// Puts the places of a group behind others.
+#[tactic(auto, using(crate::proofs::VariableMeaning::group_steps))]
+fn put_group(
+    alloc: Global,
+    types: &NameTable<()>,
+    places: &mut Seq<Alternatives>,
+    group: &VariableGroup<'_>,
+) -> Result<(), ReadFault>
+    requires few { length types.now ≤ 1025 }
+    requires room { length places.old ≤ 32 }
+    ensures { Puts result (group_placed (keys_of types.now) places.old (variable_group_form group.now)) places.new }
+{
+    check_room(places.len(), group.variables.as_slice())?;
+    let alternatives = alternatives(alloc, types, group.kinds.as_slice())?;
+    put_places(alloc, places, group.variables.as_slice(), &alternatives)?;
+    Ok(())
+}
+
+/// The places of a predicate: for each of its variables the types of which it may be.
+#[tactic(auto, using(crate::proofs::VariableMeaning::places_steps))]
+pub(crate) fn places(
+    alloc: Global,
+    types: &NameTable<()>,
+    groups: &[VariableGroup<'_>],
+) -> Result<Seq<Alternatives>, ReadFault>
+    requires { length types.now ≤ 1025 }
+    ensures { Gives (λ places. places) result (places_of (keys_of types.now) (variable_groups groups.now)) }
+{
+    let mut places = Seq::new(alloc);
+    'groups: for group in groups {
+        put_group(alloc, types, &mut places, group)?;
+    }
+    Ok(places)
+}
+
+/// The parameters of an action: their names, and for each the types of which it may be.
+#[derive(Drop)]
+pub(crate) struct ActionParameters<'a> {
+    pub(crate) names: Vec<Word<'a>>,
+    pub(crate) types: Seq<Alternatives>,
+}
+
+/// The number of the parameter with a name. There are few parameters, so a walk over them is quick.
+#[tactic(auto, using(crate::proofs::VariableMeaning::position_steps))]
+pub(crate) fn parameter_number(names: &[Word<'_>], word: &[u8]) -> Option<usize>
+    ensures number { result ≡ parameter_number (word_forms names.now) word.now }
+    ensures within { IfSome result (λ number. number < length names.now) }
+{
+    'names: for number in 0..names.len() {
+        if same_folded(word, names[number].text) {
+            return Some(number);
+        }
+    }
+    None
+}
+
+/// Names one more parameter.
+#[tactic(auto, using(crate::proofs::VariableMeaning::parameter_steps))]
+fn name_parameter<'a>(names: &mut Vec<Word<'a>>, word: Word<'a>) -> Result<(), ReadFault>
+    ensures { Puts result (parameter_named (word_forms names.old.items) word.entry.text.now) (word_forms names.new.items) }
+{
+    if names.len() >= MOST_VARIABLES {
+        return Err(ReadFault::new(FaultKind::TooMany, word.span));
+    }
+    if parameter_number(names.as_slice(), word.text).is_some() {
+        return Err(ReadFault::new(FaultKind::Repeated, word.span));
+    }
+    names.push(word)?;
+    Ok(())
+}
+
+/// Names the parameters of a group.
+#[tactic(auto, using(crate::proofs::Through::through_steps, crate::proofs::VariableMeaning::words_steps))]
+fn name_parameters<'a>(names: &mut Vec<Word<'a>>, words: &[Word<'a>]) -> Result<(), ReadFault>
+    ensures { Puts result (through parameter_named (word_forms names.old.items) (word_forms words.now)) (word_forms names.new.items) }
+{
+    'words: for word in words {
+        name_parameter(names, *word)?;
+    }
+    Ok(())
+}
+
+/// Declares the parameters of a group.
+#[tactic(auto, using(crate::proofs::VariableMeaning::group_named_steps))]
+fn declare_group<'a>(
+    alloc: Global,
+    types: &NameTable<()>,
+    parameters: &mut ActionParameters<'a>,
+    group: &VariableGroup<'a>,
+) -> Result<(), ReadFault>
+    requires { length types.now ≤ 1025 }
+    ensures { Puts result (group_named (keys_of types.now) (parameters_form parameters.old) (variable_group_form group.now))
+        (parameters_form parameters.new) }
+{
+    name_parameters(&mut parameters.names, group.variables.as_slice())?;
+    let alternatives = alternatives(alloc, types, group.kinds.as_slice())?;
+    put_places(
+        alloc,
+        &mut parameters.types,
+        group.variables.as_slice(),
+        &alternatives,
+    )?;
+    Ok(())
+}
+
+/// Declares the parameters of all groups.
+#[tactic(auto, using(crate::proofs::Through::through_steps, crate::proofs::VariableMeaning::declared_steps))]
+fn declare_groups<'a>(
+    alloc: Global,
+    types: &NameTable<()>,
+    parameters: &mut ActionParameters<'a>,
+    groups: &[VariableGroup<'a>],
+) -> Result<(), ReadFault>
+    requires { length types.now ≤ 1025 }
+    ensures { Puts result (through (group_named (keys_of types.now)) (parameters_form parameters.old) (variable_groups groups.now))
+        (parameters_form parameters.new) }
+{
+    'groups: for group in groups {
+        declare_group(alloc, types, parameters, group)?;
+    }
+    Ok(())
+}
+
+/// The parameters of an action.
+#[tactic(auto, using(crate::proofs::VariableMeaning::parameters_steps))]
+pub(crate) fn parameters<'a>(
+    alloc: Global,
+    types: &NameTable<()>,
+    groups: &[VariableGroup<'a>],
+) -> Result<ActionParameters<'a>, ReadFault>
+    requires { length types.now ≤ 1025 }
+    ensures { Gives parameters_form result (parameters_of (keys_of types.now) (variable_groups groups.now)) }
+{
+    let mut parameters = ActionParameters {
+        names: Vec::new(alloc),
+        types: Seq::new(alloc),
+    };
+    declare_groups(alloc, types, &mut parameters, groups)?;
+    Ok(parameters)
+}
