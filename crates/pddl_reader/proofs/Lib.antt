@@ -9,6 +9,8 @@ pub mod WordSteps
 pub mod VariableSteps
 pub mod Through
 pub mod TypeTests
+pub mod TypeCycles
+pub mod CycleSteps
 pub mod TypeSteps
 pub mod ObjectSteps
 pub mod KeptObjects

@@ -4,7 +4,7 @@ use Rattle.std.proofs.Common.{◌≡◌, ℕ, ◌&&◌, Bool, true, false, List,
 use Rattle.std.proofs.lemmas.List.{append-nil}
 use Rattle.std.specs.List.{list_any, slice_get}
 use Rattle.std.specs.Map.{values_of}
-use Rattle.pddl_words.specs.Words.{is_name, folded}
+use Rattle.pddl_words.specs.Words.{folded}
 use Rattle.strips_task.specs.declared.actions.Term.{Term}
 use Rattle.strips_task.specs.declared.actions.Term.TheVariants.{Param, Object}
 use Rattle.strips_task.specs.Names.{number_named}
@@ -46,15 +46,11 @@ object_unknown known params place number h = rw h refl
 
 pub ruleset fitting_steps = (parameter_fits, parameter_unknown, object_fits, object_unknown)
 
-pub no_object_name : (objects : Objects) (w : List ℕ) → is_name w ≡ false → object_number objects w ≡ None
-unfolding object_number guard
-no_object_name objects w h = rw h refl
+pub object_named : (objects : Objects) (w : List ℕ) → object_number objects w ≡ number_named objects (folded w)
+unfolding object_number
+object_named objects w = refl
 
-pub object_name : (objects : Objects) (w : List ℕ) → is_name w ≡ true → object_number objects w ≡ number_named objects (folded w)
-unfolding object_number guard
-object_name objects w h = rw h refl
-
-pub ruleset object_steps = (no_object_name, object_name)
+pub ruleset object_steps = (object_named)
 
 pub object_missing : (known : Known) (place w : List ℕ) → object_number known.objects w ≡ None → object_in_place known place w ≡ None
 unfolding object_in_place object_fitted

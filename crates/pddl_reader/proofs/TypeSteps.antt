@@ -1,23 +1,23 @@
 -- Types declared and ordered, one equation for each case.
 
-use Rattle.std.proofs.Common.{◌≡◌, ◌≢◌, ℕ, ◌+◌, ◌<◌, ◌≤◌, ◌++◌, Bool, true, false, nat_eq, nat_lt, is_some, List, [], ◌∷◌, length, map, take, drop, get_or, Option, Some, None, unwrap_or, if◌then◌else◌, refl, sym, ◌∙◌, subst, true≢false, arith, length-append, append_assoc, add-one, suc, zero, ◌↔◌, IsTrue}
+use Rattle.std.proofs.Common.{◌≡◌, ◌≢◌, ℕ, ◌+◌, ◌<◌, ◌≤◌, ◌++◌, Bool, true, false, ◌||◌, nat_eq, nat_lt, is_some, List, [], ◌∷◌, length, map, take, drop, get_or, Option, Some, None, unwrap_or, if◌then◌else◌, refl, sym, ◌∙◌, subst, true≢false, arith, length-append, append_assoc, add-one, suc, zero, ◌↔◌, IsTrue}
 use Rattle.std.proofs.lemmas.List.{drop_all, append-nil}
-use Rattle.strips_task.specs.Types.{IsTypeTree}
 use Rattle.std.proofs.lemmas.Bool.{le-ltb, lt-ltb, ltb-true}
-use Rattle.std.specs.List.{slice_get}
+use Rattle.std.specs.List.{slice_get, list_any}
 use Rattle.std.specs.Str.{bytes_eq}
 use Rattle.pddl_words.specs.Words.{folded}
 use Rattle.strips_task.specs.Names.{number_named}
 use Rattle.pddl_reader.specs.declared.syntax.NameGroup as groups
+use Rattle.pddl_reader.specs.declared.walk.NameWord.{NameWord}
 use Rattle.pddl_reader.specs.declared.resolution.types.KnownTypes.{KnownTypes}
 use Rattle.pddl_reader.specs.declared.resolution.types.TypeTables.{TypeTables}
-use Rattle.pddl_reader.specs.Forms.{name_forms, name_group_form}
+use Rattle.pddl_reader.specs.Forms.{name_forms, name_group_form, name_groups}
 use Rattle.pddl_reader.specs.Keywords.{object_word}
 use Rattle.pddl_reader.specs.Optional.{guard, through}
 use Rattle.pddl_reader.specs.Syntax.{NameGroup}
-use Rattle.pddl_reader.specs.TypeOrder.{TypeNames, TypeParents, numbered, under, declared_under, tables_of, type_declared, parent_numbered, group_declared, object_alone, types_declared, parent_name, parent_number, parents_of, is_tree, ordered, types_of}
+use Rattle.pddl_reader.specs.TypeOrder.{TypeNames, TypeParents, numbered, under, declared_under, tables_of, type_declared, parent_numbered, group_declared, object_alone, types_declared, parent_name, parent_number, parents_of, is_tree, is_under_itself, numbers_cycle, names_cycle, declares_cycle, ordered, types_of}
+use Rattle.pddl_reader.proofs.Items.{item_steps}
 use Rattle.pddl_reader.proofs.TableSteps.{value_unnamed, value_numbered}
-use Rattle.pddl_reader.proofs.TypeTests.{tree_from, tree_tested}
 use Rattle.pddl_reader.proofs.Through.{through_keeps, guard_held}
 
 pub number_again : (names : TypeNames) (name : List ℕ) → is_some (number_named names name) ≡ true → numbered names name ≡ Some names
@@ -221,18 +221,35 @@ types_ordered groups tables order h e =
 
 pub ruleset types_steps = (types_undeclared, types_unordered, types_ordered)
 
--- what tests a tree tells it
-pub not_ordered : (parents found : List ℕ) (answer : Bool) → (IsTrue answer ↔ IsTypeTree found) → answer ≡ false → found ≡ parents →
-    guard (is_tree parents) (Some parents) ≡ None
-unfolding guard
-not_ordered parents found answer says h same = by (is_tree parents) refl
-  where
-    by : (test : Bool) → is_tree parents ≡ test → guard test (Some parents) ≡ None
-    by true e = absurd (true≢false (sym (says.1 (subst IsTypeTree (sym same) (tree_from parents e))) ∙ h))
-    by false e = refl
+pub cycle_unnamed : (names : TypeNames) (parents word : List ℕ) → number_named names (folded word) ≡ None → names_cycle names parents word ≡ false
+unfolding names_cycle numbers_cycle
+cycle_unnamed names parents word h = rw h refl
 
-pub is_ordered : (parents found : List ℕ) (answer : Bool) → (IsTrue answer ↔ IsTypeTree found) → answer ≡ true → found ≡ parents →
-    guard (is_tree parents) (Some parents) ≡ Some found
-unfolding guard
-is_ordered parents found answer says h same =
-    rw (tree_tested parents (subst IsTypeTree same (says.0 h)), same) refl
+pub cycle_named : (names : TypeNames) (parents word : List ℕ) (number : ℕ) → number_named names (folded word) ≡ Some number →
+    names_cycle names parents word ≡ is_under_itself parents number
+unfolding names_cycle numbers_cycle
+cycle_named names parents word number h = rw h refl
+
+pub ruleset cycle_steps = (cycle_unnamed, cycle_named)
+
+pub any_word : (test : List ℕ → Bool) (w : NameWord) (ws : List NameWord) → list_any test (name_forms (w ∷ ws)) ≡ (test w.text.now || list_any test (name_forms ws))
+unfolding name_forms
+any_word test w ws = refl
+
+pub no_word : (test : List ℕ → Bool) → list_any test (name_forms []) ≡ false
+unfolding name_forms
+no_word test = refl
+
+pub ruleset cycle_word_steps = (item_steps, any_word, no_word)
+
+pub any_group : (names : TypeNames) (parents : List ℕ) (g : groups.NameGroup) (gs : List groups.NameGroup) →
+    list_any (declares_cycle names parents) (name_groups (g ∷ gs))
+    ≡ (list_any (names_cycle names parents) (name_forms g.names.items) || list_any (declares_cycle names parents) (name_groups gs))
+unfolding name_groups declares_cycle
+any_group names parents g gs = refl
+
+pub no_group : (names : TypeNames) (parents : List ℕ) → list_any (declares_cycle names parents) (name_groups []) ≡ false
+unfolding name_groups
+no_group names parents = refl
+
+pub ruleset cycle_group_steps = (item_steps, any_group, no_group)

@@ -15,7 +15,7 @@ all_below_at test (suc n) i lt h =
     let parts = and_parts (test n) (all_below test n) h in
     below_more (λ k. test k ≡ true) n (λ k below. all_below_at test n k below parts.1) parts.0 i (omega arith)
 
-all_below_from : (test : ℕ → Bool) (n : ℕ) → ((i : ℕ) → i < n → test i ≡ true) → all_below test n ≡ true
+pub all_below_from : (test : ℕ → Bool) (n : ℕ) → ((i : ℕ) → i < n → test i ≡ true) → all_below test n ≡ true
 unfolding all_below
 all_below_from test zero h = refl
 all_below_from test (suc n) h = rw (h n (omega arith), all_below_from test n (λ i lt. h i (omega arith))) refl

@@ -3,7 +3,7 @@
 use Rattle.std.specs.Prelude.{if◌then◌else◌, ℕ, Bool, false, ◌&&◌, nat_eq, nat_lt, is_none, List, [], ◌∷◌, ◌++◌, length, slice_get, Option, Some, None}
 use Rattle.std.specs.Option.{option_map}
 use Rattle.std.specs.Map.{values_of}
-use Rattle.pddl_words.specs.Words.{folded, is_name}
+use Rattle.pddl_words.specs.Words.{folded}
 use Rattle.strips_task.specs.declared.atoms.Atom.{Atom}
 use Rattle.strips_task.specs.declared.actions.Pattern.{Pattern}
 use Rattle.strips_task.specs.declared.actions.Term.{Term}
@@ -71,7 +71,7 @@ fitted_places fit (Some places) words = fitted_all fit places words
 
 -- the number of the object that a word names
 unfoldable pub object_number : Objects → List ℕ → Option ℕ
-object_number objects word = guard (is_name word) (number_named objects (folded word))
+object_number objects word = number_named objects (folded word)
 
 -- the term that a word stands for in an action: a parameter or a constant
 unfoldable pub term_named : Known → Parameters → List ℕ → Option Term

@@ -1,6 +1,6 @@
 -- What a reader's answer says of the trees that it walks over.
 
-use Rattle.std.specs.Prelude.{ℕ, Bool, true, false, ◌≡◌, ◌≢◌, List, [], ◌∷◌, Option, Some, None, Result, Ok, Err}
+use Rattle.std.specs.Prelude.{ℕ, Bool, true, false, ◌≡◌, ◌≢◌, List, [], ◌∷◌, Option, Some, None, is_some, Result, Ok, Err}
 use Rattle.pddl_reader.specs.declared.fault.FaultKind.TheVariants.{OutOfMemory}
 use Rattle.pddl_reader.specs.declared.fault.ReadFault.{ReadFault}
 use Rattle.pddl_words.specs.Words.{is_name}
@@ -82,3 +82,13 @@ Puts (Err e) defined after = Refuses e (defined ≡ None)
 abbrev pub GivesOption : {X : Type 0} → Result (Option X) ReadFault → Option X → Type 0
 GivesOption (Ok x) defined = defined ≡ x
 GivesOption (Err e) defined = e ≡ out_of_memory
+
+-- one that passes a test is found, if there is one, or memory ran out
+abbrev pub FindsAny : {X : Type 0} → Result (Option X) ReadFault → Bool → Type 0
+FindsAny (Ok found) test = is_some found ≡ test
+FindsAny (Err e) test = e ≡ out_of_memory
+
+-- the test is answered, or memory ran out
+abbrev pub GivesTest : Result Bool ReadFault → Bool → Type 0
+GivesTest (Ok answer) test = answer ≡ test
+GivesTest (Err e) test = e ≡ out_of_memory

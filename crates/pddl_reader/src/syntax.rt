@@ -13,12 +13,16 @@ pub(crate) mod typed;
 pub(crate) mod variables;
 
 use crate::walk::{NameWord, Word};
+use smallvec::SmallVec;
+
+/// The words of an atom's terms. Most atoms have two at most, and these take no memory of their own.
+pub(crate) type Terms<'a> = SmallVec<Word<'a>, 2>;
 
 /// An atom as written.
 #[derive(Drop)]
 pub(crate) struct AtomSyntax<'a> {
     pub(crate) predicate: NameWord<'a>,
-    pub(crate) terms: Vec<Word<'a>>,
+    pub(crate) terms: Terms<'a>,
 }
 
 /// An atom, or the negation of one.

@@ -65,7 +65,16 @@ fn wrong_parentheses_and_bytes(rt: HostRuntime) {
     assert!(rt; refuses_domain(alloc, b"(define (domain t)\x80", FaultKind::BadText, 18, 19));
     assert!(rt; refuses_domain(alloc, b"(", FaultKind::Unbalanced, 1, 1));
     assert!(rt; refuses_domain(alloc, b")", FaultKind::Unbalanced, 0, 1));
-    assert!(rt; refuses_domain(alloc, b"\x80", FaultKind::BadText, 0, 1));
+    assert!(rt; refuses_domain(alloc, b"\x80)", FaultKind::BadText, 0, 1));
+    assert!(rt; refuses_domain(alloc, b")\x80", FaultKind::Unbalanced, 0, 1));
+    let skipped = b"(define (problem x) (:metric \x7f))";
+    assert!(rt;
+        problem_fault(alloc, LAMP, skipped)
+            == Some(ReadFault {
+                kind: FaultKind::BadText,
+                span: Span { start: 29, end: 30 }
+            })
+    );
 }
 
 #[test]
@@ -73,7 +82,7 @@ fn texts_without_a_definition(rt: HostRuntime) {
     let alloc = rt.alloc();
     assert!(rt; refuses_domain(alloc, b"", FaultKind::Expected, 0, 0));
     assert!(rt; refuses_domain(alloc, b" ", FaultKind::Expected, 1, 1));
-    assert!(rt; refuses_domain(alloc, b";", FaultKind::Expected, 1, 1));
+    assert!(rt; refuses_domain(alloc, b";\n", FaultKind::Expected, 2, 2));
     assert!(rt; refuses_domain(alloc, b"a", FaultKind::Expected, 0, 1));
     assert!(rt; refuses_domain(alloc, b"~", FaultKind::Expected, 0, 1));
     assert!(rt; refuses_domain(alloc, b"(define (domain t)) x", FaultKind::Expected, 20, 21));
@@ -107,12 +116,12 @@ struct MarkedText {
 }
 
 /// The text of a line in which brackets stand around the bytes of the fault.
-fn marked(alloc: Global, line: &str) -> Result<MarkedText, Fail> {
+fn marked(alloc: Global, line: &[u8]) -> Result<MarkedText, Fail> {
     let mut text = Vec::new(alloc);
     let mut place: u32 = 0;
     let mut start = 0;
     let mut end = 0;
-    for byte in line.as_bytes() {
+    for byte in line {
         if *byte == b'[' {
             start = place;
         } else if *byte == b']' {
@@ -149,12 +158,9 @@ fn problem_fault(alloc: Global, domain: &[u8], text: &[u8]) -> Option<ReadFault>
     }
 }
 
-/// Whether a line of a table is a kind and a text that is refused so: as a domain, or as a problem of the domain with types.
-fn holds(alloc: Global, line: &str, is_problem: bool) -> Result<bool, Fail> {
-    let Some((kind, rest)) = line.split_once(' ') else {
-        return Ok(false);
-    };
-    let case = marked(alloc, rest)?;
+/// Whether a marked text is refused at its mark with this kind: as a domain, or as a problem of the domain with types.
+fn refused(alloc: Global, kind: &str, line: &[u8], is_problem: bool) -> Result<bool, Fail> {
+    let case = marked(alloc, line)?;
     let fault = if is_problem {
         problem_fault(alloc, DEPOT, case.text.as_slice())
     } else {
@@ -162,6 +168,14 @@ fn holds(alloc: Global, line: &str, is_problem: bool) -> Result<bool, Fail> {
     };
     match fault {
         Some(fault) => Ok(is_marked(fault, kind, &case)),
+        None => Ok(false),
+    }
+}
+
+/// Whether a line of a table is a kind and a marked text that is refused so.
+fn holds(alloc: Global, line: &str, is_problem: bool) -> Result<bool, Fail> {
+    match line.split_once(' ') {
+        Some((kind, text)) => refused(alloc, kind, text.as_bytes(), is_problem),
         None => Ok(false),
     }
 }
@@ -209,6 +223,20 @@ Expected (define (domain t) (:types a - [(])))
 Expected (define (domain t) (:types a - [(](either b))))
 Repeated (define (domain t) (:types) ([:TYPES]))
 Repeated (define (domain t) (:constants) ([:constants]))
+Unbalanced (define (domain ?x)[]
+Expected ([)]
+Expected (define ([)])
+Expected (define ([:domain] t))
+Expected (define (domain [=]))
+Expected (define (domain t)) [(]x)
+Expected (define (domain t) [:types])
+Expected (define (domain t) ([:] a))
+Expected (define (domain t) (:types a - a) [x])
+Expected (define (domain t) (:types [=]))
+Expected (define (domain t) (:types a - [(]and b)))
+Unsupported (define (domain t) (:types a - ([either])))
+Expected (define (domain t) (:constants a - [(]foo b)))
+Unsupported (define (domain t) (:constants a - ([EITHER] b)))
 ";
 
 /// Faults of the declarations of predicates.
@@ -233,6 +261,9 @@ Expected (define (domain t) (:predicates (p ?x - (either a [?y]))))
 Expected (define (domain t) (:predicates (p ?x - (either a [(]b)))))
 Expected (define (domain t) (:predicates (p ?x [:y])))
 Repeated (define (domain t) (:predicates) ([:predicates]))
+Unsupported (define (domain t) (:predicates ([AND])))
+Expected (define (domain t) (:predicates (p ?x - ([and] b))))
+Expected (define (domain t) (:predicates (p ?x - [=])))
 ";
 
 /// Faults of the grammar of actions.
@@ -270,6 +301,11 @@ Expected (define (domain t) (:action a :precondition ([?x])))
 Expected (define (domain t) (:action a :precondition ([:p])))
 Expected (define (domain t) (:action a :precondition (and [p])))
 Expected (define (domain t) (:action a :precondition ([(]p))))
+Expected (define (domain t) (:action [=]))
+Expected (define (domain t) (:action a [:] ()))
+Expected (define (domain t) (:action a :precondition (p [=])))
+Expected (define (domain t) (:action a :effect[)])
+Expected (define (domain t) (:action a :effect (not ([)])))
 ";
 
 /// Faults of types and constants.
@@ -290,6 +326,8 @@ Repeated (define (domain t) (:types b) (:constants a - b [a]))
 Repeated (define (domain t) (:types b) (:constants a - b [A] - u))
 UnknownName (define (domain t) (:constants a - [u] b - v))
 UnknownName (define (domain t) (:predicates (p ?x - v)) (:constants c - [w]))
+TypeCycle (DEFINE (DOMAIN T) (:TYPES [A] - a))
+Repeated (define (domain t) (:constants c - u) (:types a - b [a] - c))
 ";
 
 /// Faults of declarations, and the order in which they are found.
@@ -307,6 +345,9 @@ UnknownName (define (domain t) (:predicates (p)) (:action a :effect (r) :precond
 UnknownName (define (domain t) (:predicates (p)) (:action a :effect (and (p) (not ([q])))))
 UnknownName (define (domain t) (:predicates (p)) (:action a :precondition ([q]) :parameters ()))
 UnknownName (define (domain t) (:predicates (p)) (:action a :precondition (q) :parameters (?x - [u])))
+UnknownName (define (domain t) (:predicates (p ?x - [u]) (p)))
+Repeated (define (domain t) (:action a) (:action [a] :parameters (?x - u)))
+UnknownName (define (domain t) (:action a :effect ([q])) (:action a))
 ";
 
 /// Faults of the atoms of actions.
@@ -320,6 +361,8 @@ WrongType (define (domain t) (:types t u) (:predicates (p ?x ?y - t)) (:action a
 WrongType (define (domain t) (:types t u) (:predicates (p ?x - t)) (:action a :parameters (?y - (either t u)) :precondition (p [?y])))
 WrongType (define (domain t) (:types t u) (:constants c - u) (:predicates (p ?x - t)) (:action a :effect (p [c])))
 WrongType (define (domain t) (:types t - u u) (:predicates (p ?x - t)) (:action a :parameters (?y - u) :effect (not (p [?y]))))
+WrongCount (define (domain t) (:predicates (p)) (:action a :effect (not ([p] ?x))))
+UnknownName (define (domain t) (:types t u) (:predicates (p ?x ?y - t)) (:action a :parameters (?z - u) :effect (p [?w] ?z)))
 ";
 
 /// Faults of the grammar of problems.
@@ -350,6 +393,17 @@ Repeated (define (problem x) (:domain d) (:length (x 1)) ([:length]))
 Repeated (define (problem x) (:domain d) (:objects) ([:objects]))
 Expected (define (problem x) (:domain d) (:requirements [x]))
 Unsupported (define (problem x) (:domain d) (:objects a - ([either] b)))
+Expected (define (problem [?x]))
+Expected (define (problem x) (:domain[)])
+Expected (define (problem x) (:domain d [e]))
+Expected (define (problem x) (:domain [(]d)))
+Repeated (define (problem x) (:requirements) ([:requirements]))
+Repeated (define (problem x) (:init) ([:init]))
+Unsupported (define (problem x) (:init (not ([not] (lit)))))
+Expected (define (problem x) (:init (not[)]))
+Expected (define (problem x) (:domain d) (:goal (at [=])))
+Expected (define (problem x) (:objects a - [(]foo b)))
+Expected (define (problem x) (:metric (~ 1 =)) (:length) [x])
 ";
 
 /// Faults of the names in problems, and their order.
@@ -366,6 +420,11 @@ UnknownName (define (problem x) (:domain d) (:init (not (at [b]))) (:goal ()))
 UnknownName (define (problem x) (:domain d) (:init (lit)) (:goal (and (lit) ([dark]))))
 UnknownName (define (problem x) (:domain d) (:goal (q)) (:objects a - [ship]))
 UnknownName (define (problem x) (:domain d) (:goal (not (at [nobody]))))
+WrongCount (define (problem x) (:domain d) (:init (not ([at]))) (:goal ()))
+WrongType (define (problem x) (:domain d) (:objects c) (:init (not (at [c]))) (:goal ()))
+WrongCount (define (problem x) (:domain d) (:goal (and (lit) (not ([lit] home)))))
+WrongType (define (problem x) (:domain d) (:objects c) (:goal (at [c])))
+Repeated (define (problem x) (:domain d) (:objects a - truck [a]) (:init (q)) (:goal ()))
 ";
 
 #[test]
@@ -457,7 +516,13 @@ fn domains_that_are_read(rt: HostRuntime) {
     assert!(rt;
         is_domain(
             alloc,
-            "(define (domain t) (:constants c) (:predicates (p ?x)) (:action a :effect (and (and) () (p c) (not (p C)))))"
+            "(define (domain t) (:constants c) (:predicates (p ?x)) (:action or :effect (and (and) () (p c) (not (p C)))))"
+        )
+    );
+    assert!(rt;
+        is_domain(
+            alloc,
+            "(define (domain t) (:predicates (p ?x ?y)) (:action a :effect (p ?X ?y) :parameters (?x ?Y) :precondition ()) (:action b))"
         )
     );
 }
@@ -469,108 +534,229 @@ fn problems_that_are_read(rt: HostRuntime) {
         b"(define (problem x) (:domain y) (:objects home - truck) (:init (at home) (not (lit))) (:goal (not (lit))))";
     assert!(rt; problem_fault(alloc, DEPOT, home).is_none());
     let skipped =
-        b"(define (problem x) (:goal ()) (:metric minimize (+ 1 (x :y ?z))) (:length (:serial 3)) (:requirements) (:domain y))";
+        b"(define (problem x) (:goal ()) (:metric minimize (+ 1 (x :y ?z))) (:length (= 3) ~ -) (:requirements) (:domain y))";
     assert!(rt; problem_fault(alloc, DEPOT, skipped).is_none());
+    let empty =
+        b"(define (problem imply) (:domain or) (:objects) (:init) (:goal (and)) (:metric) (:length) (:requirements :x :Y))";
+    assert!(rt; problem_fault(alloc, DEPOT, empty).is_none());
+    let reserved =
+        b"(define (problem x) (:domain d) (:objects forall Not and - truck) (:init (at not)) (:goal (and (at FORALL) () (and (at and)))))";
+    assert!(rt; problem_fault(alloc, DEPOT, reserved).is_none());
 }
 
-/// A text with numbered words in the midst, each between `word` and `end`.
-fn numbered(
-    alloc: Global,
-    front: &str,
-    word: &str,
-    end: &str,
+/// The front of a text: what stands first, and then numbered words, each with `word` before its number and `end` behind it.
+#[derive(Drop)]
+struct Series<'a> {
+    front: &'a [u8],
+    word: &'a str,
+    end: &'a str,
     count: u32,
-    back: &str,
-) -> Result<Vec<u8>, Fail> {
+}
+
+/// A text with numbered words in the midst.
+fn numbered(alloc: Global, series: &Series<'_>, back: &str) -> Result<Vec<u8>, Fail> {
     let mut text = Vec::new(alloc);
-    text.extend_from_slice(front.as_bytes())?;
-    for number in 0..count {
-        let item = format!(in alloc; " {word}{number}{end}")?;
+    text.extend_from_slice(series.front)?;
+    for number in 0..series.count {
+        let item = format!(in alloc; "{}{number}{} ", series.word, series.end)?;
         text.extend_from_slice(item.as_bytes())?;
     }
     text.extend_from_slice(back.as_bytes())?;
     Ok(text)
 }
 
-/// Whether the first text is read as a domain, and the second is refused since it has too many of something.
-fn is_limit(alloc: Global, most: &[u8], more: &[u8]) -> bool {
-    let refused = match read_domain(alloc, more) {
-        Ok(_) => false,
-        Err(fault) => fault.kind == FaultKind::TooMany,
-    };
-    refused && read_domain(alloc, most).is_ok()
+/// Whether a text with numbered words is read where `close` stands behind them.
+fn reads(alloc: Global, series: &Series<'_>, close: &str, is_problem: bool) -> Result<bool, Fail> {
+    let text = numbered(alloc, series, close)?;
+    if is_problem {
+        return Ok(problem_fault(alloc, DEPOT, text.as_slice()).is_none());
+    }
+    Ok(domain_fault(alloc, text.as_slice()).is_none())
 }
 
-/// Whether a domain may have so many numbered words, and not one more.
-fn ends_at(
-    alloc: Global,
-    front: &str,
-    word: &str,
-    end: &str,
-    most: u32,
-    back: &str,
-) -> Result<bool, Fail>
-    requires { most ≤ 65535 }
-{
-    let fits = numbered(alloc, front, word, end, most, back)?;
-    let exceeds = numbered(alloc, front, word, end, most + 1, back)?;
-    Ok(is_limit(alloc, fits.as_slice(), exceeds.as_slice()))
+/// Whether a text with numbered words is refused with a kind at the mark in what stands behind them.
+fn refuses(alloc: Global, series: &Series<'_>, line: &str, is_problem: bool) -> Result<bool, Fail> {
+    let Some((kind, back)) = line.split_once(' ') else {
+        return Ok(false);
+    };
+    let text = numbered(alloc, series, back)?;
+    refused(alloc, kind, text.as_slice(), is_problem)
+}
+
+/// Whether a domain may have so many numbered words, and not the one more that is marked in `more`.
+fn ends_at(alloc: Global, series: &Series<'_>, close: &str, more: &str) -> Result<bool, Fail> {
+    Ok(reads(alloc, series, close, false)? && refuses(alloc, series, more, false)?)
+}
+
+/// Numbered words behind a front.
+fn words<'a>(front: &'a [u8], word: &'a str, count: u32) -> Series<'a> {
+    Series {
+        front,
+        word,
+        end: "",
+        count,
+    }
 }
 
 #[test]
-fn limits_of_names(rt: HostRuntime) -> Result<(), Fail> {
+fn limits_of_types(rt: HostRuntime) -> Result<(), Fail> {
     let alloc = rt.alloc();
-    assert!(rt; ends_at(alloc, "(define (domain t) (:types", "t", "", 1024, "))")?);
+    let front = b"(define (domain t) (:types object ";
+    let most = words(front, "t", 1024);
+    assert!(rt; ends_at(alloc, &most, "))", "TooMany - object [t] t0 - t1))")?);
+    assert!(rt; refuses(alloc, &most, "Repeated - object [t0] - u))", false)?);
+    let fewer = words(front, "t", 1023);
     assert!(rt;
         ends_at(
             alloc,
-            "(define (domain t) (:constants",
-            "c",
-            "",
-            65535,
-            "))"
+            &fewer,
+            "- object t - t0))",
+            "TooMany - object t - [u]))"
         )?
     );
-    assert!(rt;
-        ends_at(
-            alloc,
-            "(define (domain t) (:predicates",
-            "(p",
-            ")",
-            4096,
-            "))"
-        )?
-    );
-    assert!(rt; ends_at(alloc, "(define (domain t)", "(:action a", ")", 4096, ")")?);
+    Ok(())
+}
+
+#[test]
+fn limits_of_objects(rt: HostRuntime) -> Result<(), Fail> {
+    let alloc = rt.alloc();
+    let constants = words(b"(define (domain t) (:constants ", "c", 65535);
+    assert!(rt; ends_at(alloc, &constants, "C0))", "TooMany - object [c] c0 - u))")?);
+    assert!(rt; refuses(alloc, &constants, "Repeated - object [c0] c - u))", false)?);
+    let front = b"(define (problem x) (:goal ()) (:domain d) (:objects home - truck ";
+    let objects = words(front, "c", 65534);
+    assert!(rt; reads(alloc, &objects, "c0))", true)?);
+    assert!(rt; refuses(alloc, &objects, "TooMany [c]))", true)?);
+    Ok(())
+}
+
+#[test]
+fn limits_of_predicates_and_actions(rt: HostRuntime) -> Result<(), Fail> {
+    let alloc = rt.alloc();
+    let predicates = Series {
+        front: b"(define (domain t) (:predicates ",
+        word: "(p",
+        end: ")",
+        count: 4096,
+    };
+    assert!(rt; ends_at(alloc, &predicates, "))", "TooMany ([p] ?x - u)))")?);
+    assert!(rt; refuses(alloc, &predicates, "Repeated ([p0])))", false)?);
+    let actions = Series {
+        front: b"(define (domain t) ",
+        word: "(:action a",
+        end: ")",
+        count: 4096,
+    };
+    assert!(rt; ends_at(alloc, &actions, ")", "TooMany (:action [a] :effect (p)))")?);
+    assert!(rt; refuses(alloc, &actions, "Repeated (:action [a0]))", false)?);
     Ok(())
 }
 
 #[test]
 fn limits_of_variables(rt: HostRuntime) -> Result<(), Fail> {
     let alloc = rt.alloc();
-    assert!(rt;
-        ends_at(
-            alloc,
-            "(define (domain t) (:predicates (p",
-            "?x",
-            "",
-            32,
-            ")))"
-        )?
-    );
-    assert!(rt;
-        ends_at(
-            alloc,
-            "(define (domain t) (:action a :parameters (",
-            "?x",
-            "",
-            32,
-            ")))"
-        )?
-    );
-    let types =
-        "(define (domain t) (:types t0 t1 t2 t3 t4 t5 t6 t7 t8 t9 t10 t11 t12 t13 t14 t15 t16 t17 t18 t19 t20 t21 t22 t23 t24 t25 t26 t27 t28 t29 t30 t31 t32) (:predicates (p ?x - (either";
-    assert!(rt; ends_at(alloc, types, "t", "", 32, "))))")?);
+    let variables = words(b"(define (domain t) (:predicates (p ", "?x", 32);
+    assert!(rt; ends_at(alloc, &variables, ")))", "TooMany [?x0] - u)))")?);
+    let parameters = words(b"(define (domain t) (:action a :parameters ( ", "?x", 32);
+    assert!(rt; ends_at(alloc, &parameters, ")))", "TooMany [?x] ?x0 - u)))")?);
+    assert!(rt; refuses(alloc, &parameters, "TooMany [?x0] - u)))", false)?);
+    assert!(rt; refuses(alloc, &parameters, "TooMany - object [?x0])))", false)?);
+    let fewer = words(b"(define (domain t) (:action a :parameters ( ", "?x", 31);
+    assert!(rt; refuses(alloc, &fewer, "Repeated [?x0] ?x ?y - u)))", false)?);
+    Ok(())
+}
+
+#[test]
+fn limits_of_alternatives(rt: HostRuntime) -> Result<(), Fail> {
+    let alloc = rt.alloc();
+    let types = words(b"(define (domain t) (:types ", "t", 32);
+    let place = numbered(alloc, &types, ") (:predicates (p ?x - (either ")?;
+    let places = words(place.as_slice(), "t", 32);
+    assert!(rt; ends_at(alloc, &places, "))))", "TooMany [t0]))))")?);
+    let parameter = numbered(alloc, &types, ") (:action a :parameters (?x - (either ")?;
+    let parameters = words(parameter.as_slice(), "t", 32);
+    assert!(rt; ends_at(alloc, &parameters, "))))", "TooMany [u]))))")?);
+    Ok(())
+}
+
+#[test]
+fn constants_and_objects_together(rt: HostRuntime) -> Result<(), Fail> {
+    let alloc = rt.alloc();
+    let constants = words(b"(define (domain t) (:constants ", "c", 65535);
+    let domain = numbered(alloc, &constants, "))")?;
+    let again = b"(define (problem x) (:domain t) (:objects c0 C65534) (:goal ()))";
+    assert!(rt; problem_fault(alloc, domain.as_slice(), again).is_none());
+    let more = marked(
+        alloc,
+        b"(define (problem x) (:domain t) (:objects c0 [c]) (:goal ()))",
+    )?;
+    let fault = problem_fault(alloc, domain.as_slice(), more.text.as_slice());
+    assert!(rt; fault.is_some_and(|fault| is_marked(fault, "TooMany", &more)));
+    Ok(())
+}
+
+/// The reserved words, besides `and` and `not`.
+const RESERVED: &str = "\
+or
+imply
+exists
+forall
+when
+either
+=
+<
+>
+<=
+>=
+";
+
+/// Places of a domain where a reserved word is refused as such.
+const PLACES_IN_DOMAINS: &str = "\
+(define (domain t) (:predicates (@)))
+(define (domain t) (:action a :precondition (@)))
+(define (domain t) (:action a :precondition (and (not (@ ?x)))))
+(define (domain t) (:action a :effect (and (@))))
+(define (domain t) (:action a :effect (not (@))))
+";
+
+/// Places of a problem where a reserved word is refused as such.
+const PLACES_IN_PROBLEMS: &str = "\
+(define (problem x) (:init (@)))
+(define (problem x) (:init (not (@))))
+(define (problem x) (:goal (@)))
+(define (problem x) (:goal (and (not (@)))))
+";
+
+/// How many places do not refuse a reserved word, up to 99.
+fn failing_places(alloc: Global, places: &str, word: &str, is_problem: bool) -> Result<u32, Fail> {
+    let mut count: u32 = 0;
+    for place in places.lines() {
+        let Some((front, back)) = place.split_once('@') else {
+            return Ok(99);
+        };
+        let line = format!(in alloc; "{front}[{word}]{back}")?;
+        if !refused(alloc, "Unsupported", line.as_bytes(), is_problem)? && count < 99 {
+            count += 1;
+        }
+    }
+    Ok(count)
+}
+
+#[test]
+fn reserved_words(rt: HostRuntime) -> Result<(), Fail> {
+    let alloc = rt.alloc();
+    for word in RESERVED.lines() {
+        assert_eq!(rt;
+            failing_places(alloc, PLACES_IN_DOMAINS, word, false)?,
+            0,
+            "{word}"
+        );
+        assert_eq!(rt;
+            failing_places(alloc, PLACES_IN_PROBLEMS, word, true)?,
+            0,
+            "{word}"
+        );
+    }
     Ok(())
 }
 

@@ -18,6 +18,15 @@ pub(crate) struct Word<'a> {
     pub(crate) text: &'a [u8],
 }
 
+impl<'a> Default for Word<'a> {
+    fn default() -> Self {
+        Word {
+            span: Span { start: 0, end: 0 },
+            text: &[],
+        }
+    }
+}
+
 /// A word that is a name.
 #[derive(Clone, Copy, Debug)]
 pub(crate) struct NameWord<'a> {

@@ -2,10 +2,12 @@
 //!
 //! An atom names a predicate and objects by their numbers in the task. A condition is an atom with a sign: it asks that the atom
 //! be true, or that it be false.
-ghost use Rattle.std.specs.Prelude.{◌++◌};
+ghost use Rattle.std.specs.Prelude.{◌≡◌, nat_eq};
+ghost use Rattle.std.specs.Cmp.Lexicographic.{pointwise};
 ghost use Rattle.std.specs.Hash as fed;
 ghost use Rattle.std.specs.Cmp.Rules.{comparing, hashing};
 ghost use Rattle.std.proofs.Common.{rules};
+ghost use Rattle.strips_task.specs.Atom.{key_behind};
 
 use crate::{Seq, ShortSeq};
 use std::hash::{Hash, Hasher};
@@ -42,8 +44,15 @@ impl PartialEq for Atom {
     ghost laws = { Prim.search (comparing, rules) };
 
     fn eq(&self, other: &Atom) -> bool {
-        self.pred == other.pred && self.args.as_slice() == other.args.as_slice()
+        self.pred == other.pred && are_equal(self.args.as_slice(), other.args.as_slice())
     }
+}
+
+/// Whether two short lists of numbers are the same: item by item, which costs less for a few items than a comparison of slices.
+fn are_equal(numbers: &[u16], others: &[u16]) -> bool
+    ensures { result ≡ pointwise nat_eq numbers.now others.now }
+{
+    numbers.iter().eq(others.iter())
 }
 
 impl Eq for Atom {
@@ -51,14 +60,24 @@ impl Eq for Atom {
 }
 
 impl Hash for Atom {
-    ghost hash_input = { λ a. fed.u16 a.pred ++ fed.slice fed.u16 a.args };
+    ghost use Rattle.strips_task.specs.Atom.{atom_key};
+
+    ghost hash_input = { λ a. fed.u64 (atom_key a) };
 
     ghost respects_eq = { Prim.search (hashing, rules) };
 
     fn hash<H: Hasher>(&self, state: &mut H) {
-        self.pred.hash(state);
-        self.args.as_slice().hash(state);
+        atom_key(self.pred, self.args.as_slice()).hash(state);
     }
+}
+
+/// What of an atom is hashed: one number for all its parts, so that a look-up mixes once. Atoms of up to three arguments have different
+/// ones.
+fn atom_key(pred: u16, args: &[u16]) -> u64
+    ensures { result ≡ key_behind pred args.now }
+{
+    args.iter()
+        .fold(pred as u64, |key, arg| key.wrapping_mul(65_599).wrapping_add(*arg as u64))
 }
 
 impl PartialEq for GroundCond {

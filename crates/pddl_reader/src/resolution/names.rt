@@ -1,11 +1,12 @@
 //! Names are declared in tables, and found there.
 
-ghost use Rattle.std.specs.Prelude.{◌≡◌, ◌<◌, ◌≤◌, length};
+ghost use Rattle.std.specs.Prelude.{◌≡◌, ◌<◌, ◌≤◌, length, IfOk, IfSome};
 ghost use Rattle.std.specs.Str.{bytes_eq};
 ghost use Rattle.pddl_words.specs.Words.{folded};
+ghost use Rattle.strips_task.specs.Names.{number_named};
 ghost use Rattle.pddl_reader.specs.Declarations.{declared, may_declare, predicate_number, takes_terms};
 ghost use Rattle.pddl_reader.specs.Forms.{atom_form};
-ghost use Rattle.pddl_reader.specs.Reading.{Allows, Gives, ReadsName};
+ghost use Rattle.pddl_reader.specs.Reading.{Allows, Gives, GivesOption, ReadsName};
 
 use crate::fault::{FaultKind, ReadFault};
 use crate::syntax::AtomSyntax;
@@ -21,6 +22,25 @@ pub(crate) fn name(alloc: Global, word: NameWord<'_>) -> Result<Name, ReadFault>
     ensures { ReadsName result (folded word.entry.text.now) }
 {
     Ok(Name::from_word(alloc, word.text)?)
+}
+
+/// The number of the entry that a word names. A word that stands as the entry does, in lower case, takes one hash and no memory.
+#[tactic(auto, using(crate::proofs::TableSteps::named_as_written))]
+pub(crate) fn number_of<V>(
+    alloc: Global,
+    table: &NameTable<V>,
+    word: &[u8],
+) -> Result<Option<usize>, ReadFault>
+    ensures number { GivesOption result (number_named table.now (folded word.now)) }
+    ensures within { IfOk result (λ found. IfSome found (λ number. number < length table.now)) }
+{
+    if let Some(number) = table.number_of(word) {
+        // The names of the table are in lower case, and so is the word that is one of them.
+        let _name = table.get(number).0.as_bytes();
+        return Ok(Some(number));
+    }
+    let folded = word.to_ascii_lowercase(alloc)?;
+    Ok(table.number_of(folded.as_slice()))
 }
 
 /// Whether two names are the same.
@@ -68,8 +88,7 @@ pub(crate) fn predicate_number(
     ensures { Gives (λ number. number) result (predicate_number predicates.now (atom_form atom.now)) }
 {
     let word = atom.predicate;
-    let name = name(alloc, word)?;
-    let Some(number) = predicates.number_of(name.as_bytes()) else {
+    let Some(number) = number_of(alloc, predicates, word.text)? else {
         return Err(ReadFault::new(FaultKind::UnknownName, word.span));
     };
     if !takes_terms(predicates, number, atom.terms.len()) {

@@ -8,7 +8,7 @@ ghost use Rattle.pddl_reader.specs.Optional.{through};
 ghost use Rattle.pddl_reader.specs.Reading.{Gives, GivesOption, Puts};
 
 use crate::fault::{FaultKind, ReadFault};
-use crate::resolution::names::name;
+use crate::resolution::names::{name, number_of};
 use crate::syntax::NameGroup;
 use crate::walk::NameWord;
 use std::alloc::Global;
@@ -31,8 +31,7 @@ pub(crate) fn type_number(
     requires { length types.now ≤ 1025 }
     ensures { GivesOption result (type_number (keys_of types.now) word.entry.text.now) }
 {
-    let name = name(alloc, word)?;
-    match types.number_of(name.as_bytes()) {
+    match number_of(alloc, types, word.text)? {
         Some(number) => Ok(Some(number as u16)),
         None => Ok(None),
     }

@@ -10,11 +10,11 @@ ghost use Rattle.pddl_reader.specs.Reading.{Gives, GivesOption};
 ghost use Rattle.pddl_reader.specs.Resolved.{known_form, parameters_form};
 
 use crate::fault::{FaultKind, ReadFault};
-use crate::heads::{is_name, is_variable};
-use crate::resolution::names::name;
+use crate::heads::is_variable;
+use crate::resolution::names::number_of;
 use crate::resolution::tables::Declared;
 use crate::resolution::variables::{ActionParameters, parameter_number};
-use crate::walk::{NameWord, Word};
+use crate::walk::Word;
 use std::alloc::Global;
 use strips_task::{Alternatives, NameTable, ShortSeq, Term, TypeList};
 
@@ -62,11 +62,7 @@ fn object_number(
     requires { length objects.now ≤ 65535 }
     ensures { GivesOption result (object_number objects.now word.entry.text.now) }
 {
-    if !is_name(word.text) {
-        return Ok(None);
-    }
-    let name = name(alloc, NameWord::new(word))?;
-    match objects.number_of(name.as_bytes()) {
+    match number_of(alloc, objects, word.text)? {
         Some(number) => Ok(Some(number as u16)),
         None => Ok(None),
     }

@@ -1,16 +1,16 @@
 //! Types are numbered in text order, declared under their parents, and ordered as a tree below `object`.
 
-ghost use Rattle.std.specs.Prelude.{◌≡◌, ◌≢◌, ◌<◌, ◌≤◌, length, IfOk, IfErr, Some};
+ghost use Rattle.std.specs.Prelude.{◌≡◌, ◌≢◌, ◌<◌, ◌≤◌, length, IfOk, Some};
+ghost use Rattle.std.specs.List.{list_any};
 ghost use Rattle.pddl_words.specs.Words.{folded};
 ghost use Rattle.pddl_reader.specs.Forms.{name_forms, name_group_form, name_groups};
 ghost use Rattle.pddl_reader.specs.Keywords.{object_word};
 ghost use Rattle.pddl_reader.specs.Optional.{guard, through};
-ghost use Rattle.pddl_reader.specs.ReadFault.{out_of_memory};
-ghost use Rattle.pddl_reader.specs.Reading.{Gives, Puts};
-ghost use Rattle.pddl_reader.specs.TypeOrder.{TypeParents, declared_under, group_declared, is_tree, numbered, object_alone, parent_name, parent_number, parents_of, type_declared, types_declared, types_of};
+ghost use Rattle.pddl_reader.specs.Reading.{FindsAny, Gives, GivesTest, Puts};
+ghost use Rattle.pddl_reader.specs.TypeOrder.{TypeParents, declared_under, declares_cycle, group_declared, is_tree, is_under_itself, names_cycle, numbered, object_alone, parent_name, parent_number, parents_of, type_declared, types_declared, types_of};
 
 use crate::fault::{FaultKind, ReadFault};
-use crate::resolution::names::{is_same_name, name};
+use crate::resolution::names::{is_same_name, name, number_of};
 use crate::syntax::NameGroup;
 use crate::walk::NameWord;
 use std::alloc::{AllocError, Global};
@@ -182,85 +182,91 @@ fn parents(alloc: Global, tables: &TypeTables) -> Result<TypeList, AllocError>
     Ok(parents)
 }
 
-/// Whether a chain of parents from a type returns to it.
-fn returns(parents: &TypeList, start: usize) -> bool {
-    let mut at = start;
-    for _ in 0..parents.len() {
-        if at >= parents.len() {
-            return false;
-        }
-        at = usize::from(parents.get(at));
-        if at == start {
-            return true;
-        }
-    }
-    false
+/// Whether a type but `object` stands above its own parent, so that a chain of parents returns to it.
+#[tactic(auto, unfolding(crate::specs::TypeOrder::is_under_itself))]
+fn is_under_itself(parents: &TypeList, number: usize) -> bool
+    requires known { number < length parents.now }
+    requires few { length parents.now ≤ 1025 }
+    ensures { result ≡ is_under_itself parents.now number }
+{
+    0 < number && parents.is_below(parents.get(number), number as u16)
 }
 
-/// For each type but `object` whether a chain of parents from it returns to it.
-fn cyclic_types(alloc: Global, parents: &TypeList) -> Result<Vec<bool>, AllocError> {
-    let mut cyclic = Vec::new(alloc);
-    for number in 0..parents.len() {
-        cyclic.push(number != 0 && returns(parents, number))?;
-    }
-    Ok(cyclic)
-}
-
-/// The first of the words that names a marked type.
-fn first_marked<'a>(
+/// Whether a word names a type under itself.
+#[tactic(auto, using(crate::proofs::TypeSteps::cycle_steps))]
+fn names_cycle(
     alloc: Global,
     names: &NameTable<()>,
-    marks: &[bool],
+    parents: &TypeList,
+    word: NameWord<'_>,
+) -> Result<bool, ReadFault>
+    requires as_many { length parents.now ≡ length names.now }
+    requires few { length names.now ≤ 1025 }
+    ensures { GivesTest result (names_cycle names.now parents.now word.entry.text.now) }
+{
+    match number_of(alloc, names, word.text)? {
+        Some(number) => Ok(is_under_itself(parents, number)),
+        None => Ok(false),
+    }
+}
+
+/// The first of the words that names a type under itself.
+#[tactic(auto, using(crate::proofs::TypeSteps::cycle_word_steps))]
+fn first_in_group<'a>(
+    alloc: Global,
+    names: &NameTable<()>,
+    parents: &TypeList,
     words: &[NameWord<'a>],
 ) -> Result<Option<NameWord<'a>>, ReadFault>
-    ensures { IfErr result (λ e. e ≡ out_of_memory) }
+    requires as_many { length parents.now ≡ length names.now }
+    requires few { length names.now ≤ 1025 }
+    ensures { FindsAny result (list_any (names_cycle names.now parents.now) (name_forms words.now)) }
 {
-    for word in words {
-        let name = name(alloc, *word)?;
-        if let Some(number) = names.number_of(name.as_bytes()) {
-            if number < marks.len() && marks[number] {
-                return Ok(Some(*word));
-            }
+    'words: for word in words {
+        if names_cycle(alloc, names, parents, *word)? {
+            return Ok(Some(*word));
         }
     }
     Ok(None)
 }
 
-/// The fault of types whose parents form no tree: the first declared type, in text order, from which a chain of parents returns to it.
-fn cycle_fault(
+/// The first declared type, in text order, that stands under itself.
+#[tactic(auto, using(crate::proofs::TypeSteps::cycle_group_steps))]
+fn first_under_itself<'a>(
     alloc: Global,
     names: &NameTable<()>,
     parents: &TypeList,
-    groups: &[NameGroup<'_>],
-) -> Result<ReadFault, ReadFault>
-    ensures fault { IfOk result (λ e. e.kind ≢ FaultKind.OutOfMemory) }
-    ensures memory { IfErr result (λ e. e ≡ out_of_memory) }
+    groups: &[NameGroup<'a>],
+) -> Result<Option<NameWord<'a>>, ReadFault>
+    requires as_many { length parents.now ≡ length names.now }
+    requires few { length names.now ≤ 1025 }
+    ensures { FindsAny result (list_any (declares_cycle names.now parents.now) (name_groups groups.now)) }
 {
-    let cyclic = cyclic_types(alloc, parents)?;
-    for group in groups {
-        if let Some(word) = first_marked(alloc, names, cyclic.as_slice(), group.names.as_slice())? {
-            return Ok(ReadFault::new(FaultKind::TypeCycle, word.span));
+    'groups: for group in groups {
+        if let Some(word) = first_in_group(alloc, names, parents, group.names.as_slice())? {
+            return Ok(Some(word));
         }
     }
-    // Parents that form no tree have a cycle, and all types on it are declared, so one of them was found.
-    Ok(ReadFault::at(FaultKind::TypeCycle, 0, 0))
+    Ok(None)
 }
 
-/// The order of the types.
+/// The order of the types. Where their parents form no tree, the fault is at the first declared type that stands under itself.
+#[tactic(auto, using(crate::proofs::CycleSteps::order_steps))]
 fn order(
     alloc: Global,
     tables: &TypeTables,
     groups: &[NameGroup<'_>],
 ) -> Result<TypeList, ReadFault>
-    requires { length tables.now.names ≤ 1025 }
+    requires few { length tables.now.names ≤ 1025 }
+    requires declared { types_declared (name_groups groups.now) ≡ Some tables.now }
     ensures { Gives (λ parents. parents) result (guard (is_tree (parents_of tables.now)) (Some (parents_of tables.now))) }
 {
     let mut parents = parents(alloc, tables)?;
-    if !parents.is_tree() {
-        return Err(cycle_fault(alloc, &tables.names, &parents, groups)?);
-    }
     parents.index()?;
-    Ok(parents)
+    match first_under_itself(alloc, &tables.names, &parents, groups)? {
+        Some(word) => Err(ReadFault::new(FaultKind::TypeCycle, word.span)),
+        None => Ok(parents),
+    }
 }
 
 /// The types that groups declare.

@@ -10,16 +10,16 @@ ghost use Rattle.pddl_reader.specs.Syntax.{atom_of, atom_in, negated_of, literal
 use crate::fault::{FaultKind, ReadFault};
 use crate::heads::{FormulaHead, Scope, formula_head, is_and, is_term};
 use crate::syntax::lists::{enter_list, leave_list};
-use crate::syntax::{AtomSyntax, LiteralSyntax};
+use crate::syntax::{AtomSyntax, LiteralSyntax, Terms};
 use crate::walk::{Item, NameWord, Walk, Word};
 use std::alloc::Global;
 
 /// Reads the terms of an atom.
 #[tactic(auto, using(crate::proofs::WordSteps::word_list_steps))]
-fn terms<'a>(alloc: Global, walk: &mut Walk<'a>, scope: Scope) -> Result<Vec<Word<'a>>, ReadFault>
+fn terms<'a>(alloc: Global, walk: &mut Walk<'a>, scope: Scope) -> Result<Terms<'a>, ReadFault>
     ensures { ReadsList (λ v. word_forms v.items) result (words_of (is_term scope)) (here walk.old.cursor) (here walk.new.cursor) }
 {
-    let mut terms = Vec::new(alloc);
+    let mut terms = Terms::new(alloc);
     'terms: loop {
         match walk.next() {
             Item::Close(_) => return Ok(terms),

@@ -10,10 +10,10 @@ returns-in_err-args c =
     rw (p.1, p.2) (
       e.0,
       λ k. ground_unfit (known_form c.args.known.now) c.args.syntax.now c.in_ok-pred.pred c.places_of-places.result.now c.in_ok-pred.ensures
-          c.places_of-places.ensures.places (rw (← c.as_slice.ensures.value) (e.1 k)),
+          c.places_of-places.ensures.places (rw (← c.as_slice.ensures) (e.1 k)),
     )
 
 pub returns : goal.returns
 returns c =
     ground_fit (known_form c.args.known.now) c.args.syntax.now c.in_ok-pred.pred c.places_of-places.result.now c.in_ok-args.args c.in_ok-pred.ensures
-    c.places_of-places.ensures.places (rw (← c.as_slice.ensures.value) c.in_ok-args.ensures)
+    c.places_of-places.ensures.places (rw (← c.as_slice.ensures) c.in_ok-args.ensures)

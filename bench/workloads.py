@@ -1,0 +1,152 @@
+"""Workloads for the benchmark: tasks of several shapes, with plans that are valid by construction.
+
+Each workload is a function that yields (name of a file, its text) pairs: a domain, a problem and one file a planner. All randomness
+comes from one seeded generator, so the same scale gives the same bytes on every machine.
+"""
+import random
+
+WALK = """(define (domain walk)
+  (:requirements :strips)
+  (:predicates (at ?p) (way ?a ?b) (lit ?p) (dark ?p))
+  (:action go :parameters (?a ?b)
+    :precondition (and (at ?a) (way ?a ?b))
+    :effect (and (not (at ?a)) (at ?b)))
+  (:action light :parameters (?p)
+    :precondition (and (at ?p) (dark ?p))
+    :effect (and (lit ?p) (not (dark ?p))))
+  (:action darken :parameters (?p)
+    :precondition (and (at ?p) (lit ?p))
+    :effect (and (dark ?p) (not (lit ?p)))))
+"""
+
+DEEP = """(define (domain deep)
+  (:requirements :strips :typing)
+  (:types %s)
+  (:predicates (open ?t - object) (shut ?t - object))
+  (:action shutter :parameters (?t - %s) :precondition (open ?t) :effect (and (shut ?t) (not (open ?t))))
+  (:action opener :parameters (?t - (either %s)) :precondition (shut ?t) :effect (and (open ?t) (not (shut ?t)))))
+"""
+
+CREW = """(define (domain crew)
+  (:requirements :strips)
+  (:predicates (row %s) (turn ?a) (next ?a ?b))
+  (:action shift :parameters (%s ?a ?b)
+    :precondition (and (turn ?a) (next ?a ?b) (not (row %s)))
+    :effect (and (not (turn ?a)) (turn ?b) (row %s)))
+  (:action back :parameters (%s ?a ?b)
+    :precondition (and (turn ?b) (next ?a ?b) (row %s))
+    :effect (and (not (turn ?b)) (turn ?a) (not (row %s)))))
+"""
+
+
+def problem(name, domain, objects, init, goal):
+    return "(define (problem %s) (:domain %s)\n  (:objects %s)\n  (:init %s)\n  (:goal (and %s)))\n" % (
+        name, domain, objects, "\n    ".join(init), " ".join(goal))
+
+
+def plain(steps):
+    return "".join("(%s)\n" % step for step in steps)
+
+
+def as_a_log(steps):
+    """The form of planners' logs: upper case, a stamp before each step and a cost behind it, comments between them."""
+    lines = ["; found by a planner\n"]
+    for number, step in enumerate(steps):
+        lines.append("%d.%03d: (%s) [1]  ; cost 1\n" % (number // 1000, number % 1000, step.upper()))
+    lines[-1:] = [lines[-1], "; cost = %d (unit cost)\n" % len(steps)]
+    return "".join(lines)
+
+
+def grid(side):
+    places = ["c%d-%d" % (x, y) for x in range(side) for y in range(side)]
+    ways = []
+    for x in range(side):
+        for y in range(side):
+            for dx, dy in ((0, 1), (1, 0), (0, -1), (-1, 0)):
+                if 0 <= x + dx < side and 0 <= y + dy < side:
+                    ways.append("(way c%d-%d c%d-%d)" % (x, y, x + dx, y + dy))
+    return places, ways
+
+
+def wander(rng, side, count):
+    """A walk over the grid that lights and darkens places: steps that are applicable in their turn."""
+    x = y = 0
+    lit, steps = set(), []
+    while len(steps) < count:
+        if rng.random() < 0.3:
+            steps.append("%s c%d-%d" % ("darken" if (x, y) in lit else "light", x, y))
+            lit ^= {(x, y)}
+        else:
+            dx, dy = rng.choice(((0, 1), (1, 0), (0, -1), (-1, 0)))
+            if 0 <= x + dx < side and 0 <= y + dy < side:
+                steps.append("go c%d-%d c%d-%d" % (x, y, x + dx, y + dy))
+                x, y = x + dx, y + dy
+    return steps
+
+
+def on_a_grid(side, planners, plans, steps, written):
+    def files(scale):
+        rng = random.Random(1)
+        places, ways = grid(side)
+        init = ["(at c0-0)"] + ways + ["(dark %s)" % place for place in places]
+        yield "domain.pddl", WALK
+        yield "problem.pddl", problem("grid-%d" % side, "walk", " ".join(places), init, ["(way c0-0 c0-1)"])
+        for planner in range(planners):
+            parts = []
+            for _ in range(max(1, int(plans * scale))):
+                parts.append(written(wander(rng, side, max(1, int(steps * (scale if plans == 1 else 1))))))
+            yield "planner-%d" % planner, "---\n".join(parts)
+    return files
+
+
+def deep_types(scale):
+    depth = 1000
+    types = " ".join("t%d - t%d" % (n + 1, n) for n in range(depth))
+    yield "domain.pddl", DEEP % (types, "t0", " ".join("t%d" % n for n in range(31)))
+    names = ["o%d" % n for n in range(200)]
+    yield "problem.pddl", problem("deep-1", "deep", " ".join("%s - t%d" % (name, depth) for name in names),
+                                  ["(open %s)" % name for name in names], ["(open o0)"])
+    steps = []
+    for turn in range(int(2500 * scale)):
+        steps += ["shutter %s" % name for name in names[:100]]
+        steps += ["opener %s" % name for name in names[:100]]
+    yield "planner-0", plain(steps)
+
+
+def many_arguments(scale):
+    width = 12
+    variables = " ".join("?x%d" % n for n in range(width))
+    yield "domain.pddl", CREW % ((variables,) * 7)
+    names = ["n%d" % n for n in range(100)]
+    init = ["(turn n0)"] + ["(next n%d n%d)" % (n, n + 1) for n in range(99)]
+    yield "problem.pddl", problem("crew-1", "crew", " ".join(names), init, ["(turn n0)"])
+    rng = random.Random(2)
+    steps = []
+    for _ in range(int(600 * scale)):
+        crews = [" ".join(rng.choice(names) for _ in range(width)) for _ in range(99)]
+        crews = list(dict.fromkeys(crews))
+        steps += ["shift %s n%d n%d" % (crew, n, n + 1) for n, crew in enumerate(crews)]
+        steps += ["back %s n%d n%d" % (crew, n, n + 1) for n, crew in reversed(list(enumerate(crews)))]
+    yield "planner-0", plain(steps)
+
+
+def large_problem(scale):
+    side = int(250 * min(scale, 1) ** 0.5)
+    places, ways = grid(side)
+    init = ["(at c0-0)"] + ways + ["(dark %s)" % place for place in places]
+    yield "domain.pddl", WALK
+    yield "problem.pddl", problem("large", "walk", " ".join(places), init, ["(way c0-0 c0-1)"])
+    yield "planner-0", ""
+
+
+# The name of a workload, what it is, and its files.
+WORKLOADS = [
+    ("many", "10,000 plans of 100 steps by 5 planners", on_a_grid(8, 5, 2000, 100, plain)),
+    ("long", "one plan of 600,000 steps on a small grid", on_a_grid(8, 1, 1, 600000, plain)),
+    ("log", "one plan of 350,000 steps with stamps, costs and comments", on_a_grid(8, 1, 1, 350000, as_a_log)),
+    ("wide", "one plan of 600,000 steps where 190,000 atoms are true", on_a_grid(190, 1, 1, 600000, plain)),
+    ("wide-many", "10,000 plans of 50 steps where 190,000 atoms are true", on_a_grid(190, 5, 2000, 50, plain)),
+    ("types", "500,000 steps over types 1,000 deep", deep_types),
+    ("arguments", "120,000 steps of 14 arguments", many_arguments),
+    ("parse", "a problem of 62,500 objects and 310,000 initial atoms, and an empty plan", large_problem),
+]
