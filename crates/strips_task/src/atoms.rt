@@ -76,8 +76,10 @@ impl Hash for Atom {
 fn atom_key(pred: u16, args: &[u16]) -> u64
     ensures { result ≡ key_behind pred args.now }
 {
-    args.iter()
-        .fold(pred as u64, |key, arg| key.wrapping_mul(65_599).wrapping_add(*arg as u64))
+    args.iter().fold(
+        pred as u64,
+        |key, arg| key.wrapping_mul(65_599).wrapping_add(*arg as u64),
+    )
 }
 
 impl PartialEq for GroundCond {
