@@ -1,0 +1,13 @@
+pub mod Allowed
+pub mod Consistent
+pub mod Ends
+pub mod InOrder
+pub mod Lawful
+pub mod Numbered
+pub mod OneHistory
+pub mod Pushes
+pub mod Refused
+pub mod SameJobs
+pub mod Steps
+pub mod Tables
+pub mod WorkedRows

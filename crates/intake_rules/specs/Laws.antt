@@ -1,0 +1,103 @@
+-- What is proved of the rules and of histories.
+
+use Rattle.std.specs.Prelude.{◌≡◌, ◌≢◌, ◌↔◌, ◌⊎◌, ◌<◌, ◌≤◌, ◌++◌, ℕ, suc, List, [], ◌∷◌, Option, Some, true, false, length, map, take, slice_get, All, MatchOption}
+use Rattle.strips_task.specs.declared.plans.Plan.{Plan}
+use Rattle.strips_task.specs.declared.tasks.TaskParts.{TaskParts}
+use Rattle.intake_rules.specs.declared.finding.Finding.{Finding}
+use Rattle.intake_rules.specs.declared.refusal.Refusal.{Refusal}
+use Rattle.intake_rules.specs.declared.refusal.Refusal.TheVariants as refusal
+use Rattle.intake_rules.specs.declared.reply.Reply.{Reply}
+use Rattle.intake_rules.specs.declared.reply.Reply.TheVariants as reply
+use Rattle.intake_rules.specs.Findings.{verdict_of}
+use Rattle.intake_rules.specs.History.{History, jobs, accepted, is_closed, emitted, finding_of, is_finished, is_out, left_by, IsLawful, TakesLeast, HasRightFindings}
+use Rattle.intake_rules.specs.Intake.{empty_intake, jobs_of}
+use Rattle.intake_rules.specs.Jobs.{AcceptedPlan, job_eq}
+use Rattle.intake_rules.specs.Rules.{Event, submit, finish, emit, Allows, reply_to, after}
+
+-- jobs that compare as the same are the same
+abbrev pub ComparesJobs : AcceptedPlan → AcceptedPlan → Type 0
+ComparesJobs job other = (job_eq job other ≡ true) ↔ (job ≡ other)
+
+-- where nothing was asked, all is lawful, and the intake has no job, no closed planner and nothing emitted
+abbrev pub EmptyHistory : ℕ → ℕ → Type 0
+EmptyHistory planners places = IsLawful planners places [] × TakesLeast planners [] × (left_by planners [] ≡ empty_intake planners)
+
+-- one pair more: an answer that the rules allow after a lawful history keeps it lawful, and what the history then leaves is what the rules say that the intake knows afterwards
+abbrev pub OneMore : ℕ → ℕ → History → Event → Reply → Type 0
+OneMore planners places history event answer = IsLawful planners places history → Allows places (left_by planners history) event answer
+    → IsLawful planners places (history ++ (event, answer) ∷ []) × (left_by planners (history ++ (event, answer) ∷ []) ≡ after (left_by planners history) event answer)
+
+-- the answer that gives out the least waiting job is always one that the rules allow, and where all jobs before were the least, they still are
+abbrev pub LeastGoesOn : ℕ → ℕ → History → Event → Type 0
+LeastGoesOn planners places history event = Allows places (left_by planners history) event (reply_to places (left_by planners history) event)
+    × (TakesLeast planners history → TakesLeast planners (history ++ (event, reply_to places (left_by planners history) event) ∷ []))
+
+-- a lawful history of these events that gives out the least jobs
+abbrev pub IsOf : ℕ → ℕ → List Event → History → Type 0
+IsOf planners places events history = IsLawful planners places history × TakesLeast planners history × (map (λ pair. pair.0) history ≡ events)
+
+-- for a list of events there is a history that is lawful and gives out the least jobs, and no other
+abbrev pub OneHistory : ℕ → ℕ → List Event → Type 0
+OneHistory planners places events = (history : History) × IsOf planners places events history × ((other : History) → IsOf planners places events other → other ≡ history)
+
+-- the first pairs of a history are lawful where all of it is, give out the least jobs where all of it does, and have right findings where all of it has
+abbrev pub PrefixesAreLawful : ℕ → ℕ → TaskParts → History → Type 0
+PrefixesAreLawful planners places parts history = (count : ℕ) → (IsLawful planners places history → IsLawful planners places (take count history))
+    × (TakesLeast planners history → TakesLeast planners (take count history))
+    × (HasRightFindings parts history → HasRightFindings parts (take count history))
+
+-- for each planner, the verdicts of the findings emitted are the first of the verdicts of its accepted plans, as many as there are
+abbrev pub VerdictsInOrder : TaskParts → History → Type 0
+VerdictsInOrder parts history = (planner : ℕ) → (length (emitted planner history) ≤ length (accepted planner history))
+    × (map (λ finding. finding.verdict) (emitted planner history) ≡ take (length (emitted planner history)) (map (verdict_of parts) (accepted planner history)))
+
+-- two histories leave the same jobs, closed planners, emitted findings, findings of jobs and jobs that are out
+pub record LeaveTheSame (before later : History) : Type 0 where
+  pub same_jobs : jobs later ≡ jobs before
+  pub same_closed : (planner : ℕ) → is_closed planner later ≡ is_closed planner before
+  pub same_emitted : (planner : ℕ) → emitted planner later ≡ emitted planner before
+  pub same_findings : (job : ℕ) → finding_of job later ≡ finding_of job before
+  pub same_out : (job : ℕ) → is_out job later ≡ is_out job before
+
+-- with an event that was refused, a history leaves what it left before
+abbrev pub RefusalsChangeNothing : History → Type 0
+RefusalsChangeNothing history = (place : ℕ) (event : Event) (why : Refusal) → slice_get history place ≡ Some (event, reply.Refused why)
+    → LeaveTheSame (take place history) (take (suc place) history)
+
+-- a plan of a planner that was closed before is refused as `Closed`
+abbrev pub RefusedAfterClose : History → Type 0
+RefusedAfterClose history = (place planner : ℕ) (plan : Plan) (answer : Reply) → slice_get history place ≡ Some (submit planner plan, answer)
+    → is_closed planner (take place history) ≡ true → answer ≡ reply.Refused refusal.Closed
+
+-- a finding for a job that was finished before is refused as `AlreadyFinished`
+abbrev pub RefusedDoubled : History → Type 0
+RefusedDoubled history = (place job : ℕ) (finding : Finding) (answer : Reply) → slice_get history place ≡ Some (finish job (Some finding), answer)
+    → is_finished job (take place history) ≡ true → answer ≡ reply.Refused refusal.AlreadyFinished
+
+-- what a strange finding for a job is answered: there is no such job, or it is neither out nor finished, or the finding is of another job
+pub record AnswersStrange (before : History) (job : ℕ) (finding : Finding) (answer : Reply) : Type 0 where
+  pub unknown_job : length (jobs before) ≤ job → answer ≡ reply.Refused refusal.UnknownJob
+  pub not_out : job < length (jobs before) → is_finished job before ≡ false → is_out job before ≡ false → answer ≡ reply.Refused refusal.NotOut
+  pub other_plan : is_out job before ≡ true → slice_get (jobs before) job ≢ Some finding.job → answer ≡ reply.Refused refusal.OtherPlan
+
+-- a strange finding is refused so, and a finish without a finding as one of an unknown job
+abbrev pub RefusedStrange : History → Type 0
+RefusedStrange history = (place job : ℕ) (found : Option Finding) (answer : Reply) → slice_get history place ≡ Some (finish job found, answer)
+    → MatchOption found (answer ≡ reply.Refused refusal.UnknownJob) (λ finding. AnswersStrange (take place history) job finding answer)
+
+-- each accepted job of a planner is finished
+abbrev pub AllFinished : ℕ → History → Type 0
+AllFinished planner history = All (λ job. is_finished job.number history ≡ true) (jobs_of planner (jobs history))
+
+-- where a planner is closed and all its jobs are finished, an emit for it gives a finding, or is refused as `Complete`; and `Complete` comes
+-- exactly where as many findings were emitted as plans were accepted
+abbrev pub WholeListOnceClosed : History → Type 0
+WholeListOnceClosed history = (place planner : ℕ) (answer : Reply) → slice_get history place ≡ Some (emit planner, answer)
+    → is_closed planner (take place history) ≡ true → AllFinished planner (take place history)
+    → (((finding : Finding) × (answer ≡ reply.Emitted finding)) ⊎ (answer ≡ reply.Refused refusal.Complete))
+    × ((answer ≡ reply.Refused refusal.Complete) ↔ (length (emitted planner (take place history)) ≡ length (accepted planner (take place history))))
+
+-- what was emitted for a planner when `Complete` is answered are the verdicts of all its accepted plans, in order
+abbrev pub CompleteIsWhole : TaskParts → History → Type 0
+CompleteIsWhole parts history = (place planner : ℕ) → slice_get history place ≡ Some (emit planner, reply.Refused refusal.Complete)
+    → map (λ finding. finding.verdict) (emitted planner (take place history)) ≡ map (verdict_of parts) (accepted planner (take place history))

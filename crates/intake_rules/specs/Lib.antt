@@ -1,0 +1,7 @@
+pub mod Findings
+pub mod History
+pub mod Intake
+pub mod Jobs
+pub mod Laws
+pub mod Refusals
+pub mod Rules

@@ -1,0 +1,80 @@
+//! What follows from the rules: each law is the contract of a function that does nothing.
+//!
+//! The first few say how a history grows: from [`empty_history`] by [`one_more`] pair, by [`least_goes_on`] in the way of an intake that gives
+//! out the least job. The others say what holds of every lawful history, and so, by [`prefixes_are_lawful`], at every moment of it.
+ghost use Rattle.std.specs.Prelude.{ℕ, List};
+ghost use Rattle.strips_task.specs.declared.tasks.TaskParts.{TaskParts};
+ghost use Rattle.intake_rules.specs.declared.reply.Reply.{Reply};
+ghost use Rattle.intake_rules.specs.History.{History, IsLawful, HasRightFindings};
+ghost use Rattle.intake_rules.specs.Laws.{ComparesJobs, EmptyHistory, OneMore, LeastGoesOn, OneHistory, PrefixesAreLawful, VerdictsInOrder, RefusalsChangeNothing, RefusedAfterClose, RefusedDoubled, RefusedStrange, WholeListOnceClosed, CompleteIsWhole};
+ghost use Rattle.intake_rules.specs.Rules.{Event};
+
+use crate::Job;
+
+/// [`Job::is_same`] answers true exactly for two jobs that contracts cannot tell apart.
+pub fn same_jobs_are_equal(_job: &Job, _other: &Job)
+    ensures { ComparesJobs _job.now _other.now }
+{}
+
+/// Where nothing was asked, the intake has no job, no planner is closed and nothing is emitted.
+pub fn empty_history()
+    ensures { (planners places : ℕ) → EmptyHistory planners places }
+{}
+
+/// A lawful history stays lawful with one pair more that the rules allow, and leaves what the rules say that the intake then knows.
+pub fn one_more()
+    ensures { (planners places : ℕ) (history : History) (event : Event) (answer : Reply) → OneMore planners places history event answer }
+{}
+
+/// The answer that gives out the least waiting job is one that the rules allow, and keeps to the least jobs.
+pub fn least_goes_on()
+    ensures { (planners places : ℕ) (history : History) (event : Event) → LeastGoesOn planners places history event }
+{}
+
+/// For each list of events there is one lawful history that gives out the least jobs, and no other.
+pub fn one_history_of_events()
+    ensures { (planners places : ℕ) (events : List Event) → OneHistory planners places events }
+{}
+
+/// The first pairs of a lawful history are a lawful history, and the same of histories that give out the least jobs, and of those with
+/// right findings.
+pub fn prefixes_are_lawful()
+    ensures { (planners places : ℕ) (parts : TaskParts) (history : History) → PrefixesAreLawful planners places parts history }
+{}
+
+/// The verdicts emitted for a planner are the first ones of the verdicts of its accepted plans, in the order of acceptance, each once.
+pub fn verdicts_in_order()
+    ensures { (planners places : ℕ) (parts : TaskParts) (history : History)
+        → IsLawful planners places history → HasRightFindings parts history → VerdictsInOrder parts history }
+{}
+
+/// What is refused changes nothing.
+pub fn refusals_change_nothing()
+    ensures { (history : History) → RefusalsChangeNothing history }
+{}
+
+/// No plan of a closed planner is accepted.
+pub fn plans_after_close_are_refused()
+    ensures { (planners places : ℕ) (history : History) → IsLawful planners places history → RefusedAfterClose history }
+{}
+
+/// No job is finished twice.
+pub fn doubled_findings_are_refused()
+    ensures { (planners places : ℕ) (history : History) → IsLawful planners places history → RefusedDoubled history }
+{}
+
+/// No finding is stored for a job that was not given out, or that is another job's.
+pub fn strange_findings_are_refused()
+    ensures { (planners places : ℕ) (history : History) → IsLawful planners places history → RefusedStrange history }
+{}
+
+/// Once a planner is closed and all its jobs are finished, each emit gives a finding until all are emitted, and then `Complete` is answered.
+pub fn whole_list_once_closed()
+    ensures { (planners places : ℕ) (history : History) → IsLawful planners places history → WholeListOnceClosed history }
+{}
+
+/// Where `Complete` is answered, the verdicts emitted are those of all accepted plans of the planner.
+pub fn complete_is_whole()
+    ensures { (planners places : ℕ) (parts : TaskParts) (history : History)
+        → IsLawful planners places history → HasRightFindings parts history → CompleteIsWhole parts history }
+{}

@@ -1,0 +1,4 @@
+pub mod Bits
+pub mod Summaries
+pub mod Views
+pub mod Writes
