@@ -1,0 +1,9 @@
+pub mod Tables
+pub mod Lines
+pub mod Keeping
+pub mod Refusing
+pub mod Waiting
+pub mod Emitting
+pub mod Making
+pub mod Going
+pub mod Runs

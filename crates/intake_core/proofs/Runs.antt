@@ -1,0 +1,128 @@
+-- How far a replay has come, and what holds of its history.
+
+use Rattle.std.proofs.Common.{◌≡◌, ◌++◌, ℕ, List, [], ◌∷◌, length, take, drop, Option, Some, None, ap, sym, ◌∙◌, subst, refl, zero, suc, append_assoc, append-nil, arith}
+use Rattle.std.specs.Prelude.{slice_get, option_map, IfSome, Result, Ok, Err, OnOk, is_err, false}
+use Rattle.std.proofs.Math.Seq.{take-append_seam}
+use Rattle.strips_task.specs.declared.tasks.TaskParts.{TaskParts}
+use Rattle.intake_rules.specs.declared.reply.Reply.{Reply}
+use Rattle.intake_rules.specs.Findings.{IsRight}
+use Rattle.intake_rules.specs.History.{History, IsLawful, TakesLeast, IsRightFinish, HasRightFindings}
+use Rattle.intake_rules.specs.Intake.{empty_intake}
+use Rattle.intake_rules.specs.Jobs.{AcceptedPlan}
+use Rattle.intake_rules.specs.Rules.{Event}
+use Rattle.intake_rules.proofs.Lawful.{lawful_prefix}
+use Rattle.intake_rules.proofs.Refused.{refusals_change_nothing, refused_after_close, refused_doubled, refused_strange}
+use Rattle.intake_rules.proofs.InOrder.{verdicts_in_order, whole_list_once_closed, complete_is_whole}
+use Rattle.intake_core.specs.declared.replaying.Step.{Step}
+use Rattle.intake_core.specs.declared.replaying.Step.TheVariants as step
+use Rattle.intake_core.specs.Histories.{Leaves}
+use Rattle.intake_core.specs.State.{DeskState, desk_reply, desk_after}
+use Rattle.intake_core.specs.Replays.{found, event_of, replayed, replies_of, history_of, Headline}
+use Rattle.intake_core.proofs.Going.{goes-on, begins}
+
+-- the desk that steps were asked of, the steps that are left and the replies so far
+pub record RunsOn (task : TaskParts) (whole : List Reply) (desk : DeskState) (left : List Step) (replies : List Reply) : Type 0 where
+  pub task_is : desk.task ≡ task
+  pub whole_is : whole ≡ replies ++ replies_of (replayed desk left)
+
+pub runs-begin : (task : TaskParts) (desk : DeskState) (steps : List Step) → desk.task ≡ task → RunsOn task (replies_of (replayed desk steps)) desk steps []
+runs-begin task desk steps same = record { task_is = same; whole_is = refl }
+
+pub runs-more : (task : TaskParts) (whole : List Reply) (desk new : DeskState) (step : Step) (left : List Step) (replies more : List Reply) (answer : Reply)
+    → RunsOn task whole desk (step ∷ left) replies → new ≡ desk_after desk (event_of desk step) (desk_reply desk (event_of desk step)) → answer ≡ desk_reply desk (event_of desk step)
+    → more ≡ replies ++ answer ∷ [] → RunsOn task whole new left more
+unfolding replayed
+runs-more task whole desk new step left replies more answer runs state reply pushed =
+    record {
+      task_is = ap (λ d. d.task) state ∙ runs.task_is;
+      whole_is =
+          runs.whole_is
+          ∙ sym (append_assoc replies (desk_reply desk (event_of desk step) ∷ []) (replies_of (replayed (desk_after desk (event_of desk step) (desk_reply desk (event_of desk step))) left)))
+          ∙ ap (λ a. (replies ++ a ∷ []) ++ replies_of (replayed (desk_after desk (event_of desk step) (desk_reply desk (event_of desk step))) left)) (sym reply)
+          ∙ ap (λ rs. rs ++ replies_of (replayed (desk_after desk (event_of desk step) (desk_reply desk (event_of desk step))) left)) (sym pushed)
+          ∙ ap (λ d. more ++ replies_of (replayed d left)) (sym state);
+    }
+
+pub runs-end : (task : TaskParts) (whole : List Reply) (desk : DeskState) (replies : List Reply) → RunsOn task whole desk [] replies → replies ≡ whole
+unfolding replayed
+runs-end task whole desk replies runs = sym (runs.whole_is ∙ append-nil replies)
+
+pub runs-part : (task : TaskParts) (whole : List Reply) (desk : DeskState) (left : List Step) (replies : List Reply) → RunsOn task whole desk left replies → replies ≡ take (length replies) whole
+runs-part task whole desk left replies runs =
+    sym (ap (take (length replies)) runs.whole_is ∙ take-append_seam replies (replies_of (replayed desk left)))
+
+-- a history that leaves a desk, with what the steps then make of it, is lawful and gives out the least jobs
+leaves-replayed : (planners : ℕ) (steps : List Step) (history : History) (desk : DeskState) → Leaves planners history desk
+    → IsLawful planners desk.places (history ++ replayed desk steps) × TakesLeast planners (history ++ replayed desk steps)
+unfolding replayed
+leaves-replayed planners [] history desk leaves =
+    let P : History → Type 0 = λ h. IsLawful planners desk.places h × TakesLeast planners h in
+    subst P (sym (append-nil history)) (leaves.lawful, leaves.least)
+leaves-replayed planners (step ∷ steps) history desk leaves =
+    let answer = desk_reply desk (event_of desk step) in
+    let new = desk_after desk (event_of desk step) answer in
+    let P : History → Type 0 = λ h. IsLawful planners desk.places h × TakesLeast planners h in
+    subst P (append_assoc history ((event_of desk step, answer) ∷ []) (replayed new steps))
+    (leaves-replayed planners steps (history ++ (event_of desk step, answer) ∷ []) new (goes-on desk new (event_of desk step) answer refl refl planners history leaves))
+
+right-found : (task : TaskParts) (job : Option AcceptedPlan) → IfSome (option_map (found task) job) (IsRight task)
+right-found task None = tt
+right-found task (Some job) = refl
+
+right-event : (desk : DeskState) (step : Step) → IsRightFinish desk.task (event_of desk step)
+right-event desk (step.Submit planner plan) = tt
+right-event desk (step.Close planner) = tt
+right-event desk step.Take = tt
+right-event desk (step.HandBack job) = tt
+right-event desk (step.Finish job of) = right-found desk.task (slice_get desk.intake.jobs of)
+right-event desk (step.Emit planner) = tt
+
+-- each finding that the steps hand in is right
+right-replayed : (steps : List Step) (desk : DeskState) → HasRightFindings desk.task (replayed desk steps)
+unfolding replayed
+right-replayed [] desk place event answer e = absurd (cc)
+right-replayed (step ∷ steps) desk zero event answer e =
+    let first : Event × Reply = (event_of desk step, desk_reply desk (event_of desk step)) in
+    let given : Event × Reply = (event, answer) in
+    let some : Some first ≡ Some given = e in
+    let same : first ≡ given = cc in
+    subst (IsRightFinish desk.task) (ap (λ pair. pair.0) same) (right-event desk step)
+right-replayed (step ∷ steps) desk (suc place) event answer e =
+    right-replayed steps (desk_after desk (event_of desk step) (desk_reply desk (event_of desk step))) place event answer e
+
+get-take : (xs : History) (n k : ℕ) (x : Event × Reply) → slice_get (take n xs) k ≡ Some x → slice_get xs k ≡ Some x
+get-take xs zero k x e = absurd (cc)
+get-take [] (suc n) k x e = e
+get-take (y ∷ ys) (suc n) zero x e = e
+get-take (y ∷ ys) (suc n) (suc k) x e = get-take ys n k x e
+
+-- what holds of the history of every replay
+pub headline : (task : TaskParts) (planners places : ℕ) (steps : List Step) → Headline task planners places (history_of task planners places steps)
+headline task planners places steps =
+    let desk : DeskState = record { task = task; places = places; intake = empty_intake planners } in
+    let history = history_of task planners places steps in
+    let facts : IsLawful planners places history × TakesLeast planners history = leaves-replayed planners steps [] desk (begins planners desk refl) in
+    let right : HasRightFindings task history = right-replayed steps desk in
+    record {
+      lawful = facts.0;
+      least = facts.1;
+      verdicts = λ count.
+          verdicts_in_order planners places task (take count history) (lawful_prefix planners places history count facts.0)
+          (λ place event answer e. right place event answer (get-take history count place (event, answer) e));
+      refusals = refusals_change_nothing history;
+      after_close = refused_after_close planners places history facts.0;
+      doubled = refused_doubled planners places history facts.0;
+      strange = refused_strange planners places history facts.0;
+      whole_list = whole_list_once_closed planners places history facts.0;
+      complete = complete_is_whole planners places history facts.0 task right;
+    }
+
+-- a push that did not fail
+pub on-ok : {T E P : Type 0} (result : Result T E) → is_err result ≡ false → OnOk result P → P
+on-ok (Ok x) e fact = fact
+on-ok (Err x) e fact = absurd (cc)
+
+-- nothing was left where nothing came
+pub none-left : {X : Type 0} (old new : List X) → old ≡ new → new ≡ drop 1 old → old ≡ []
+none-left [] new same rest = refl
+none-left (x ∷ xs) new same rest = absurd (omega (arith, ap length (same ∙ rest)))

@@ -1,0 +1,10 @@
+-- What a replay that ended early hands over.
+
+use Rattle.std.specs.Prelude.{List}
+use Rattle.intake_rules.specs.declared.reply.Reply.{Reply}
+use Rattle.intake_core.specs.declared.replaying.ReplayFault.{ReplayFault}
+use Rattle.intake_core.specs.declared.replaying.ReplayFault.TheVariants.{OutOfMemory}
+
+-- the replies to the first steps
+abbrev pub so_far : ReplayFault → List Reply
+so_far (OutOfMemory replies) = replies

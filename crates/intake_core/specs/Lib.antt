@@ -1,0 +1,6 @@
+pub mod Answers
+pub mod Faults
+pub mod Histories
+pub mod Replays
+pub mod Rows
+pub mod State

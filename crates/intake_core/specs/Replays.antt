@@ -1,0 +1,59 @@
+-- What a list of steps makes of a desk.
+
+use Rattle.std.specs.Prelude.{ℕ, List, [], ◌∷◌, map, take, slice_get, option_map}
+use Rattle.std.specs.Arc.{arc_value}
+use Rattle.strips_task.specs.declared.tasks.TaskParts.{TaskParts}
+use Rattle.intake_rules.specs.declared.finding.Finding.{Finding}
+use Rattle.intake_rules.specs.declared.reply.Reply.{Reply}
+use Rattle.intake_rules.specs.Findings.{verdict_of}
+use Rattle.intake_rules.specs.History.{History, IsLawful, TakesLeast}
+use Rattle.intake_rules.specs.Intake.{empty_intake}
+use Rattle.intake_rules.specs.Jobs.{AcceptedPlan}
+use Rattle.intake_rules.specs.Laws.{VerdictsInOrder, RefusalsChangeNothing, RefusedAfterClose, RefusedDoubled, RefusedStrange, WholeListOnceClosed, CompleteIsWhole}
+use Rattle.intake_rules.specs.Rules.{Event, submit, close, take_job, hand_back, finish, emit}
+use Rattle.intake_core.specs.declared.replaying.Step.{Step}
+use Rattle.intake_core.specs.declared.replaying.Step.TheVariants as step
+use Rattle.intake_core.specs.State.{DeskState, desk_reply, desk_after}
+
+-- the right finding of a job
+abbrev pub found : TaskParts → AcceptedPlan → Finding
+found task job = record { job = job; verdict = verdict_of task job.plan }
+
+-- what a step asks of a desk: a finish hands in the right finding of the job that it names, if there is one
+abbrev pub event_of : DeskState → Step → Event
+event_of desk (step.Submit planner plan) = submit planner (arc_value plan)
+event_of desk (step.Close planner) = close planner
+event_of desk step.Take = take_job
+event_of desk (step.HandBack job) = hand_back job
+event_of desk (step.Finish job of) = finish job (option_map (found desk.task) (slice_get desk.intake.jobs of))
+event_of desk (step.Emit planner) = emit planner
+
+-- the events of the steps, each with the reply of the desk as the steps before left it
+unfoldable pub replayed : DeskState → List Step → History
+replayed desk [] = []
+replayed desk (step ∷ steps) =
+    (event_of desk step, desk_reply desk (event_of desk step))
+    ∷ replayed (desk_after desk (event_of desk step) (desk_reply desk (event_of desk step))) steps
+
+abbrev pub replies_of : History → List Reply
+replies_of history = map (λ pair. pair.1) history
+
+-- the events and replies of the steps at a new desk
+abbrev pub history_of : TaskParts → ℕ → ℕ → List Step → History
+history_of task planners places steps = replayed (record { task = task; places = places; intake = empty_intake planners }) steps
+
+-- what holds of every history of a desk
+pub record Headline (task : TaskParts) (planners places : ℕ) (history : History) : Type 0 where
+  -- each reply is the rules', and each take gives out the least job that waits
+  pub lawful : IsLawful planners places history
+  pub least : TakesLeast planners history
+  -- at each moment the verdicts emitted for a planner are the first of those of its accepted plans, in order, each once
+  pub verdicts : (count : ℕ) → VerdictsInOrder task (take count history)
+  -- what is refused changes nothing; plans after the close, doubled findings and strange ones are refused
+  pub refusals : RefusalsChangeNothing history
+  pub after_close : RefusedAfterClose history
+  pub doubled : RefusedDoubled history
+  pub strange : RefusedStrange history
+  -- once a planner is closed with all its plans finished, emitting until `Complete` gives the whole list
+  pub whole_list : WholeListOnceClosed history
+  pub complete : CompleteIsWhole task history

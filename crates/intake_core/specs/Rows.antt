@@ -1,0 +1,101 @@
+-- How a desk keeps what it knows: a row for each place that is used and one for each planner.
+
+use Rattle.std.specs.Prelude.{◌≡◌, ◌≤◌, ◌-◌, ℕ, suc, Bool, true, false, List, Option, Some, None, map, length, slice_get, slice_index_or, set, option_map}
+use Rattle.strips_task.specs.declared.tasks.TaskParts.{TaskParts}
+use Rattle.intake_rules.specs.declared.finding.Finding.{Finding}
+use Rattle.intake_rules.specs.declared.stage.Stage.TheVariants.{Finished}
+use Rattle.intake_rules.specs.declared.stage.Stage.{Stage}
+use Rattle.intake_rules.specs.Findings.{IsRight}
+use Rattle.intake_rules.specs.Intake.{Intake, is_waiting_stage, jobs_of, has_planner, next_job}
+use Rattle.intake_rules.specs.Jobs.{AcceptedPlan}
+use Rattle.intake_core.specs.declared.place.Place.{Place}
+use Rattle.intake_core.specs.declared.place.Planner.{Planner}
+use Rattle.place_set.specs.Members.{is_member}
+
+abbrev pub jobs_in : List Place → List AcceptedPlan
+jobs_in table = map (λ row. row.job) table
+
+abbrev pub stages_in : List Place → List Stage
+stages_in table = map (λ row. row.stage) table
+
+abbrev pub links_in : List Place → List (Option ℕ)
+links_in table = map (λ row. row.behind) table
+
+-- what the rows say
+abbrev pub intake_in : List Place → List Planner → Intake
+intake_in table planners = record {
+  jobs = jobs_in table;
+  stages = stages_in table;
+  closed = map (λ row. row.closed) planners;
+  emitted = map (λ row. row.emitted) planners;
+}
+
+-- the numbers of a planner's jobs, in order
+abbrev pub line_of : ℕ → List AcceptedPlan → List ℕ
+line_of planner jobs = map (λ job. job.number) (jobs_of planner jobs)
+
+abbrev pub last_of : List ℕ → Option ℕ
+last_of numbers = slice_get numbers (length numbers - 1)
+
+-- a planner's row knows where its line goes on and where it ends, and the links lead along the line
+pub record IsLine (jobs : List AcceptedPlan) (links : List (Option ℕ)) (planner : ℕ) (row : Planner) : Type 0 where
+  pub next : row.next ≡ slice_get (line_of planner jobs) row.emitted
+  pub last : row.last ≡ last_of (line_of planner jobs)
+  pub told : row.emitted ≤ length (line_of planner jobs)
+  pub along : (k j : ℕ) → slice_get (line_of planner jobs) k ≡ Some j → slice_index_or links j None ≡ slice_get (line_of planner jobs) (suc k)
+
+abbrev pub waits : Option Stage → Bool
+waits (Some stage) = is_waiting_stage stage
+waits None = false
+
+-- whether the job with this number waits; one that there is not does not
+abbrev pub waits_at : List Stage → ℕ → Bool
+waits_at stages j = waits (slice_get stages j)
+
+-- a finding that rests at a place is of the job there, and right
+pub record IsAtRest (task : TaskParts) (job : AcceptedPlan) (finding : Finding) : Type 0 where
+  pub same : finding.job ≡ job
+  pub right : IsRight task finding
+
+-- the jobs, stages and links of a desk of so many places, its planners and the set of the jobs that wait
+pub record IsKept (task : TaskParts) (places : ℕ) (jobs : List AcceptedPlan) (stages : List Stage) (links : List (Option ℕ)) (planners : List Planner) (waiting : List Bool) : Type 0 where
+  pub few : places ≤ 65536
+  pub room : length jobs ≤ places
+  pub staged : length stages ≡ length jobs
+  pub linked : length links ≡ length jobs
+  pub numbered : (j : ℕ) (job : AcceptedPlan) → slice_get jobs j ≡ Some job → job.number ≡ j
+  pub all_places : length waiting ≡ places
+  pub waiting_is : (j : ℕ) → is_member waiting j ≡ waits_at stages j
+  pub at_rest : (j : ℕ) (job : AcceptedPlan) (finding : Finding) → slice_get jobs j ≡ Some job → slice_get stages j ≡ Some (Finished finding) → IsAtRest task job finding
+  pub lines : (planner : ℕ) (row : Planner) → slice_get planners planner ≡ Some row → IsLine jobs links planner row
+
+-- the rows of a desk of so many places
+abbrev pub IsKeptIn : TaskParts → ℕ → List Place → List Planner → List Bool → Type 0
+IsKeptIn task places table planners waiting = IsKept task places (jobs_in table) (stages_in table) (links_in table) planners waiting
+
+-- the links once this job follows the one that was the last of its planner
+abbrev pub linked : List (Option ℕ) → Option ℕ → ℕ → List (Option ℕ)
+linked links (Some last) number = set links last (Some number)
+linked links None number = links
+
+abbrev pub or_else : Option ℕ → ℕ → Option ℕ
+or_else (Some next) number = Some next
+or_else None number = Some number
+
+-- a planner's row once this job was accepted: it is the last, and the next where all before it were emitted
+abbrev pub joined : Planner → ℕ → Planner
+joined row number = record row { next = or_else row.next number; last = Some number }
+
+abbrev pub rests : Option Stage → Bool
+rests (Some (Finished finding)) = true
+rests _ = false
+
+-- whether a finding rests at the place of this job
+abbrev pub rests_at : Intake → ℕ → Bool
+rests_at intake number = rests (slice_get intake.stages number)
+
+-- this is the number of the planner's next job, and it is finished
+pub record IsReady (intake : Intake) (planner number : ℕ) : Type 0 where
+  pub known : has_planner intake planner ≡ true
+  pub next : option_map (λ job. job.number) (next_job intake planner) ≡ Some number
+  pub finished : rests_at intake number ≡ true

@@ -1,0 +1,368 @@
+//! The desk: each call asks first whether the rules refuse it, and only then changes the tables.
+ghost use Rattle.std.specs.Arc.{arc_value};
+ghost use Rattle.std.specs.Option.{option_copied};
+ghost use Rattle.std.specs.Prelude.{◌≡◌, ◌≤◌, ◌<◌, ◌++◌, ◌∷◌, [], length, slice_get, Option, None, Some, true, false, IfOk, IfErr, OnErr, MatchResult, vec_len, vec_capacity, replicate, IfSome, slice_set};
+ghost use Rattle.intake_rules.specs.Findings.{IsRight};
+ghost use Rattle.intake_rules.specs.Intake.{next_job, with_job, with_stage, with_closed, with_emitted, empty_intake};
+ghost use Rattle.intake_rules.specs.Rules.{Event, submit, close, take_job, hand_back, finish, emit, submit_refusal, close_refusal, hand_back_refusal, finish_refusal, emit_reply};
+ghost use Rattle.intake_core.specs.Answers.{submit_reply, close_reply, take_reply, hand_back_reply, finish_reply, emit_answer};
+ghost use Rattle.intake_core.specs.Histories.{GoesOn, Leaves};
+ghost use Rattle.intake_core.specs.Rows.{jobs_in, stages_in, links_in, linked, rests_at, IsReady};
+ghost use Rattle.intake_core.specs.State.{DeskState, with_intake, desk_after, desk_reply};
+
+use crate::place::{Place, Planner};
+use crate::{FinishRefused, SubmitRefused};
+use intake_rules::{Finding, Job, Refusal, Reply, Stage};
+use place_set::PlaceSet;
+use std::alloc::{AllocError, Global};
+use std::marker::Model;
+use std::mem;
+use std::snapshot::Snapshot;
+use std::sync::Arc;
+use strips_judge::{Plan, Task};
+
+/// The desk of one thread. Contracts see its task, the number of its places, and what it knows.
+#[derive(Drop)]
+pub struct Desk {
+    task: Snapshot<Task>,
+    limit: u32,
+    table: Vec<Place>,
+    planners: Vec<Planner>,
+    waiting: PlaceSet,
+}
+
+impl Model for Desk {
+    ghost use Rattle.std.specs.Prelude.{◌≤◌, vec_capacity};
+    ghost use Rattle.intake_core.specs.State.{DeskState};
+
+    ghost Value = { DeskState };
+
+    ghost use Rattle.intake_core.specs.Rows.{intake_in, IsKeptIn};
+
+    ghost view = { λ desk. record { task = desk.task.value; places = desk.limit; intake = intake_in desk.table.items desk.planners.items } };
+
+    ghost invariant = { λ desk. IsKeptIn desk.task.value desk.limit desk.table.items desk.planners.items desk.waiting × (desk.limit ≤ vec_capacity desk.table) };
+}
+
+impl Desk {
+    /// A desk that nothing was asked of. Takes all the memory that it will use: a row for each place and for each planner.
+    pub fn make(alloc: Global, task: &Task, planners: u32, places: u32) -> Result<Desk, AllocError>
+        requires planners { planners ≤ 64 }
+        requires places { places ≤ 65536 }
+        ensures state { IfOk result (λ desk. desk ≡ record { task = task.now; places = places; intake = empty_intake planners }) }
+        ensures history { IfOk result (λ desk. Leaves planners [] desk) }
+    {
+        let open = Planner {
+            closed: false,
+            emitted: 0,
+            next: None,
+            last: None,
+        };
+        Ok(Desk {
+            task: Snapshot::of(task),
+            limit: places,
+            table: Vec::with_capacity(alloc, places as usize)?,
+            planners: vec![in alloc; open; planners as usize]?,
+            waiting: PlaceSet::new(alloc, places)?,
+        })
+    }
+
+    /// The accepted job of a number.
+    pub fn job(&self, number: u32) -> Option<&Job>
+        ensures { option_copied result ≡ slice_get self.now.intake.jobs number }
+    {
+        match self.table.get(number as usize) {
+            Some(place) => Some(&place.job),
+            None => None,
+        }
+    }
+
+    /// Takes a plan in. It becomes the job with the count of those that were accepted before as its number.
+    pub fn submit(&mut self, planner: u32, plan: Arc<Plan>) -> Result<u32, SubmitRefused>
+        ensures reply { submit_reply result ≡ desk_reply self.old (submit planner (arc_value plan)) }
+        ensures state { self.new ≡ desk_after self.old (submit planner (arc_value plan)) (submit_reply result) }
+        ensures history { GoesOn self.old self.new (submit planner (arc_value plan)) (submit_reply result) }
+        ensures plan { IfErr result (λ refused. refused.plan ≡ plan) }
+    {
+        match self.submit_refusal(planner) {
+            Some(refusal) => Err(SubmitRefused { refusal, plan }),
+            None => Ok(self.accept(planner, plan)),
+        }
+    }
+
+    /// Closes a planner: no plan of it is accepted any more.
+    pub fn close(&mut self, planner: u32) -> Result<(), Refusal>
+        ensures reply { close_reply result ≡ desk_reply self.old (close planner) }
+        ensures state { self.new ≡ desk_after self.old (close planner) (close_reply result) }
+        ensures history { GoesOn self.old self.new (close planner) (close_reply result) }
+    {
+        match self.close_refusal(planner) {
+            Some(refusal) => Err(refusal),
+            None => {
+                self.mark_closed(planner);
+                Ok(())
+            }
+        }
+    }
+
+    /// Gives the least job that waits out, by its number, to be judged.
+    pub fn take(&mut self) -> Option<u32>
+        ensures reply { take_reply result ≡ desk_reply self.old take_job }
+        ensures state { self.new ≡ desk_after self.old take_job (take_reply result) }
+        ensures history { GoesOn self.old self.new take_job (take_reply result) }
+    {
+        let number = self.waiting.least()?;
+        self.waiting.remove(number);
+        set_stage(&mut self.table, number, Stage::Out);
+        Some(number)
+    }
+
+    /// Takes a job back that was given out; it waits again.
+    pub fn hand_back(&mut self, job: u32) -> Result<(), Refusal>
+        ensures reply { hand_back_reply result ≡ desk_reply self.old (hand_back job) }
+        ensures state { self.new ≡ desk_after self.old (hand_back job) (hand_back_reply result) }
+        ensures history { GoesOn self.old self.new (hand_back job) (hand_back_reply result) }
+    {
+        match self.out_refusal(job) {
+            Some(refusal) => Err(refusal),
+            None => {
+                self.put_back(job);
+                Ok(())
+            }
+        }
+    }
+
+    /// Stores the finding of a job that was given out.
+    pub fn finish(&mut self, job: u32, finding: Finding) -> Result<(), FinishRefused>
+        requires { IsRight self.old.task finding }
+        ensures reply { finish_reply result ≡ desk_reply self.old (finish job (Some finding)) }
+        ensures state { self.new ≡ desk_after self.old (finish job (Some finding)) (finish_reply result) }
+        ensures history { GoesOn self.old self.new (finish job (Some finding)) (finish_reply result) }
+        ensures finding { IfErr result (λ refused. refused.finding ≡ finding) }
+    {
+        match self.finish_refusal(job, &finding) {
+            Some(refusal) => Err(FinishRefused { refusal, finding }),
+            None => {
+                self.store(job, finding);
+                Ok(())
+            }
+        }
+    }
+
+    /// Gives the finding of the first of a planner's jobs that was not emitted out for good.
+    pub fn emit(&mut self, planner: u32) -> Result<Finding, Refusal>
+        ensures reply { emit_answer result ≡ desk_reply self.old (emit planner) }
+        ensures state { self.new ≡ desk_after self.old (emit planner) (emit_answer result) }
+        ensures history { GoesOn self.old self.new (emit planner) (emit_answer result) }
+        ensures right { IfOk result (λ finding. IsRight self.old.task finding) }
+        ensures next { IfOk result (λ finding. next_job self.old.intake planner ≡ Some finding.job) }
+    {
+        match self.next_ready(planner) {
+            Err(refusal) => Err(refusal),
+            Ok(number) => Ok(self.give_out(planner, number)),
+        }
+    }
+
+    /// Why a plan of a planner is not accepted.
+    fn submit_refusal(&self, planner: u32) -> Option<Refusal>
+        ensures { result ≡ submit_refusal self.now.places self.now.intake planner }
+    {
+        match self.planners.get(planner as usize) {
+            None => Some(Refusal::NoPlanner),
+            Some(row) if row.closed => Some(Refusal::Closed),
+            Some(_) if self.table.len() == self.limit as usize => Some(Refusal::Full),
+            Some(_) => None,
+        }
+    }
+
+    /// Why a planner is not closed.
+    fn close_refusal(&self, planner: u32) -> Option<Refusal>
+        ensures { result ≡ close_refusal self.now.intake planner }
+    {
+        match self.planners.get(planner as usize) {
+            None => Some(Refusal::NoPlanner),
+            Some(row) if row.closed => Some(Refusal::AlreadyClosed),
+            Some(_) => None,
+        }
+    }
+
+    /// Why a job is not handed back: there is none, or it is finished, or it is not out.
+    fn out_refusal(&self, job: u32) -> Option<Refusal>
+        ensures { result ≡ hand_back_refusal self.now.intake job }
+    {
+        match self.table.get(job as usize) {
+            None => Some(Refusal::UnknownJob),
+            Some(place) => match &place.stage {
+                Stage::Waiting => Some(Refusal::NotOut),
+                Stage::Out => None,
+                Stage::Finished(_) | Stage::Emitted => Some(Refusal::AlreadyFinished),
+            },
+        }
+    }
+
+    /// Why a finding is not stored for a job.
+    fn finish_refusal(&self, job: u32, finding: &Finding) -> Option<Refusal>
+        ensures { result ≡ finish_refusal self.now.intake job finding.now }
+    {
+        match self.out_refusal(job) {
+            Some(refusal) => Some(refusal),
+            None if self.table[job as usize].job.is_same(&finding.job) => None,
+            None => Some(Refusal::OtherPlan),
+        }
+    }
+
+    /// Makes a job that is out wait again.
+    fn put_back(&mut self, job: u32)
+        requires { hand_back_refusal self.old.intake job ≡ None }
+        ensures { self.new ≡ with_intake self.old (with_stage self.old.intake job Stage.Waiting) }
+    {
+        set_stage(&mut self.table, job, Stage::Waiting);
+        self.waiting.insert(job);
+    }
+
+    /// Stores a right finding with its job.
+    fn store(&mut self, job: u32, finding: Finding)
+        requires accepted { finish_refusal self.old.intake job finding ≡ None }
+        requires right { IsRight self.old.task finding }
+        ensures { self.new ≡ with_intake self.old (with_stage self.old.intake job (Stage.Finished finding)) }
+    {
+        set_stage(&mut self.table, job, Stage::Finished(finding));
+    }
+
+    /// Takes a plan in that is not refused.
+    fn accept(&mut self, planner: u32, plan: Arc<Plan>) -> u32
+        requires { submit_refusal self.old.places self.old.intake planner ≡ None }
+        ensures number { result ≡ length self.old.intake.jobs }
+        ensures state { self.new ≡ with_intake self.old (with_job self.old.intake planner (arc_value plan)) }
+    {
+        let number = self.table.len() as u32;
+        let row = self.planners[planner as usize];
+        self.planners[planner as usize] = row.joined(number);
+        let place = Place {
+            job: Job {
+                number,
+                planner,
+                plan,
+            },
+            stage: Stage::Waiting,
+            behind: None,
+        };
+        link(&mut self.table, row.last, number);
+        add(&mut self.table, place);
+        self.waiting.insert(number);
+        number
+    }
+
+    /// Closes a planner that is open.
+    fn mark_closed(&mut self, planner: u32)
+        requires { close_refusal self.old.intake planner ≡ None }
+        ensures { self.new ≡ with_intake self.old (with_closed self.old.intake planner) }
+    {
+        let row = self.planners[planner as usize];
+        self.planners[planner as usize] = Planner {
+            closed: true,
+            ..row
+        };
+    }
+
+    /// The number of the planner's next job, if it is finished.
+    fn next_ready(&self, planner: u32) -> Result<u32, Refusal>
+        ensures { MatchResult result (λ number. IsReady self.now.intake planner number) (λ refusal. emit_reply self.now.intake planner ≡ Reply.Refused refusal) }
+    {
+        match self.planners.get(planner as usize) {
+            None => Err(Refusal::NoPlanner),
+            Some(row) => match row.next {
+                None if row.closed => Err(Refusal::Complete),
+                None => Err(Refusal::NothingYet),
+                Some(number) => {
+                    if self.is_finished(number) {
+                        Ok(number)
+                    } else {
+                        Err(Refusal::NotReady(number))
+                    }
+                }
+            },
+        }
+    }
+
+    /// Whether the finding of a job rests at its place.
+    fn is_finished(&self, number: u32) -> bool
+        ensures { result ≡ rests_at self.now.intake number }
+    {
+        match self.table.get(number as usize) {
+            Some(place) => matches!(&place.stage, Stage::Finished(_)),
+            None => false,
+        }
+    }
+
+    /// Gives out the finding of the planner's next job, which is finished.
+    fn give_out(&mut self, planner: u32, number: u32) -> Finding
+        requires { IsReady self.old.intake planner number }
+        ensures reply { emit_reply self.old.intake planner ≡ Reply.Emitted result }
+        ensures state { self.new ≡ with_intake self.old (with_emitted self.old.intake planner number) }
+        ensures right { IsRight self.old.task result }
+        ensures next { next_job self.old.intake planner ≡ Some result.job }
+    {
+        let row = self.planners[planner as usize];
+        self.planners[planner as usize] = Planner {
+            emitted: row.emitted + 1,
+            next: self.table[number as usize].behind,
+            ..row
+        };
+        match replace_stage(&mut self.table, number, Stage::Emitted) {
+            Stage::Finished(finding) => finding,
+            Stage::Waiting | Stage::Out | Stage::Emitted => unreachable!(),
+        }
+    }
+}
+
+/// Puts a job at another stage. The one that it was at.
+fn replace_stage(table: &mut Vec<Place>, job: u32, stage: Stage) -> Stage
+    requires { job < vec_len table.old }
+    ensures was { slice_get (stages_in table.old.items) job ≡ Some result }
+    ensures jobs { jobs_in table.new.items ≡ jobs_in table.old.items }
+    ensures stages { stages_in table.new.items ≡ slice_set (stages_in table.old.items) job stage }
+    ensures links { links_in table.new.items ≡ links_in table.old.items }
+    ensures len { vec_len table.new ≡ vec_len table.old }
+    ensures capacity { vec_capacity table.new ≡ vec_capacity table.old }
+{
+    mem::replace(&mut table[job as usize].stage, stage)
+}
+
+/// Puts a job at another stage.
+fn set_stage(table: &mut Vec<Place>, job: u32, stage: Stage)
+    requires { job < vec_len table.old }
+    ensures jobs { jobs_in table.new.items ≡ jobs_in table.old.items }
+    ensures stages { stages_in table.new.items ≡ slice_set (stages_in table.old.items) job stage }
+    ensures links { links_in table.new.items ≡ links_in table.old.items }
+    ensures len { vec_len table.new ≡ vec_len table.old }
+    ensures capacity { vec_capacity table.new ≡ vec_capacity table.old }
+{
+    let _before = replace_stage(table, job, stage);
+}
+
+/// Lets the row of a planner's last job, if it has one, lead to the job that follows it.
+fn link(table: &mut Vec<Place>, last: Option<u32>, number: u32)
+    requires { IfSome last (λ job. job < vec_len table.old) }
+    ensures jobs { jobs_in table.new.items ≡ jobs_in table.old.items }
+    ensures stages { stages_in table.new.items ≡ stages_in table.old.items }
+    ensures links { links_in table.new.items ≡ linked (links_in table.old.items) last number }
+    ensures len { vec_len table.new ≡ vec_len table.old }
+    ensures capacity { vec_capacity table.new ≡ vec_capacity table.old }
+{
+    if let Some(job) = last {
+        table[job as usize].behind = Some(number);
+    }
+}
+
+/// Adds a row where there is room.
+fn add(table: &mut Vec<Place>, place: Place)
+    requires { vec_len table.old < vec_capacity table.old }
+    ensures rows { table.new.items ≡ table.old.items ++ place ∷ [] }
+    ensures capacity { vec_capacity table.old ≤ vec_capacity table.new }
+{
+    match table.push(place) {
+        Ok(()) => {}
+        Err(_) => unreachable!(),
+    }
+}

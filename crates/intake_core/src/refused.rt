@@ -1,0 +1,22 @@
+//! What a desk gives back with a refusal.
+use intake_rules::{Finding, Refusal};
+use std::sync::Arc;
+use strips_judge::Plan;
+
+/// A plan that was not accepted.
+#[derive(Drop)]
+pub struct SubmitRefused {
+    /// Why not.
+    pub refusal: Refusal,
+    /// The plan that was handed in.
+    pub plan: Arc<Plan>,
+}
+
+/// A finding that was not stored.
+#[derive(Drop)]
+pub struct FinishRefused {
+    /// Why not.
+    pub refusal: Refusal,
+    /// The finding that was handed in.
+    pub finding: Finding,
+}

@@ -1,0 +1,165 @@
+//! The replay: a list of steps is asked of a new desk.
+ghost use Rattle.std.specs.Prelude.{◌≡◌, ◌≤◌, IfOk, IfErr, take, length, OnOk, option_map, slice_get};
+ghost use Rattle.intake_rules.specs.Rules.{finish};
+ghost use Rattle.intake_core.specs.Faults.{so_far};
+ghost use Rattle.intake_core.specs.Replays.{event_of, replayed, replies_of, history_of, Headline, found};
+ghost use Rattle.intake_core.specs.State.{desk_reply, desk_after};
+
+use crate::Desk;
+use intake_rules::{Finding, Refusal, Reply};
+use std::alloc::{AllocError, Global};
+use std::collections::VecDeque;
+use std::sync::Arc;
+use strips_judge::{Plan, Seq, Task};
+
+/// What is asked of a desk.
+#[derive(Drop)]
+pub enum Step {
+    /// A plan of a planner is handed in.
+    Submit {
+        /// Whose plan it is.
+        planner: u32,
+        /// The plan.
+        plan: Arc<Plan>,
+    },
+    /// A planner is closed.
+    Close {
+        /// Which one.
+        planner: u32,
+    },
+    /// The least job that waits is asked for.
+    Take,
+    /// A job is handed back.
+    HandBack {
+        /// The number of the job.
+        job: u32,
+    },
+    /// A finding is handed in for a job.
+    Finish {
+        /// The number of the job that it is handed in for.
+        job: u32,
+        /// The number of the job that it is of.
+        of: u32,
+    },
+    /// The next finding of a planner is asked for.
+    Emit {
+        /// Which planner's.
+        planner: u32,
+    },
+}
+
+/// The steps of a replay, in order.
+pub type StepsToRun = Seq<Step>;
+
+/// The replies of a replay, in the order of its steps.
+pub type ReplyList = Seq<Reply>;
+
+/// Why a replay ended early.
+#[derive(Drop)]
+pub enum ReplayFault {
+    /// Memory ran out: while the desk was made, while a finding was judged, or while the replies grew.
+    OutOfMemory {
+        /// The replies to the first steps.
+        replies: ReplyList,
+    },
+}
+
+/// Asks the steps of a new desk, one after another. A finish is refused as one of an unknown job where the job that its finding is to be of
+/// was not accepted; else that job is judged first, and then the desk answers.
+pub fn replay(
+    alloc: Global,
+    task: &Task,
+    planners: u32,
+    places: u32,
+    steps: StepsToRun,
+) -> Result<ReplyList, ReplayFault>
+    requires planners { planners ≤ 64 }
+    requires places { places ≤ 65536 }
+    ensures replies { IfOk result (λ replies. replies ≡ replies_of (history_of task.now planners places steps)) }
+    ensures fault { IfErr result (λ fault. so_far fault ≡ take (length (so_far fault)) (replies_of (history_of task.now planners places steps))) }
+    ensures headline { Headline task.now planners places (history_of task.now planners places steps) }
+{
+    match Desk::make(alloc, task, planners, places) {
+        Err(AllocError) => Err(ReplayFault::OutOfMemory {
+            replies: Seq::new(alloc),
+        }),
+        Ok(desk) => run(alloc, task, desk, steps),
+    }
+}
+
+/// Asks the steps of a desk.
+fn run(
+    alloc: Global,
+    task: &Task,
+    mut desk: Desk,
+    steps: StepsToRun,
+) -> Result<ReplyList, ReplayFault>
+    requires { desk.task ≡ task.now }
+    ensures replies { IfOk result (λ replies. replies ≡ replies_of (replayed desk steps)) }
+    ensures fault { IfErr result (λ fault. so_far fault ≡ take (length (so_far fault)) (replies_of (replayed desk steps))) }
+{
+    let mut left = VecDeque::from_vec(steps.into_vec());
+    let mut replies = Seq::new(alloc);
+    while let Some(step) = left.pop_front() {
+        let Ok(reply) = answer(alloc, task, &mut desk, step) else {
+            return Err(ReplayFault::OutOfMemory { replies });
+        };
+        if replies.push(reply).is_err() {
+            return Err(ReplayFault::OutOfMemory { replies });
+        }
+    }
+    Ok(replies)
+}
+
+/// Asks one step of a desk.
+fn answer(alloc: Global, task: &Task, desk: &mut Desk, step: Step) -> Result<Reply, AllocError>
+    requires { desk.old.task ≡ task.now }
+    ensures reply { IfOk result (λ reply. reply ≡ desk_reply desk.old (event_of desk.old step)) }
+    ensures state { OnOk result (desk.new ≡ desk_after desk.old (event_of desk.old step) (desk_reply desk.old (event_of desk.old step))) }
+{
+    Ok(match step {
+        Step::Submit { planner, plan } => match desk.submit(planner, plan) {
+            Ok(number) => Reply::Accepted(number),
+            Err(refused) => Reply::Refused(refused.refusal),
+        },
+        Step::Close { planner } => match desk.close(planner) {
+            Ok(()) => Reply::ClosedNow,
+            Err(refusal) => Reply::Refused(refusal),
+        },
+        Step::Take => match desk.take() {
+            Some(number) => Reply::Taken(number),
+            None => Reply::NoJob,
+        },
+        Step::HandBack { job } => match desk.hand_back(job) {
+            Ok(()) => Reply::Returned,
+            Err(refusal) => Reply::Refused(refusal),
+        },
+        Step::Finish { job, of } => return answer_finish(alloc, task, desk, job, of),
+        Step::Emit { planner } => match desk.emit(planner) {
+            Ok(finding) => Reply::Emitted(finding),
+            Err(refusal) => Reply::Refused(refusal),
+        },
+    })
+}
+
+/// Hands the finding of a job in for a job.
+fn answer_finish(
+    alloc: Global,
+    task: &Task,
+    desk: &mut Desk,
+    job: u32,
+    of: u32,
+) -> Result<Reply, AllocError>
+    requires { desk.old.task ≡ task.now }
+    ensures reply { IfOk result (λ reply. reply ≡ desk_reply desk.old (finish job (option_map (found desk.old.task) (slice_get desk.old.intake.jobs of)))) }
+    ensures state { OnOk result (desk.new ≡ desk_after desk.old (finish job (option_map (found desk.old.task) (slice_get desk.old.intake.jobs of))) (desk_reply desk.old (finish job (option_map (found desk.old.task) (slice_get desk.old.intake.jobs of))))) }
+{
+    let Some(judged) = desk.job(of) else {
+        return Ok(Reply::Refused(Refusal::UnknownJob));
+    };
+    let finding = Finding::judge(alloc, task, judged)?;
+    match desk.finish(job, finding) {
+        Ok(()) => Ok(Reply::Finished),
+        Err(refused) => Ok(Reply::Refused(refused.refusal)),
+    }
+}
