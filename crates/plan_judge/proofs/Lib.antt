@@ -2,6 +2,8 @@ pub mod Planners
 pub mod Reading
 pub mod Refusals
 pub mod Rendering
+pub mod ReplayAnswers
+pub mod Replaying
 pub mod RunAnswers
 pub mod TextFaults
 pub mod TooLarge

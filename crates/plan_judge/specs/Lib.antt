@@ -3,6 +3,8 @@ pub mod Bundle
 pub mod Inlet
 pub mod Outlet
 pub mod Refusal
+pub mod ReplayAnswer
+pub mod ReplayText
 pub mod Report
 pub mod Run
 pub mod Status

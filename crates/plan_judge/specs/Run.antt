@@ -5,6 +5,7 @@ use Rattle.std.specs.Prelude.{◌≡◌, ℕ, List, [], ◌∷◌, Option, Some}
 use Rattle.plan_judge.specs.Answer.{answer}
 use Rattle.plan_judge.specs.Bundle.{BundleValue}
 use Rattle.plan_judge.specs.Outlet.{AppendsFront}
+use Rattle.plan_judge.specs.ReplayAnswer.{replay_answer}
 
 -- the file of a planner, which has the file's name
 abbrev pub IsFile : (List ℕ → List ℕ → Type 0) → List ℕ → BundleValue → Type 0
@@ -37,4 +38,26 @@ pub record WritesReport (MayHold : List ℕ → List ℕ → Type 0) (domain pro
 pub record CutsReport (MayHold : List ℕ → List ℕ → Type 0) (domain problem : List ℕ) (plans : List (List ℕ)) (old new : Option (List ℕ)) : Type 0 where
   pub report : List ℕ
   pub is_report : IsReportOver MayHold domain problem plans report
+  pub went_out : AppendsFront old new report
+
+-- the lines are the answer to what the files with these names may hold
+pub record IsReplayOver (MayHold : List ℕ → List ℕ → Type 0) (domain problem steps : List ℕ) (report : List ℕ) : Type 0 where
+  pub domain_text : List ℕ
+  pub problem_text : List ℕ
+  pub steps_text : List ℕ
+  pub of_domain : MayHold domain domain_text
+  pub of_problem : MayHold problem problem_text
+  pub of_steps : MayHold steps steps_text
+  pub is_answer : replay_answer domain_text problem_text steps_text ≡ Some report
+
+-- the lines of the replay went out, and nothing else
+pub record WritesReplay (MayHold : List ℕ → List ℕ → Type 0) (domain problem steps : List ℕ) (old new : Option (List ℕ)) : Type 0 where
+  pub report : List ℕ
+  pub is_report : IsReplayOver MayHold domain problem steps report
+  pub went_out : Appends old new report
+
+-- a front of the lines of the replay went out, and nothing else
+pub record CutsReplay (MayHold : List ℕ → List ℕ → Type 0) (domain problem steps : List ℕ) (old new : Option (List ℕ)) : Type 0 where
+  pub report : List ℕ
+  pub is_report : IsReplayOver MayHold domain problem steps report
   pub went_out : AppendsFront old new report

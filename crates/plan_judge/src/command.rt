@@ -39,11 +39,35 @@ Exit status:
 Example:
   plan_judge judge --domain domain.pddl --problem problem.pddl plans.txt other-planner.txt";
 
+const REPLAY_ABOUT: &str =
+    "Replays steps at a desk where plans are taken in, given out to be judged, and emitted in order.";
+
+const REPLAY_AFTER_HELP: &str = "\
+The steps, one a line; empty lines and lines that begin with ; are skipped:
+  desk P N           the first line: P planners, N places
+  submit P TEXT      a plan of planner P, which is read from the rest of the line
+  close P            no plan of planner P is accepted any more
+  take               give out the least job that waits
+  back J             job J is handed back
+  finish J K         job J is finished with the finding of job K
+  emit P             the next finding of planner P
+
+The answers, on standard output, one line a step:
+  accepted J, closed, took J, none, returned, finished, refused WHY
+  emitted J VERDICT  the verdict of job J, as in a report
+
+Exit status: as for judge; 1 also where a line of the steps is faulty.
+
+Example:
+  plan_judge replay --domain domain.pddl --problem problem.pddl --steps steps.txt";
+
 /// What a command line asks for.
 #[derive(Debug, Drop)]
 pub(crate) enum Request<'a> {
     /// Judge the plans of planners.
     Judge(JudgeRequest<'a>),
+    /// Replay the steps of a file.
+    Replay(ReplayRequest<'a>),
     /// Show a text, as help.
     Show(String),
     /// The command line is refused, with this text.
@@ -61,6 +85,17 @@ pub struct JudgeRequest<'a> {
     pub plans: Vec<&'a str>,
 }
 
+/// The files of a replay.
+#[derive(Debug, Drop)]
+pub struct ReplayRequest<'a> {
+    /// The name of the file of the domain.
+    pub domain: &'a str,
+    /// The name of the file of the problem.
+    pub problem: &'a str,
+    /// The name of the file of the steps.
+    pub steps: &'a str,
+}
+
 /// What the words of a command line ask for; the first is the program's name.
 pub(crate) fn parse<'a>(alloc: Global, words: &'a [String]) -> Result<Request<'a>, AllocError> {
     match program(alloc)?.try_get_matches_from(words) {
@@ -74,6 +109,17 @@ pub(crate) fn parse<'a>(alloc: Global, words: &'a [String]) -> Result<Request<'a
                     domain,
                     problem,
                     plans: plans.to_vec(alloc)?,
+                }));
+            }
+            if let Some(replay) = matches.subcommand_matches("replay")
+                && let Some(domain) = replay.get_str("domain")
+                && let Some(problem) = replay.get_str("problem")
+                && let Some(steps) = replay.get_str("steps")
+            {
+                return Ok(Request::Replay(ReplayRequest {
+                    domain,
+                    problem,
+                    steps,
                 }));
             }
             let text = String::from_str(alloc, "a command is missing; try --help\n")?;
@@ -104,23 +150,12 @@ fn program<'a>(alloc: Global) -> Result<Command<'a>, AllocError> {
         .after_help(AFTER_HELP)
         .subcommand_required(true)
         .arg_required_else_help(true)
-        .subcommand(judge_command(alloc)?)
+        .subcommand(judge_command(alloc)?)?
+        .subcommand(replay_command(alloc)?)
 }
 
 /// The command `judge`.
 fn judge_command<'a>(alloc: Global) -> Result<Command<'a>, AllocError> {
-    let domain = Arg::new(alloc, "domain")
-        .long("domain")
-        .value_name("DOMAIN")
-        .help("The domain, in PDDL")
-        .required(true)
-        .action(ArgAction::Set);
-    let problem = Arg::new(alloc, "problem")
-        .long("problem")
-        .value_name("PROBLEM")
-        .help("The problem, in PDDL")
-        .required(true)
-        .action(ArgAction::Set);
     let workers = Arg::new(alloc, "workers")
         .long("workers")
         .value_name("N")
@@ -136,8 +171,42 @@ fn judge_command<'a>(alloc: Global) -> Result<Command<'a>, AllocError> {
     Command::new(alloc, "judge")
         .about(JUDGE_ABOUT)
         .after_help(JUDGE_AFTER_HELP)
-        .arg(domain)?
-        .arg(problem)?
+        .arg(domain_file(alloc))?
+        .arg(problem_file(alloc))?
         .arg(workers)?
         .arg(plans)
+}
+
+/// The command `replay`.
+fn replay_command<'a>(alloc: Global) -> Result<Command<'a>, AllocError> {
+    let steps = Arg::new(alloc, "steps")
+        .long("steps")
+        .value_name("STEPS")
+        .help("The steps to be replayed")
+        .required(true)
+        .action(ArgAction::Set);
+    Command::new(alloc, "replay")
+        .about(REPLAY_ABOUT)
+        .after_help(REPLAY_AFTER_HELP)
+        .arg(domain_file(alloc))?
+        .arg(problem_file(alloc))?
+        .arg(steps)
+}
+
+fn domain_file<'a>(alloc: Global) -> Arg<'a> {
+    Arg::new(alloc, "domain")
+        .long("domain")
+        .value_name("DOMAIN")
+        .help("The domain, in PDDL")
+        .required(true)
+        .action(ArgAction::Set)
+}
+
+fn problem_file<'a>(alloc: Global) -> Arg<'a> {
+    Arg::new(alloc, "problem")
+        .long("problem")
+        .value_name("PROBLEM")
+        .help("The problem, in PDDL")
+        .required(true)
+        .action(ArgAction::Set)
 }

@@ -88,7 +88,7 @@ fn too_large(domain: &[u8], problem: &[u8], bundles: &[Bundle]) -> Option<u32>
 }
 
 /// The task of a domain text and a problem text.
-fn read_task(alloc: Global, domain: &[u8], problem: &[u8]) -> Result<Task, JudgeFault>
+pub(crate) fn read_task(alloc: Global, domain: &[u8], problem: &[u8]) -> Result<Task, JudgeFault>
     ensures task { IfOk result (λ task. task_of domain.now problem.now ≡ Some task) }
     ensures refusal { IfErr result (λ fault. fault ≢ OutOfMemory → task_of domain.now problem.now ≡ None) }
     ensures cause { IfErr result (λ fault. fault ≢ OutOfMemory → ReadingCallsFor domain.now problem.now fault) }

@@ -4,6 +4,7 @@ ghost use Rattle.plan_judge.specs.Status.{status_of};
 
 use pddl_reader::ReadFault;
 use std::alloc::{AllocError, AllocFailed};
+pub use steps_text::{StepsFault, StepsFaultKind};
 use thiserror::Error;
 
 /// Why a run gives no report. Of several causes the first in this order is told; the last three may come in another order.
@@ -37,24 +38,6 @@ pub enum JudgeFault {
     /// A gate held the job with this number.
     #[error("job {0} is held")]
     Held(u32),
-}
-
-/// What is wrong with the steps of a replay, and in which line.
-#[derive(Clone, Copy, Debug, PartialEq, Eq)]
-pub struct StepsFault {
-    /// What is wrong.
-    pub kind: StepsFaultKind,
-    /// The line, counted from 1.
-    pub line: u32,
-}
-
-/// What is wrong with the steps of a replay.
-#[derive(Clone, Copy, Debug, PartialEq, Eq)]
-pub enum StepsFaultKind {
-    /// A line is of no form that stands there.
-    Expected,
-    /// A number or the count of steps is over its limit.
-    TooMany,
 }
 
 impl JudgeFault {

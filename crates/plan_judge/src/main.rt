@@ -11,6 +11,8 @@ pub mod outlet;
 mod planner;
 pub mod program;
 mod render;
+pub mod replay;
+mod replies;
 pub mod report;
 #[cfg(test)]
 mod tests;

@@ -4,14 +4,15 @@
 ghost use Rattle.std.specs.Prelude.{◌≡◌, ◌↔◌, ◌⊎◌, ◌<◌, ◌≤◌, true, false, map, length, IfOk};
 ghost use Rattle.std.specs.Io.KnownBytes.{Appends};
 ghost use Rattle.plan_judge.specs.Outlet.{AppendsFront};
-ghost use Rattle.plan_judge.specs.Run.{IsReportOver, WritesReport, CutsReport, IsFile, AreFiles};
+ghost use Rattle.plan_judge.specs.Run.{IsReportOver, WritesReport, CutsReport, IsReplayOver, WritesReplay, CutsReplay, IsFile, AreFiles};
 
 use crate::bundle::Bundle;
-use crate::command::{JudgeRequest, Request, parse};
+use crate::command::{JudgeRequest, ReplayRequest, Request, parse};
 use crate::engine::judge_plain;
 use crate::fault::JudgeFault;
 use crate::inlet::{InFault, Sources};
 use crate::outlet::{Outlet, write_bytes, write_report};
+use crate::replay::replay_bytes;
 use crate::report::Report;
 use crate::text::Text;
 use pddl_reader::ReadFault;
@@ -63,6 +64,7 @@ pub fn main_with<R: AllocGlobal, S: Sources, O: Outlet, E: Outlet>(
 {
     match parse(rt.alloc(), words) {
         Ok(Request::Judge(files)) => judge_with(rt.alloc(), &files, sources, out, err),
+        Ok(Request::Replay(files)) => replay_with(rt.alloc(), &files, sources, out, err),
         Ok(Request::Show(text)) => write_out(&Report::from_bytes(text.into_bytes()), out, err),
         Ok(Request::Refused(text)) => {
             tell(err, text.as_bytes());
@@ -91,15 +93,47 @@ pub fn judge_with<S: Sources, O: Outlet, E: Outlet>(
 {
     match judge_files(alloc, files, sources) {
         Ok(report) => write_out(&report, out, err),
-        Err(Stop::Input(text)) => {
+        Err(stop) => stopped(stop, err),
+    }
+}
+
+/// Replays the steps of a file, and answers the exit status, as `main_with` does for a command line that names these files.
+pub fn replay_with<S: Sources, O: Outlet, E: Outlet>(
+    alloc: Global,
+    files: &ReplayRequest<'_>,
+    sources: &S,
+    out: &mut O,
+    err: &mut E,
+) -> u8
+    requires { O.failed out.old ≡ false }
+    ensures status { result ≤ 4 }
+    ensures written { result ≡ 0 → WritesReplay (S.may_hold sources.now) files.now.domain.now files.now.problem.now files.now.steps.now
+        (O.taken out.old) (O.taken out.new) }
+    ensures cut { result ≡ 4 → CutsReplay (S.may_hold sources.now) files.now.domain.now files.now.problem.now files.now.steps.now
+        (O.taken out.old) (O.taken out.new) }
+    ensures unwritten { (result ≡ 4) ↔ (O.failed out.new ≡ true) }
+    ensures untouched { 0 < result → result < 4 → out.new ≡ out.old }
+{
+    match replay_files(alloc, files, sources) {
+        Ok(report) => write_out(&report, out, err),
+        Err(stop) => stopped(stop, err),
+    }
+}
+
+/// Tells why a run stops without a report, and answers the exit status for it.
+fn stopped<E: Outlet>(stop: Stop, err: &mut E) -> u8
+    ensures status { (result ≡ 1) ⊎ (result ≡ 3) }
+{
+    match stop {
+        Stop::Input(text) => {
             tell(err, text.as_slice());
             1
         }
-        Err(Stop::Lacking(text)) => {
+        Stop::Lacking(text) => {
             tell(err, text.as_slice());
             3
         }
-        Err(Stop::OutOfMemory) => out_of_memory(err),
+        Stop::OutOfMemory => out_of_memory(err),
     }
 }
 
@@ -144,7 +178,7 @@ fn judge_files<S: Sources>(
     ensures { IfOk result (IsReportOver (S.may_hold sources.now) files.now.domain.now files.now.problem.now (map (λ name. name.now) files.now.plans.items)) }
 {
     if files.plans.len() > MOST_FILES {
-        return Err(judge_stop(alloc, JudgeFault::TooManyPlanners, files, &[], &[])?);
+        return Err(stop_for(alloc, JudgeFault::TooManyPlanners, files.domain, &[], &[])?);
     }
     let domain = read(alloc, sources, files.domain)?;
     let problem = read(alloc, sources, files.problem)?;
@@ -156,7 +190,35 @@ fn judge_files<S: Sources>(
         bundles.as_slice(),
     ) {
         Ok(report) => Ok(report),
-        Err(fault) => Err(judge_stop(alloc, fault, files, domain.as_slice(), problem.as_slice())?),
+        Err(fault) => {
+            let large = large_file(files, fault);
+            Err(stop_for(alloc, fault, large, domain.as_slice(), problem.as_slice())?)
+        }
+    }
+}
+
+/// The lines of a replay over files. They are read in the order of domain, problem and steps.
+fn replay_files<S: Sources>(
+    alloc: Global,
+    files: &ReplayRequest<'_>,
+    sources: &S,
+) -> Result<Report, Stop>
+    ensures { IfOk result (IsReplayOver (S.may_hold sources.now) files.now.domain.now files.now.problem.now files.now.steps.now) }
+{
+    let domain = read(alloc, sources, files.domain)?;
+    let problem = read(alloc, sources, files.problem)?;
+    let steps = read(alloc, sources, files.steps)?;
+    match replay_bytes(
+        alloc,
+        domain.as_slice(),
+        problem.as_slice(),
+        steps.as_slice(),
+    ) {
+        Ok(report) => Ok(report),
+        Err(fault) => {
+            let large = large_replay_file(files, fault);
+            Err(stop_for(alloc, fault, large, domain.as_slice(), problem.as_slice())?)
+        }
     }
 }
 
@@ -198,18 +260,18 @@ fn read<S: Sources>(alloc: Global, sources: &S, name: &str) -> Result<Vec<u8>, S
     }
 }
 
-/// What is told where a run gives no report.
-fn judge_stop(
+/// What is told where a run gives no report. A text that is too large is that of the file of this name.
+fn stop_for(
     alloc: Global,
     fault: JudgeFault,
-    files: &JudgeRequest<'_>,
+    large: &str,
     domain: &[u8],
     problem: &[u8],
 ) -> Result<Stop, AllocError> {
     let mut text = Text::new(alloc);
     match fault {
-        JudgeFault::TooLarge(place) => {
-            text.push(file_name(files, place).as_bytes())?;
+        JudgeFault::TooLarge(_) => {
+            text.push(large.as_bytes())?;
             text.push(b" is too large")?;
         }
         JudgeFault::TooManyPlanners => text.push(b"more than 64 planners")?,
@@ -219,6 +281,8 @@ fn judge_stop(
         JudgeFault::Steps(fault) => {
             text.push(b"steps line ")?;
             text.push_number(fault.line as usize)?;
+            text.push(b": ")?;
+            text.push(fault.kind.word().as_bytes())?;
         }
         JudgeFault::OutOfMemory => return Ok(Stop::OutOfMemory),
         JudgeFault::NoThread => text.push(b"no thread")?,
@@ -232,15 +296,24 @@ fn judge_stop(
     }
 }
 
-/// The name of the file with a place: 0 is the domain, 1 the problem, and 2 + k the k-th file of plans.
-fn file_name<'a>(files: &JudgeRequest<'a>, place: u32) -> &'a str {
-    match place {
-        0 => files.domain,
-        1 => files.problem,
-        _ => match files.plans.get(place as usize - 2) {
+/// The name of the file whose text is too large: 0 is the domain, 1 the problem, and 2 + k the k-th file of plans.
+fn large_file<'a>(files: &JudgeRequest<'a>, fault: JudgeFault) -> &'a str {
+    match fault {
+        JudgeFault::TooLarge(0) => files.domain,
+        JudgeFault::TooLarge(place) if place > 1 => match files.plans.get(place as usize - 2) {
             Some(name) => name,
             None => files.problem,
         },
+        _ => files.problem,
+    }
+}
+
+/// The name of the file whose text is too large: 0 is the domain, 1 the problem, and 2 the steps.
+fn large_replay_file<'a>(files: &ReplayRequest<'a>, fault: JudgeFault) -> &'a str {
+    match fault {
+        JudgeFault::TooLarge(0) => files.domain,
+        JudgeFault::TooLarge(2) => files.steps,
+        _ => files.problem,
     }
 }
 

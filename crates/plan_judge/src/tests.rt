@@ -35,6 +35,9 @@ const LAMP_REPORT: &[u8] = b"domain lamp problem lamp-1\np 1 valid 1\np plans 1 
 /// The words of a run over the files `d`, `q` and `p`.
 const JUDGE: &str = "plan_judge judge --domain d --problem q p";
 
+/// The words of a replay over the files `d`, `q` and `p`.
+const REPLAY: &str = "plan_judge replay --domain d --problem q --steps p";
+
 /// What a file holds.
 #[derive(Clone, Copy)]
 enum Content {
@@ -165,6 +168,18 @@ fn lamp_shelf(alloc: Global) -> Shelf {
 
 /// Whether a run over these files ends with this status, and writes this.
 fn answers(rt: &HostRuntime, files: [Content; 3], status: u8, out: &[u8], err: &[u8]) -> bool {
+    answers_to(rt, JUDGE, files, status, out, err)
+}
+
+/// Whether a run of these words over these files ends with this status, and writes this.
+fn answers_to(
+    rt: &HostRuntime,
+    words: &str,
+    files: [Content; 3],
+    status: u8,
+    out: &[u8],
+    err: &[u8],
+) -> bool {
     let [domain, problem, plans] = files;
     let shelf = Shelf {
         alloc: rt.alloc(),
@@ -174,7 +189,7 @@ fn answers(rt: &HostRuntime, files: [Content; 3], status: u8, out: &[u8], err: &
     };
     let mut to_out = Narrow::wide(rt.alloc());
     let mut to_err = Narrow::wide(rt.alloc());
-    let answered = run(rt, JUDGE, &shelf, &mut to_out, &mut to_err);
+    let answered = run(rt, words, &shelf, &mut to_out, &mut to_err);
     answered == status && to_out.taken.as_slice() == out && to_err.taken.as_slice() == err
 }
 
@@ -245,6 +260,8 @@ fn wrong_command_lines(rt: HostRuntime) {
         "plan_judge judge --domain d --problem q --workers 0 p",
         "plan_judge judge --domain d --problem q --workers 33 p",
         "plan_judge judge --domain d --problem q --workers 1x p",
+        "plan_judge replay --domain d --problem q",
+        "plan_judge replay --domain d --problem q --steps p p",
     ] {
         assert!(rt; refuses(&rt, words), "{words}");
     }
@@ -487,5 +504,108 @@ fn limits_of_a_run(rt: HostRuntime) {
     assert!(rt; separators(rt.alloc(), 65535).is_ok());
     assert!(rt;
         separators(rt.alloc(), 65536).is_err_and(|fault| fault == JudgeFault::TooManyPlans)
+    );
+}
+
+/// Whether the replay of these steps at a lamp's desk writes this.
+fn replays(rt: &HostRuntime, steps: &'static [u8], replies: &[u8]) -> bool {
+    use Content::Text;
+    let files = [Text(LAMP), Text(LAMP_1), Text(steps)];
+    answers_to(rt, REPLAY, files, 0, replies, b"")
+}
+
+#[test]
+fn a_replay_emits_in_order(rt: HostRuntime) {
+    assert!(rt;
+        replays(
+            &rt,
+            b"desk 1 2\nsubmit 0 (light)\nsubmit 0 (light) (light)\ntake\ntake\nfinish 1 1\nemit 0\nfinish 0 0\nemit 0\nemit 0\n",
+            b"accepted 0\naccepted 1\ntook 0\ntook 1\nfinished\nrefused NotReady 0\nfinished\nemitted 0 valid 1\n\
+emitted 1 fails at 2 (light): missing (dark)\n"
+        )
+    );
+    assert!(rt;
+        replays(
+            &rt,
+            b"desk 1 2\nsubmit 0\nsubmit 0 (light\ntake\ntake\nfinish 0 0\nfinish 1 1\nemit 0\nemit 0",
+            b"accepted 0\naccepted 1\ntook 0\ntook 1\nfinished\nfinished\nemitted 0 goal missing (lit)\nemitted 1 unreadable line 1\n"
+        )
+    );
+}
+
+#[test]
+fn a_replay_of_refusals(rt: HostRuntime) {
+    assert!(rt;
+        replays(
+            &rt,
+            b"desk 1 2\nemit 0\nclose 0\nsubmit 0 (light)\nclose 0\nemit 0\nemit 1\nclose 1",
+            b"refused NothingYet\nclosed\nrefused Closed\nrefused AlreadyClosed\nrefused Complete\nrefused NoPlanner\nrefused NoPlanner\n"
+        )
+    );
+    assert!(rt;
+        replays(
+            &rt,
+            b"desk 1 1\ntake\nsubmit 0 (light)\nsubmit 0 (light)\nclose 0\nsubmit 0 (light)\nsubmit 5 (light)",
+            b"none\naccepted 0\nrefused Full\nclosed\nrefused Closed\nrefused NoPlanner\n"
+        )
+    );
+    assert!(rt;
+        replays(
+            &rt,
+            b"desk 0 0\nsubmit 0 (light)\ntake",
+            b"refused NoPlanner\nnone\n"
+        )
+    );
+}
+
+#[test]
+fn a_replay_of_strange_findings(rt: HostRuntime) {
+    assert!(rt;
+        replays(
+            &rt,
+            b"desk 1 3\nsubmit 0 (light)\nsubmit 0 (light)\ntake\nfinish 0 1\nfinish 0 0\nfinish 0 0\nfinish 1 1\nfinish 9 0\n\
+finish 1 9\ntake\nback 1\nback 1\ntake\nfinish 1 1\nfinish 1 1\nback 1\nback 9",
+            b"accepted 0\naccepted 1\ntook 0\nrefused OtherPlan\nfinished\nrefused AlreadyFinished\nrefused NotOut\n\
+refused UnknownJob\nrefused UnknownJob\ntook 1\nreturned\nrefused NotOut\ntook 1\nfinished\nrefused AlreadyFinished\n\
+refused AlreadyFinished\nrefused UnknownJob\n"
+        )
+    );
+}
+
+#[test]
+fn the_first_cause_of_a_replay_is_told(rt: HostRuntime) {
+    use Content::{Missing, Spaces, Text};
+    let take = Text(b"take");
+    let refused = |files, err: &[u8]| answers_to(&rt, REPLAY, files, 1, b"", err);
+    assert!(rt; refused([Text(LAMP), Text(LAMP_1), Missing], b"cannot read p\n"));
+    assert!(rt;
+        refused(
+            [Text(OPEN), Text(LAMP_1), Spaces(16_777_217)],
+            b"p is too large\n"
+        )
+    );
+    assert!(rt;
+        refused(
+            [Text(OPEN), Text(DRAK), take],
+            b"domain line 1 bytes 18-18: Unbalanced\n"
+        )
+    );
+    assert!(rt;
+        refused(
+            [Text(LAMP), Text(DRAK), take],
+            b"problem line 1 bytes 43-47: UnknownName\n"
+        )
+    );
+    assert!(rt;
+        refused(
+            [Text(LAMP), Text(LAMP_1), take],
+            b"steps line 1: Expected\n"
+        )
+    );
+    assert!(rt;
+        refused(
+            [Text(LAMP), Text(LAMP_1), Text(b"desk 65 1")],
+            b"steps line 1: TooMany\n"
+        )
     );
 }

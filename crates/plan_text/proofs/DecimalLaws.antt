@@ -11,7 +11,7 @@ use Rattle.std.proofs.lemmas.List.Sums.{passes_at_first, split_at_first}
 use Rattle.std.proofs.lemmas.Bool.{eqb-true, ne_eqb, leb-true, lt-ltb, le-ltb, ltb-true, and_parts, and_from}
 use Rattle.plan_text.specs.Decimals.{Decimal, IsDecimal, IsDigit, behind_whole, decimal_bytes, digits_value, billionths}
 use Rattle.plan_text.specs.DecimalReading.{digits_of, is_point, of_parts, billionths_by, billionths_of, number_from_end, number_before}
-use Rattle.plan_text.proofs.Digits.{all_digits, billionths_at, two_parts, one_part, ends_with_mark}
+use Rattle.plan_text.proofs.DigitRuns.{all_digits, billionths_at, two_parts, one_part, ends_with_mark}
 
 -- digits
 

@@ -1,7 +1,7 @@
 mod Lines
 mod Bundles
 mod PartCounts
-mod Digits
+mod DigitRuns
 mod DecimalLaws
 mod Names
 mod Steps

@@ -48,8 +48,8 @@ fn point(number: &[u8]) -> Option<usize>
     number.iter().position(|b| *b == b'.')
 }
 
-/// The number that 1 to 9 digits write.
-fn digits(bytes: &[u8]) -> Option<u64>
+/// The number that 1 to 9 digits write; `None` for any other bytes. Takes no memory.
+pub fn digits(bytes: &[u8]) -> Option<u64>
     ensures value { result ≡ digits_of bytes.now }
     ensures small { IfSome result (λ value. (value < 10 ^ length bytes.now) × (length bytes.now ≤ 9)) }
 {

@@ -32,6 +32,7 @@ mod parts;
 mod read;
 mod want;
 
+pub use decimals::digits;
 pub use parts::{Parts, count_parts};
 pub use read::read_plan;
 

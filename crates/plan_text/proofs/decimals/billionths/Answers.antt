@@ -1,7 +1,7 @@
 use Rattle.std.proofs.Common.{◌+◌, arith, length, drop, Some, None, ◌∙◌}
 use Rattle.pddl_tokens.proofs.Steps.{rest_whole}
 use Rattle.plan_text.specs.DecimalReading.{digits_of}
-use Rattle.plan_text.proofs.Digits.{billionths_at, no_whole, no_part, two_parts, one_part, sum_small}
+use Rattle.plan_text.proofs.DigitRuns.{billionths_at, no_whole, no_part, two_parts, one_part, sum_small}
 use Rattle.plan_text.proofs.decimals.billionths.Goals as goal
 
 pub returns-in_err-whole-in-Some-clause-value : goal.returns-in_err-whole-in-Some-clause-value

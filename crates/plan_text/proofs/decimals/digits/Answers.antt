@@ -1,6 +1,6 @@
 use Rattle.std.proofs.Common.{◌<◌, arith, length, sym, ◌∙◌}
 use Rattle.std.proofs.lemmas.Bool.{eqb-true, eqb-false}
-use Rattle.plan_text.proofs.Digits.{no_digit, too_many_digits, other_byte, walked}
+use Rattle.plan_text.proofs.DigitRuns.{no_digit, too_many_digits, other_byte, walked}
 use Rattle.plan_text.proofs.decimals.digits.Goals as goal
 
 pub returns-then-is_empty-clause-value : goal.returns-then-is_empty-clause-value

@@ -1,5 +1,5 @@
 use Rattle.std.proofs.Common.{◌∙◌}
-use Rattle.plan_text.proofs.Digits.{ends_with_mark, ends_otherwise, no_last}
+use Rattle.plan_text.proofs.DigitRuns.{ends_with_mark, ends_otherwise, no_last}
 use Rattle.plan_text.proofs.decimals.number_before.Goals as goal
 
 pub returns-in-Some-clause-value : goal.returns-in-Some-clause-value

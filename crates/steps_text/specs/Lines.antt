@@ -1,0 +1,83 @@
+-- What a line of a steps file asks (this validator's choice of a format).
+
+use Rattle.std.specs.Prelude.{ℕ, Bool, true, ◌==◌, List, [], ◌∷◌, Option, Some, None, codes, if◌then◌else◌}
+use Rattle.std.specs.Option.{option_and_then}
+use Rattle.std.specs.Str.{bytes_eq}
+use Rattle.steps_text.specs.Asked.{Asked, to_submit, to_close, to_take, to_hand_back, to_finish, to_emit}
+use Rattle.plan_text.specs.DecimalReading.{digits_of}
+use Rattle.plan_text.specs.PlanReading.{plan_of}
+use Rattle.steps_text.specs.Words.{without_crs, first_word, behind_word, is_bare}
+
+-- what a line that is not skipped says: how many planners and places there are, a step, or nothing of this format
+pub data Meaning : Type 0 where
+  desk : ℕ → ℕ → Meaning
+  step : Asked → Meaning
+  strange : Meaning
+
+-- the number that stands first in a line, and what stands behind it
+abbrev pub first_number : List ℕ → Option (ℕ × List ℕ)
+first_number line = option_and_then (λ number. Some (number, behind_word line)) (digits_of (first_word line))
+
+-- the number that stands alone in a line
+abbrev pub only_number : List ℕ → Option ℕ
+only_number line = option_and_then (λ found. if is_bare found.1 then Some found.0 else None) (first_number line)
+
+-- the two numbers that stand alone in a line
+abbrev pub two_numbers : List ℕ → Option (ℕ × ℕ)
+two_numbers line = option_and_then (λ found. option_and_then (λ second. Some (found.0, second)) (only_number found.1)) (first_number line)
+
+abbrev pub or_strange : Option Meaning → Meaning
+or_strange (Some meaning) = meaning
+or_strange None = strange
+
+-- `desk P N`: an intake for P planners with N places
+unfoldable pub desk_in : List ℕ → Meaning
+desk_in rest = or_strange (option_and_then (λ numbers. Some (desk numbers.0 numbers.1)) (two_numbers rest))
+
+-- `submit P TEXT`: the plan of the text, for planner P
+unfoldable pub submit_in : List ℕ → Meaning
+submit_in rest = or_strange (option_and_then (λ found. Some (step (to_submit found.0 (plan_of found.1)))) (first_number rest))
+
+-- `close P`
+unfoldable pub close_in : List ℕ → Meaning
+close_in rest = or_strange (option_and_then (λ planner. Some (step (to_close planner))) (only_number rest))
+
+-- `take`
+unfoldable pub take_in : List ℕ → Meaning
+take_in rest = (if is_bare rest then step to_take else strange)
+
+-- `back J`
+unfoldable pub back_in : List ℕ → Meaning
+back_in rest = or_strange (option_and_then (λ job. Some (step (to_hand_back job))) (only_number rest))
+
+-- `finish J K`
+unfoldable pub finish_in : List ℕ → Meaning
+finish_in rest = or_strange (option_and_then (λ numbers. Some (step (to_finish numbers.0 numbers.1))) (two_numbers rest))
+
+-- `emit P`
+unfoldable pub emit_in : List ℕ → Meaning
+emit_in rest = or_strange (option_and_then (λ planner. Some (step (to_emit planner))) (only_number rest))
+
+-- a line without a word is skipped, and so is one whose first word begins with a semicolon (59)
+abbrev pub is_skipped : List ℕ → Bool
+is_skipped [] = true
+is_skipped (b ∷ word) = b == 59
+
+-- what a line says whose first word is this one, with the rest behind it; the word stands exactly so, in lower case
+unfoldable pub meaning_of : List ℕ → List ℕ → Meaning
+meaning_of word rest =
+    if bytes_eq word (codes "desk") then desk_in rest
+    else (if bytes_eq word (codes "submit") then submit_in rest
+    else (if bytes_eq word (codes "close") then close_in rest
+    else (if bytes_eq word (codes "take") then take_in rest
+    else (if bytes_eq word (codes "back") then back_in rest
+    else (if bytes_eq word (codes "finish") then finish_in rest
+    else (if bytes_eq word (codes "emit") then emit_in rest
+    else strange))))))
+
+abbrev pub meaning_by : List ℕ → List ℕ → Option Meaning
+meaning_by word rest = (if is_skipped word then None else Some (meaning_of word rest))
+
+-- what a line says, if it is not skipped
+unfoldable pub line_meaning : List ℕ → Option Meaning
+line_meaning line = meaning_by (first_word (without_crs line)) (behind_word (without_crs line))

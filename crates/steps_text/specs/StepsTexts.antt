@@ -1,0 +1,95 @@
+-- What a steps file holds: how large the intake is, and the steps; or else its first faulty line (this validator's choice of a format).
+
+use Rattle.std.specs.Prelude.{ℕ, ◌+◌, ◌==◌, ◌&&◌, nat_le, nat_lt, List, [], ◌∷◌, length, Option, Some, None, Result, Ok, Err, if◌then◌else◌}
+use Rattle.std.specs.List.{filter_map, slice_split}
+use Rattle.steps_text.specs.Asked.{Asked}
+use Rattle.steps_text.specs.declared.fault.StepsFault.{StepsFault}
+use Rattle.steps_text.specs.declared.fault.StepsFaultKind.{StepsFaultKind}
+use Rattle.steps_text.specs.declared.fault.StepsFaultKind.TheVariants.{Expected, TooMany}
+use Rattle.steps_text.specs.Lines.{Meaning, desk, step, line_meaning}
+
+-- the lines of a text, without the LF (10) that ends each; what stands behind the last LF is a line, too
+abbrev pub lines : List ℕ → List (List ℕ)
+lines text = slice_split (λ b. b == 10) text
+
+-- the most planners and places of an intake, and the most steps
+abbrev pub most_planners : ℕ
+most_planners = 64
+
+abbrev pub most_places : ℕ
+most_places = 65536
+
+abbrev pub most_steps : ℕ
+most_steps = 100000
+
+-- how large an intake is, and the steps that are to be run on it
+pub record StepsValue : Type 0 where
+  pub planners : ℕ
+  pub places : ℕ
+  pub steps : List Asked
+
+-- a line that is not skipped, with its number
+pub record Line : Type 0 where
+  pub number : ℕ
+  pub meaning : Meaning
+
+abbrev pub kept : ℕ → Option Meaning → List Line → List Line
+kept number None rest = rest
+kept number (Some meaning) rest = record { number = number; meaning = meaning } ∷ rest
+
+-- the lines that are not skipped, numbered from this number on
+abbrev pub kept_lines : ℕ → List (List ℕ) → List Line
+kept_lines number [] = []
+kept_lines number (line ∷ lines) = kept number (line_meaning line) (kept_lines (number + 1) lines)
+
+abbrev pub fault : StepsFaultKind → ℕ → Option StepsFault
+fault kind line = Some (record { kind = kind; line = line })
+
+abbrev pub fault_by : ℕ → ℕ → Meaning → Option StepsFault
+fault_by before number (step asked) = (if nat_lt before most_steps then None else fault TooMany number)
+fault_by before number _ = fault Expected number
+
+abbrev pub first_of : Option StepsFault → Option StepsFault → Option StepsFault
+first_of (Some found) later = Some found
+first_of None later = later
+
+-- what is wrong with a line that has to be a step, behind so many others
+abbrev pub step_fault : ℕ → Line → Option StepsFault
+step_fault before line = fault_by before line.number line.meaning
+
+-- the first fault of lines that have to be steps, behind so many others
+abbrev pub steps_fault : ℕ → List Line → Option StepsFault
+steps_fault before [] = None
+steps_fault before (line ∷ lines) = first_of (step_fault before line) (steps_fault (before + 1) lines)
+
+abbrev pub asked_in : Meaning → Option Asked
+asked_in (step asked) = Some asked
+asked_in _ = None
+
+-- the steps of these lines
+abbrev pub steps_of : List Line → List Asked
+steps_of lines = filter_map (λ line. asked_in line.meaning) lines
+
+abbrev pub answer : ℕ → ℕ → List Asked → Option StepsFault → Result StepsValue StepsFault
+answer planners places steps None = Ok (record { planners = planners; places = places; steps = steps })
+answer planners places steps (Some found) = Err found
+
+-- what these lines hold behind one that asks for an intake of so many planners and places
+abbrev pub steps_behind : ℕ → ℕ → List Line → Result StepsValue StepsFault
+steps_behind planners places lines = answer planners places (steps_of lines) (steps_fault 0 lines)
+
+-- what lines hold of which the first, of this number, says this
+abbrev pub steps_by : ℕ → Meaning → List Line → Result StepsValue StepsFault
+steps_by number (desk planners places) lines =
+    (if nat_le planners most_planners && nat_le places most_places then steps_behind planners places lines
+    else Err (record { kind = TooMany; line = number }))
+steps_by number _ lines = Err (record { kind = Expected; line = number })
+
+-- what lines hold, of which the first has to say how large the intake is; where there is no line, that is missed at the end
+abbrev pub steps_from : ℕ → List Line → Result StepsValue StepsFault
+steps_from end [] = Err (record { kind = Expected; line = end })
+steps_from end (line ∷ lines) = steps_by line.number line.meaning lines
+
+-- what a text holds
+unfoldable pub steps_text : List ℕ → Result StepsValue StepsFault
+steps_text text = steps_from (length (lines text)) (kept_lines 1 (lines text))

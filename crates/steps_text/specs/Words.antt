@@ -1,0 +1,31 @@
+-- The words of a line of steps (this validator's choice).
+
+use Rattle.std.specs.Prelude.{ℕ, ◌-◌, Bool, ◌||◌, ◌==◌, not, List, length, take, drop}
+use Rattle.std.specs.List.{list_all, position_or_len, suffix_len}
+
+-- a space (32) or a tab (9), which part words
+abbrev pub is_space : ℕ → Bool
+is_space b = b == 32 || b == 9
+
+abbrev pub is_no_space : ℕ → Bool
+is_no_space b = not (is_space b)
+
+-- the line without the CRs (13) at its end
+unfoldable pub without_crs : List ℕ → List ℕ
+without_crs line = take (length line - suffix_len (λ b. b == 13) line) line
+
+-- the line without the spaces before its first word
+unfoldable pub without_spaces : List ℕ → List ℕ
+without_spaces line = drop (position_or_len is_no_space line) line
+
+-- the first word of a line, which is empty where no word stands in it
+unfoldable pub first_word : List ℕ → List ℕ
+first_word line = take (position_or_len is_space (without_spaces line)) (without_spaces line)
+
+-- what stands behind the first word
+unfoldable pub behind_word : List ℕ → List ℕ
+behind_word line = drop (position_or_len is_space (without_spaces line)) (without_spaces line)
+
+-- no word stands in the line
+abbrev pub is_bare : List ℕ → Bool
+is_bare line = list_all is_space line
