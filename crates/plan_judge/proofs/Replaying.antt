@@ -5,7 +5,6 @@ use Rattle.intake_core.specs.declared.replaying.Step.{Step}
 use Rattle.intake_core.specs.declared.replaying.Step.TheVariants as step
 use Rattle.intake_core.specs.Replays.{event_of, replayed}
 use Rattle.intake_core.specs.State.{DeskState, desk_reply, desk_after}
-use Rattle.intake_rules.specs.Rules.{Event}
 use Rattle.steps_text.specs.Asked.{asked}
 use Rattle.plan_judge.specs.ReplayAnswer.{event_asked, history_asked}
 

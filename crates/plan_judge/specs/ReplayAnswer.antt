@@ -1,6 +1,6 @@
 -- The answer to the bytes of a replay: what its lines have to be.
 
-use Rattle.std.specs.Prelude.{◌≡◌, ◌≢◌, ℕ, List, [], ◌∷◌, Option, Some, None, Result, Ok, Err, is_none, map, slice_get, if◌then◌else◌, option_map}
+use Rattle.std.specs.Prelude.{◌≡◌, ℕ, List, [], ◌∷◌, Option, Some, None, Result, Ok, Err, is_none, slice_get, if◌then◌else◌, option_map}
 use Rattle.std.specs.List.{position_from}
 use Rattle.std.specs.Option.{option_and_then}
 use Rattle.strips_task.specs.declared.tasks.TaskParts.{TaskParts}

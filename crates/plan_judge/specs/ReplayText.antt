@@ -4,7 +4,7 @@ use Rattle.std.specs.Prelude.{ℕ, List, [], ◌++◌, codes, decimal}
 use Rattle.std.specs.List.{flat_map}
 use Rattle.strips_task.specs.declared.tasks.TaskParts.{TaskParts}
 use Rattle.intake_rules.specs.declared.refusal.Refusal.{Refusal}
-use Rattle.intake_rules.specs.declared.refusal.Refusal.TheVariants.{NoPlanner, Closed, Full, AlreadyClosed, UnknownJob, AlreadyFinished, NotOut, OtherPlan, NotReady, NothingYet, Complete}
+use Rattle.intake_rules.specs.declared.refusal.Refusal.TheVariants.{NotReady}
 use Rattle.intake_rules.specs.declared.reply.Reply.{Reply}
 use Rattle.intake_rules.specs.declared.reply.Reply.TheVariants.{Accepted, ClosedNow, Taken, NoJob, Returned, Finished, Emitted, Refused}
 use Rattle.intake_rules.specs.Refusals.{refusal_word}
