@@ -501,6 +501,11 @@ fn domains_that_are_read(rt: HostRuntime) {
             "(define (domain and) (:types not) (:constants either - not))"
         )
     );
+}
+
+#[test]
+fn actions_that_are_read(rt: HostRuntime) {
+    let alloc = rt.alloc();
     assert!(rt;
         is_domain(
             alloc,
