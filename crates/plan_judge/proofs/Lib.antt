@@ -5,6 +5,7 @@ pub mod Rendering
 pub mod ReplayAnswers
 pub mod Replaying
 pub mod RunAnswers
+pub mod Submitted
 pub mod TextFaults
 pub mod TooLarge
 pub mod Writing

@@ -1,6 +1,6 @@
 -- Refusals that the texts of a run call for.
 
-use Rattle.std.proofs.Common.{◌≡◌, ◌≢◌, ℕ, ◌<◌, ◌≤◌, ◌⊎◌, inl, inr, List, length, Option, None, Some, Result, Ok, Err, IfErr, refl, ap, sym, ◌∙◌, subst, ◌↔◌}
+use Rattle.std.proofs.Common.{◌≡◌, ◌≢◌, ℕ, ◌<◌, ◌≤◌, List, length, Option, None, Some, Result, Ok, Err, IfErr, refl, ap, sym, ◌∙◌, subst, ◌↔◌}
 use Rattle.pddl_reader.specs.declared.fault.FaultKind.{FaultKind}
 use Rattle.pddl_reader.specs.declared.fault.FaultKind.TheVariants.{OutOfMemory as Memory}
 use Rattle.pddl_reader.specs.declared.fault.ReadFault.{ReadFault}
@@ -12,7 +12,9 @@ use Rattle.plan_judge.specs.declared.fault.JudgeFault.{JudgeFault}
 use Rattle.plan_judge.specs.declared.fault.JudgeFault.TheVariants.{TooLarge, TooManyPlanners, Domain, Problem, TooManyPlans, Steps, OutOfMemory, NoThread, Held}
 use Rattle.plan_judge.specs.Bundle.{BundleValue}
 use Rattle.plan_judge.specs.Answer.{too_large, task_of, plan_count, most_planners, most_plans}
-use Rattle.plan_judge.specs.Refusal.{ReadingCallsFor, TextsCallFor, IsFaultOf}
+use Rattle.judge_bench.specs.declared.running.RunFault.{RunFault}
+use Rattle.judge_bench.specs.declared.running.RunFault.TheVariants as run
+use Rattle.plan_judge.specs.Refusal.{IsOfTexts, ReadingCallsFor, TextsCallFor, IsFaultOf, refusal_of_run}
 use Rattle.plan_judge.proofs.TextFaults.{text_fault_kind}
 
 -- a refusal that is not for memory is of a fault that is not either
@@ -81,10 +83,9 @@ module _ (domain problem : List ℕ) (bundles : List BundleValue) where
 
   -- where there is a task, too many plans are the cause
   pub plans_cause : (task : TaskParts) (fault : JudgeFault) → None ≡ too_large domain problem bundles → length bundles ≤ most_planners
-      → task_of domain problem ≡ Some task → (fault ≡ OutOfMemory) ⊎ ((fault ≡ TooManyPlans) × (most_plans < plan_count bundles))
-      → fault ≢ OutOfMemory → TextsCallFor domain problem bundles fault
-  plans_cause task fault none few is (inl memory) other = absurd (other memory)
-  plans_cause task fault none few is (inr plans) other =
+      → task_of domain problem ≡ Some task → (fault ≡ TooManyPlans) × (most_plans < plan_count bundles)
+      → TextsCallFor domain problem bundles fault
+  plans_cause task fault none few is plans =
       subst (TextsCallFor domain problem bundles) (sym plans.0) (sym none, few, (task, is), plans.1)
 
   -- the place of a text that is too large is told, and no other
@@ -110,16 +111,29 @@ module _ (domain problem : List ℕ) (bundles : List BundleValue) where
   read_no_size fault cause n is =
       subst (ReadingCallsFor domain problem) is (cause (λ memory. let clash : TooLarge n ≡ OutOfMemory = sym is ∙ memory in cc))
 
--- nor does a want of memory
-pub memory_no_size : (fault : JudgeFault) → fault ≡ OutOfMemory → (n : ℕ) → fault ≢ TooLarge n
-memory_no_size fault memory n is = let clash : OutOfMemory ≡ TooLarge n = sym memory ∙ is in cc
+  -- and no held job
+  pub read_not_held : (fault : JudgeFault) → (fault ≢ OutOfMemory → ReadingCallsFor domain problem fault) → (job : ℕ) → fault ≢ Held job
+  read_not_held fault cause job is =
+      subst (ReadingCallsFor domain problem) is (cause (λ memory. let clash : Held job ≡ OutOfMemory = sym is ∙ memory in cc))
 
--- nor do too many plans
-pub plans_no_size : {P : Type 0} (fault : JudgeFault) → (fault ≡ OutOfMemory) ⊎ ((fault ≡ TooManyPlans) × P) → (n : ℕ) → fault ≢ TooLarge n
-plans_no_size fault (inl memory) n is = memory_no_size fault memory n is
-plans_no_size fault (inr plans) n is = let clash : TooManyPlans ≡ TooLarge n = sym plans.0 ∙ is in cc
+-- what lies in the texts is no want of memory
+pub not_memory : (fault : JudgeFault) → IsOfTexts fault → fault ≢ OutOfMemory
+not_memory fault in_texts memory = subst IsOfTexts memory in_texts
 
--- a cause other than memory is that of too many plans
-pub plans_or_memory : {P : Type 0} (fault : JudgeFault) → (fault ≡ OutOfMemory) ⊎ ((fault ≡ TooManyPlans) × P) → fault ≢ OutOfMemory → P
-plans_or_memory fault (inl memory) other = absurd (other memory)
-plans_or_memory fault (inr plans) other = plans.1
+-- where nothing in the texts but too many plans is told, no size is
+pub plans_no_size : {P : Type 0} (fault : JudgeFault) → (IsOfTexts fault → (fault ≡ TooManyPlans) × P) → (n : ℕ) → fault ≢ TooLarge n
+plans_no_size fault told n is =
+    let plans = told (subst IsOfTexts (sym is) tt) in
+    let clash : TooManyPlans ≡ TooLarge n = sym plans.0 ∙ is in cc
+
+-- a fault of the run does not lie in the texts
+pub run_not_in_texts : (fault : RunFault) → IsOfTexts (refusal_of_run fault) → ⊥
+run_not_in_texts run.OutOfMemory h = h
+run_not_in_texts run.NoThread h = h
+run_not_in_texts (run.Held job) h = h
+
+-- and where it is that a job is held, it is so for that job
+pub held_in_run : (fault : RunFault) (job : ℕ) → refusal_of_run fault ≡ Held job → fault ≡ run.Held job
+held_in_run run.OutOfMemory job is = let clash : OutOfMemory ≡ Held job = is in cc
+held_in_run run.NoThread job is = let clash : NoThread ≡ Held job = is in cc
+held_in_run (run.Held other) job is = let both : Held other ≡ Held job = is in let same : other ≡ job = cc in ap (λ (n : ℕ). run.Held n) same

@@ -1,6 +1,6 @@
 -- What a planner's last line tells, plan by plan, and the lines of its plans.
 
-use Rattle.std.proofs.Common.{◌≡◌, ℕ, ◌+◌, suc, List, [], ◌∷◌, ◌++◌, length, Option, None, Some, refl, ap, sym, ◌∙◌, arith, append_assoc}
+use Rattle.std.proofs.Common.{◌≡◌, ◌≤◌, ℕ, ◌+◌, zero, suc, slice_get, drop, List, [], ◌∷◌, ◌++◌, length, Option, None, Some, refl, ap, sym, ◌∙◌, arith, append_assoc}
 use Rattle.std.specs.Prelude.{min, unwrap_or}
 use Rattle.std.specs.Option.{option_map}
 use Rattle.std.specs.List.{cons_option}
@@ -66,3 +66,16 @@ all_counted tally =
 pub told : (task : TaskParts) (name text : List ℕ) (number : ℕ) (plan : Judged) (rest : List Judged)
     → (text ++ plan_line task name number plan) ++ plan_lines task name (number + 1) rest ≡ text ++ plan_lines task name number (plan ∷ rest)
 told task name text number plan rest = append_assoc text (plan_line task name number plan) (plan_lines task name (number + 1) rest)
+
+-- a front of a list and the item behind it
+pub item_at : {A : Type 0} (xs : List A) (i : ℕ) (x : A) → slice_get xs i ≡ Some x → drop i xs ≡ x ∷ drop (i + 1) xs
+item_at [] i x e = cc
+item_at (y ∷ ys) zero x e = let same : y ≡ x = cc in ap (λ z. z ∷ ys) same
+item_at (y ∷ ys) (suc i) x e =
+    let n : suc i + 1 ≡ suc (i + 1) = omega arith in
+    item_at ys i x e ∙ ap (λ k. x ∷ drop k (y ∷ ys)) (sym n)
+
+-- at most one plan more is valid
+pub one_at_most : (steps : Option ℕ) → one_if_valid steps ≤ 1
+one_at_most None = omega arith
+one_at_most (Some n) = omega arith

@@ -2,6 +2,7 @@ pub mod Answer
 pub mod Bundle
 pub mod Inlet
 pub mod Outlet
+pub mod Plans
 pub mod Refusal
 pub mod ReplayAnswer
 pub mod ReplayText

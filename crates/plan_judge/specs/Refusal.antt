@@ -1,6 +1,8 @@
 -- The refusal that the texts of a run call for: why they have no answer.
 
-use Rattle.std.specs.Prelude.{◌≡◌, ◌≢◌, ℕ, ◌<◌, ◌≤◌, List, length, Option, Some, None}
+use Rattle.std.specs.Prelude.{⊤, ◌≡◌, ◌≢◌, ℕ, ◌<◌, ◌≤◌, List, length, Option, Some, None}
+use Rattle.judge_bench.specs.declared.running.RunFault.{RunFault}
+use Rattle.judge_bench.specs.declared.running.RunFault.TheVariants as run
 use Rattle.pddl_reader.specs.declared.fault.FaultKind.TheVariants.{OutOfMemory as Memory}
 use Rattle.pddl_reader.specs.declared.fault.ReadFault.{ReadFault}
 use Rattle.pddl_reader.specs.Domain.{DomainValue}
@@ -11,6 +13,24 @@ use Rattle.plan_judge.specs.declared.fault.JudgeFault.{JudgeFault}
 use Rattle.plan_judge.specs.declared.fault.JudgeFault.TheVariants.{TooLarge, TooManyPlanners, Domain, Problem, TooManyPlans, Steps, OutOfMemory, NoThread, Held}
 use Rattle.plan_judge.specs.Answer.{too_large, task_of, plan_count, most_planners, most_plans}
 use Rattle.plan_judge.specs.Bundle.{BundleValue}
+
+-- the fault lies in the texts, and not in the run over them
+abbrev pub IsOfTexts : JudgeFault → Type 0
+IsOfTexts (TooLarge place) = ⊤
+IsOfTexts TooManyPlanners = ⊤
+IsOfTexts (Domain fault) = ⊤
+IsOfTexts (Problem fault) = ⊤
+IsOfTexts TooManyPlans = ⊤
+IsOfTexts (Steps fault) = ⊤
+IsOfTexts OutOfMemory = ⊥
+IsOfTexts NoThread = ⊥
+IsOfTexts (Held job) = ⊥
+
+-- the refusal for a fault of the run over the texts
+abbrev pub refusal_of_run : RunFault → JudgeFault
+refusal_of_run run.OutOfMemory = OutOfMemory
+refusal_of_run run.NoThread = NoThread
+refusal_of_run (run.Held job) = Held job
 
 -- the fault is one of the text, which has no value; where bytes or parentheses of the text are wrong, it is their first fault
 pub record IsFaultOf {A : Type 0} (text : List ℕ) (value : Option A) (fault : ReadFault) : Type 0 where

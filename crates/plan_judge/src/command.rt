@@ -2,16 +2,38 @@
 //!
 //! [`parse`] turns the words of the command line into a [`Request`]. The words are read by `clap`, whose texts carry no promise here.
 
+ghost use Rattle.std.specs.Prelude.{◌≤◌};
+
 use clap::error::ErrorKind;
 use clap::{Arg, ArgAction, Command, Error, value_parser};
 use std::alloc::{AllocError, Global};
 
+/// The most threads that may judge.
+const MOST_WORKERS: u32 = 32;
+
 const ABOUT: &str =
     "Judges the plans of classical planners: says of each whether it is valid, or which step fails first and what is missing.";
 
-const AFTER_HELP: &str =
-    "Exit status: 0 a report was written, or help; 1 an input was refused; 2 the command line was refused; \
-3 no memory; 4 the report could not be written.";
+const AFTER_HELP: &str = "\
+A report of judge has a line for each plan and one for each planner:
+  domain lamp problem lamp-1
+  planner-1 1 valid 1
+  planner-1 2 fails at 2 (light): missing (dark)
+  planner-1 plans 2 valid 1 best 1
+`plan_judge judge --help` and `plan_judge replay --help` explain each line.
+
+Exit status:
+  0  a report was written, whatever the verdicts, or help was
+  1  an input was refused
+  2  the command line was refused
+  3  memory ran out, or a thread could not be started
+  4  the report could not be written
+
+Example:
+  plan_judge judge --domain domain.pddl --problem problem.pddl planner-1 planner-2
+
+Documents, in the folder docs of the repository: TUTORIAL.md goes through a first run, SPECIFICATION.md is the
+reference, PROOF.md says what is proved.";
 
 const JUDGE_ABOUT: &str =
     "Judges the plans of planners for a domain and a problem in PDDL, and writes a report.";
@@ -33,11 +55,13 @@ Exit status:
   1  a file could not be read, is too large, or holds no domain or problem that this judge reads; or there are
      more than 64 planners or 65536 plans
   2  the command line was refused
-  3  memory ran out
+  3  memory ran out, or a thread could not be started
   4  the report could not be written
 
 Example:
-  plan_judge judge --domain domain.pddl --problem problem.pddl plans.txt other-planner.txt";
+  plan_judge judge --domain domain.pddl --problem problem.pddl plans.txt other-planner.txt
+
+Documents, in the folder docs of the repository: TUTORIAL.md, SPECIFICATION.md.";
 
 const REPLAY_ABOUT: &str =
     "Replays steps at a desk where plans are taken in, given out to be judged, and emitted in order.";
@@ -59,7 +83,9 @@ The answers, on standard output, one line a step:
 Exit status: as for judge; 1 also where a line of the steps is faulty.
 
 Example:
-  plan_judge replay --domain domain.pddl --problem problem.pddl --steps steps.txt";
+  plan_judge replay --domain domain.pddl --problem problem.pddl --steps steps.txt
+
+Documents, in the folder docs of the repository: TUTORIAL.md, SPECIFICATION.md.";
 
 /// What a command line asks for.
 #[derive(Debug, Drop)]
@@ -74,7 +100,7 @@ pub(crate) enum Request<'a> {
     Refused(String),
 }
 
-/// The files of a run.
+/// A run over files.
 #[derive(Debug, Drop)]
 pub struct JudgeRequest<'a> {
     /// The name of the file of the domain.
@@ -83,6 +109,10 @@ pub struct JudgeRequest<'a> {
     pub problem: &'a str,
     /// The names of the files of plans, one for each planner, who has the name of the file.
     pub plans: Vec<&'a str>,
+    /// How many threads may judge, 1 to 32.
+    pub workers: u32,
+    ghost some: { 1 ≤ workers },
+    ghost most: { workers ≤ 32 },
 }
 
 /// The files of a replay.
@@ -104,11 +134,15 @@ pub(crate) fn parse<'a>(alloc: Global, words: &'a [String]) -> Result<Request<'a
                 && let Some(domain) = judge.get_str("domain")
                 && let Some(problem) = judge.get_str("problem")
                 && let Some(plans) = judge.get_strs("plans")
+                && let Some(workers) = judge.get_one::<u32>("workers")
+                && 1 <= workers
+                && workers <= MOST_WORKERS
             {
                 return Ok(Request::Judge(JudgeRequest {
                     domain,
                     problem,
                     plans: plans.to_vec(alloc)?,
+                    workers,
                 }));
             }
             if let Some(replay) = matches.subcommand_matches("replay")
@@ -159,8 +193,8 @@ fn judge_command<'a>(alloc: Global) -> Result<Command<'a>, AllocError> {
     let workers = Arg::new(alloc, "workers")
         .long("workers")
         .value_name("N")
-        .help("How many threads may judge, 1 to 32 (one does, for now)")
-        .value_parser(value_parser!(u8).range(1..=32))
+        .help("How many threads may judge, 1 to 32; the report is the same for any number")
+        .value_parser(value_parser!(u32).range(1..=32))
         .default_value("4");
     let plans = Arg::new(alloc, "plans")
         .value_name("PLANS")

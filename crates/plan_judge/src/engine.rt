@@ -1,25 +1,31 @@
 //! The engine: texts in, report out.
 //!
-//! [`judge_plain`] reads the domain and the problem, reads and judges the plans of each planner, and makes the whole report. Its contract says
-//! that the report is the stated function of the bytes that came in.
-ghost use Rattle.std.specs.Prelude.{◌≡◌, ◌≢◌, ◌↔◌, ◌+◌, ◌<◌, ◌≤◌, ◌^◌, ◌⊎◌, ℕ, List, length, map, IfOk, IfErr, Some, None, Err, MatchBool};
+//! [`judge_bytes`] reads the domain and the problem and the plans of all planners, has the plans judged, and makes the whole report. Its
+//! contract says that the report is the stated function of the bytes that came in, for any number of threads.
+ghost use Rattle.std.specs.Prelude.{◌≡◌, ◌≢◌, ◌↔◌, ◌+◌, ◌<◌, ◌≤◌, ◌^◌, [], ℕ, List, length, map, IfOk, IfErr, Some, None, Err, MatchBool};
+ghost use Rattle.judge_bench.specs.Findings.{findings_of};
 ghost use Rattle.pddl_reader.specs.declared.fault.ReadFault as read_fault;
 ghost use Rattle.pddl_reader.specs.Trees.{text_fault};
 ghost use Rattle.plan_judge.specs.Answer.{answer, task_of, planner_of, too_large, plan_count, most_planners, most_plans};
-ghost use Rattle.plan_judge.specs.Refusal.{ReadingCallsFor, TextsCallFor};
+ghost use Rattle.plan_judge.specs.Plans.{plans_of_files};
+ghost use Rattle.plan_judge.specs.Refusal.{IsOfTexts, ReadingCallsFor, TextsCallFor};
 ghost use Rattle.plan_judge.specs.Report.{report};
-ghost use Rattle.plan_judge.specs.declared.fault.JudgeFault.TheVariants.{OutOfMemory, TooLarge, TooManyPlanners, TooManyPlans, Domain};
+ghost use Rattle.plan_judge.specs.declared.fault.JudgeFault.TheVariants.{OutOfMemory, TooLarge, TooManyPlanners, TooManyPlans, Domain, Held};
 
 use crate::bundle::Bundle;
 use crate::fault::JudgeFault;
 use crate::inlet::FILE_LIMIT;
 use crate::lines::push_header;
 use crate::planner::push_planner;
+use crate::plans::read_plans;
 use crate::report::Report;
 use crate::text::Text;
+use judge_bench::{Findings, Gate, run};
 use pddl_reader::{FaultKind, ReadFault, read_domain, read_problem};
 use plan_text::count_parts;
 use std::alloc::{AllocError, Global};
+use std::sync::Wait;
+use std::thread::Threads;
 use strips_task::Task;
 
 /// The most planners of a run.
@@ -28,25 +34,31 @@ pub const MOST_PLANNERS: usize = 64;
 /// The most plans of a run, of all planners together.
 pub const MOST_PLANS: usize = 65536;
 
-/// The report of a run over a domain text, a problem text and the files of planners.
+/// The report of a run over a domain text, a problem text and the files of planners, whose plans so many threads judge at most.
 ///
 /// A file holds one plan or more (`plan_text::Parts`). Their reading and judging never refuse: a text that is no plan is a verdict. The
-/// whole report is made before anything is written; without planners it is the first line alone.
+/// plans are jobs, numbered from 0 in the order of the files and of the parts of each, and the gate is asked of each before it is judged. The
+/// whole report is made before anything is written; without planners it is the first line alone. Waits until all threads are done.
 ///
 /// A run without a report is refused for the first cause in the order of `JudgeFault`. The plans are counted before any is read. Which kind
 /// of fault a text has, and where, once its bytes and parentheses are right, is the reader's to say. Want of memory can come in place of any
 /// cause but those that take no memory to find: that a text is too large, too many planners, and the wrong bytes and parentheses of the
 /// domain.
-pub fn judge_plain(
+pub fn judge_bytes<R: Threads + Wait + Sync, G: Gate + Sync>(
+    rt: &R,
     alloc: Global,
     domain: &[u8],
     problem: &[u8],
     bundles: &[Bundle],
+    workers: u32,
+    gate: &G,
 ) -> Result<Report, JudgeFault>
-    requires { length bundles.now + 2 ≤ 2 ^ 32 }
+    requires bundles { length bundles.now + 2 ≤ 2 ^ 32 }
+    requires workers { (1 ≤ workers) × (workers ≤ 32) }
     ensures answer { IfOk result (λ report. answer domain.now problem.now bundles.now ≡ Some report) }
-    ensures refusal { IfErr result (λ fault. fault ≢ OutOfMemory → answer domain.now problem.now bundles.now ≡ None) }
-    ensures cause { IfErr result (λ fault. fault ≢ OutOfMemory → TextsCallFor domain.now problem.now bundles.now fault) }
+    ensures refusal { IfErr result (λ fault. IsOfTexts fault → answer domain.now problem.now bundles.now ≡ None) }
+    ensures cause { IfErr result (λ fault. IsOfTexts fault → TextsCallFor domain.now problem.now bundles.now fault) }
+    ensures held { IfErr result (λ fault. (job : ℕ) → fault ≡ Held job → G.may_hold gate.now job) }
 
     // What takes no memory to find is always told.
     ensures large { (place : ℕ) → (result ≡ Err (TooLarge place)) ↔ (too_large domain.now problem.now bundles.now ≡ Some place) }
@@ -61,7 +73,7 @@ pub fn judge_plain(
                 return Err(JudgeFault::TooManyPlanners);
             }
             match read_task(alloc, domain, problem) {
-                Ok(task) => judge_planners(alloc, &task, bundles),
+                Ok(task) => judge_planners(rt, alloc, &task, bundles, workers, gate),
                 Err(fault) => Err(fault),
             }
         }
@@ -117,16 +129,54 @@ fn refusal(fault: ReadFault, other: JudgeFault) -> JudgeFault
 }
 
 /// The report of a task's plans, unless there are too many.
-fn judge_planners(alloc: Global, task: &Task, bundles: &[Bundle]) -> Result<Report, JudgeFault>
+fn judge_planners<R: Threads + Wait + Sync, G: Gate + Sync>(
+    rt: &R,
+    alloc: Global,
+    task: &Task,
+    bundles: &[Bundle],
+    workers: u32,
+    gate: &G,
+) -> Result<Report, JudgeFault>
+    requires planners { length bundles.now ≤ 64 }
+    requires workers { (1 ≤ workers) × (workers ≤ 32) }
     ensures report { IfOk result (λ text. (plan_count bundles.now ≤ most_plans) × (text ≡ report task.now (map (planner_of task.now) bundles.now))) }
-    ensures refusal { IfErr result (λ fault. (fault ≡ OutOfMemory) ⊎ ((fault ≡ TooManyPlans) × (most_plans < plan_count bundles.now))) }
+    ensures refusal { IfErr result (λ fault. IsOfTexts fault → (fault ≡ TooManyPlans) × (most_plans < plan_count bundles.now)) }
+    ensures held { IfErr result (λ fault. (job : ℕ) → fault ≡ Held job → G.may_hold gate.now job) }
 {
     if have_too_many_plans(bundles) {
         return Err(JudgeFault::TooManyPlans);
     }
-    match report_of(alloc, task, bundles) {
-        Ok(report) => Ok(report),
-        Err(error) => Err(JudgeFault::from(error)),
+    match judge_plans(rt, alloc, task, bundles, workers, gate) {
+        Ok(findings) => match report_of(alloc, task, bundles, &findings) {
+            Ok(report) => Ok(report),
+            Err(AllocError) => Err(JudgeFault::OutOfMemory),
+        },
+        Err(fault) => Err(fault),
+    }
+}
+
+/// What is found of the plans of all files.
+fn judge_plans<R: Threads + Wait + Sync, G: Gate + Sync>(
+    rt: &R,
+    alloc: Global,
+    task: &Task,
+    bundles: &[Bundle],
+    workers: u32,
+    gate: &G,
+) -> Result<Findings, JudgeFault>
+    requires planners { length bundles.now ≤ 64 }
+    requires plans { plan_count bundles.now ≤ most_plans }
+    requires workers { (1 ≤ workers) × (workers ≤ 32) }
+    ensures findings { IfOk result (λ findings. findings ≡ findings_of task.now (length bundles.now) (plans_of_files 0 bundles.now)) }
+    ensures refusal { IfErr result (λ fault. IsOfTexts fault → ⊥) }
+    ensures held { IfErr result (λ fault. (job : ℕ) → fault ≡ Held job → G.may_hold gate.now job) }
+{
+    match read_plans(alloc, bundles) {
+        Ok(plans) => match run(rt, alloc, task, bundles.len() as u32, plans, workers, gate) {
+            Ok(findings) => Ok(findings),
+            Err(fault) => Err(JudgeFault::from(fault)),
+        },
+        Err(AllocError) => Err(JudgeFault::OutOfMemory),
     }
 }
 
@@ -145,15 +195,21 @@ fn have_too_many_plans(bundles: &[Bundle]) -> bool
     false
 }
 
-/// The report of a task's plans.
-fn report_of(alloc: Global, task: &Task, bundles: &[Bundle]) -> Result<Report, AllocError>
-    requires { plan_count bundles.now ≤ most_plans }
+/// The report of a task's plans, of which this was found.
+fn report_of(
+    alloc: Global,
+    task: &Task,
+    bundles: &[Bundle],
+    findings: &Findings,
+) -> Result<Report, AllocError>
+    requires findings { findings.now ≡ findings_of task.now (length bundles.now) (plans_of_files 0 bundles.now) }
+    requires plans { plan_count bundles.now ≤ most_plans }
     ensures { IfOk result (λ text. text ≡ report task.now (map (planner_of task.now) bundles.now)) }
 {
     let mut text = Text::new(alloc);
     push_header(&mut text, task)?;
-    for bundle in bundles {
-        push_planner(alloc, &mut text, task, bundle)?;
+    for (planner, bundle) in bundles.iter().enumerate() {
+        push_planner(&mut text, task, bundle.name(), findings, planner)?;
     }
     Ok(Report::from_bytes(text.into_bytes()))
 }

@@ -2,6 +2,7 @@
 ghost use Rattle.std.specs.Prelude.{◌≡◌};
 ghost use Rattle.plan_judge.specs.Status.{status_of};
 
+use judge_bench::RunFault;
 use pddl_reader::ReadFault;
 use std::alloc::{AllocError, AllocFailed};
 pub use steps_text::{StepsFault, StepsFaultKind};
@@ -65,5 +66,20 @@ impl From<AllocError> for JudgeFault {
 
     fn from(_error: AllocError) -> JudgeFault {
         JudgeFault::OutOfMemory
+    }
+}
+
+impl From<RunFault> for JudgeFault {
+    ghost use Rattle.std.specs.Prelude.{◌≡◌};
+    ghost use Rattle.plan_judge.specs.Refusal.{refusal_of_run};
+
+    ghost from_gives = { λ fault refusal. refusal ≡ refusal_of_run fault };
+
+    fn from(fault: RunFault) -> JudgeFault {
+        match fault {
+            RunFault::OutOfMemory => JudgeFault::OutOfMemory,
+            RunFault::NoThread => JudgeFault::NoThread,
+            RunFault::Held(job) => JudgeFault::Held(job),
+        }
     }
 }

@@ -5,10 +5,13 @@ pub mod bundle;
 mod command;
 pub mod engine;
 pub mod fault;
+#[cfg(test)]
+mod gate_tests;
 pub mod inlet;
 mod lines;
 pub mod outlet;
 mod planner;
+mod plans;
 pub mod program;
 mod render;
 pub mod replay;

@@ -1,19 +1,15 @@
-//! The plans of one planner: read, judged and told, one after the other.
-//!
-//! [`push_planner`] goes over the parts of a planner's file. Each is read, judged and told in a line of the report before the next one is
-//! looked at, so that a run holds one plan at a time, however many a file has.
-ghost use Rattle.std.specs.Prelude.{◌≡◌, ◌++◌, ◌<◌, ◌≤◌, length, IfOk, OnOk};
-ghost use Rattle.plan_text.specs.Bundle.{parts};
-ghost use Rattle.plan_judge.specs.Answer.{judged, planner_of};
+//! The lines of one planner: what was found of its plans, and how many of them are valid.
+ghost use Rattle.std.specs.Prelude.{◌≡◌, ◌++◌, ◌<◌, ◌≤◌, [], length, map, slice_index_or, IfOk, OnOk};
+ghost use Rattle.plan_judge.specs.Plans.{as_judged};
 ghost use Rattle.plan_judge.specs.Report.{plan_line, planner_lines, steps_if_valid};
 ghost use Rattle.plan_judge.specs.Tally.{tally_with};
 
-use crate::bundle::Bundle;
 use crate::lines::{push_plan_line, push_summary};
 use crate::text::Text;
-use plan_text::{Parts, read_plan};
-use std::alloc::{AllocError, Global};
-use strips_judge::{Verdict, judge};
+use intake_rules::Finding;
+use judge_bench::Findings;
+use std::alloc::AllocError;
+use strips_judge::Verdict;
 use strips_task::Task;
 
 /// What the last line of a planner tells.
@@ -27,45 +23,51 @@ pub(crate) struct Tally {
     pub(crate) best: Option<u32>,
 }
 
-/// Adds the lines of a planner: one for each plan of its file, and a last one.
+/// Adds the lines of a planner: one for each of its plans, which count from 1, and a last one.
 pub(crate) fn push_planner(
-    alloc: Global,
     text: &mut Text,
     task: &Task,
-    bundle: &Bundle,
+    name: &[u8],
+    findings: &Findings,
+    planner: usize,
 ) -> Result<(), AllocError>
-    requires { length (parts bundle.now.bytes) ≤ 65536 }
-    ensures { OnOk result (text.new ≡ text.old ++ planner_lines task.now (planner_of task.now bundle.now)) }
+    requires planner { planner < length findings.now }
+    requires plans { length (slice_index_or findings.now planner []) ≤ 65536 }
+    ensures { OnOk result (text.new ≡ text.old ++ planner_lines task.now
+        (record { name = name.now; plans = map as_judged (slice_index_or findings.now planner []) })) }
 {
     let mut tally = Tally {
         plans: 0,
         valid: 0,
         best: None,
     };
-    for part in Parts::new(bundle.bytes()) {
-        let steps = push_plan(alloc, text, task, bundle.name(), tally.plans + 1, part)?;
+    for place in 0..findings.plans(planner) {
+        let steps = push_found(text, task, name, place + 1, findings.get(planner, place))?;
         tally = counted(tally, steps);
     }
-    push_summary(text, bundle.name(), tally.plans, tally.valid, tally.best)
+    push_summary(text, name, tally.plans, tally.valid, tally.best)
 }
 
-/// Reads, judges and tells a plan, and answers how many steps it has where it is valid. Plans count from 1.
-#[tactic(auto, unfolding(crate::specs::Answer::judged))]
-fn push_plan(
-    alloc: Global,
+/// Adds the line of a plan that was judged, and answers how many steps it has where it is valid. Plans count from 1.
+fn push_found(
     text: &mut Text,
     task: &Task,
     name: &[u8],
     number: usize,
-    part: &[u8],
+    finding: &Finding,
 ) -> Result<Option<u32>, AllocError>
-    ensures line { OnOk result (text.new ≡ text.old ++ plan_line task.now name.now number (judged task.now part.now)) }
-    ensures steps { IfOk result (λ steps. steps ≡ steps_if_valid (judged task.now part.now).verdict) }
+    ensures line { OnOk result (text.new ≡ text.old ++ plan_line task.now name.now number (as_judged finding.now)) }
+    ensures steps { IfOk result (λ steps. steps ≡ steps_if_valid finding.now.verdict) }
 {
-    let plan = read_plan(alloc, part)?;
-    let verdict = judge(alloc, task, &plan)?;
-    push_plan_line(text, task, name, number, &plan, &verdict)?;
-    Ok(valid_steps(&verdict))
+    push_plan_line(
+        text,
+        task,
+        name,
+        number,
+        &finding.job.plan,
+        &finding.verdict,
+    )?;
+    Ok(valid_steps(&finding.verdict))
 }
 
 /// The number of steps, where the verdict is that the plan is valid.

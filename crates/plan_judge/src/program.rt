@@ -8,16 +8,19 @@ ghost use Rattle.plan_judge.specs.Run.{IsReportOver, WritesReport, CutsReport, I
 
 use crate::bundle::Bundle;
 use crate::command::{JudgeRequest, ReplayRequest, Request, parse};
-use crate::engine::judge_plain;
+use crate::engine::judge_bytes;
 use crate::fault::JudgeFault;
 use crate::inlet::{InFault, Sources};
 use crate::outlet::{Outlet, write_bytes, write_report};
 use crate::replay::replay_bytes;
 use crate::report::Report;
 use crate::text::Text;
+use judge_bench::Open;
 use pddl_reader::ReadFault;
 use pddl_tokens::line_of;
 use std::alloc::{AllocError, AllocFailed, Global};
+use std::sync::Wait;
+use std::thread::Threads;
 
 /// The most files of plans of a command line; no system passes as many words.
 const MOST_FILES: usize = 1 << 31;
@@ -46,11 +49,12 @@ impl<T: Drop> From<AllocFailed<T>> for Stop {
 }
 
 /// Runs the program on the words of a command line, the first of which is the program's name, and answers the exit status:
-/// 0 where a report or help was written, 1 where an input was refused, 2 where the command line was, 3 where memory ran out, and 4 where
+/// 0 where a report or help was written, 1 where an input was refused, 2 where the command line was, 3 where memory ran out or a thread could not
+/// be started, and 4 where
 /// the report or help could not be written.
 ///
 /// A report goes to `out` whole or, where `out` fails, from its front. What else is told goes to `err`, whose faults are ignored.
-pub fn main_with<R: AllocGlobal, S: Sources, O: Outlet, E: Outlet>(
+pub fn main_with<R: AllocGlobal + Threads + Wait + Sync, S: Sources, O: Outlet, E: Outlet>(
     rt: &R,
     words: &[String],
     sources: &S,
@@ -63,7 +67,7 @@ pub fn main_with<R: AllocGlobal, S: Sources, O: Outlet, E: Outlet>(
     ensures untouched { 0 < result → result < 4 → out.new ≡ out.old }
 {
     match parse(rt.alloc(), words) {
-        Ok(Request::Judge(files)) => judge_with(rt.alloc(), &files, sources, out, err),
+        Ok(Request::Judge(files)) => judge_with(rt, &files, sources, out, err),
         Ok(Request::Replay(files)) => replay_with(rt.alloc(), &files, sources, out, err),
         Ok(Request::Show(text)) => write_out(&Report::from_bytes(text.into_bytes()), out, err),
         Ok(Request::Refused(text)) => {
@@ -75,8 +79,8 @@ pub fn main_with<R: AllocGlobal, S: Sources, O: Outlet, E: Outlet>(
 }
 
 /// Judges the plans of files, one for each planner, and answers the exit status, as `main_with` does for a command line that names these files.
-pub fn judge_with<S: Sources, O: Outlet, E: Outlet>(
-    alloc: Global,
+pub fn judge_with<R: AllocGlobal + Threads + Wait + Sync, S: Sources, O: Outlet, E: Outlet>(
+    rt: &R,
     files: &JudgeRequest<'_>,
     sources: &S,
     out: &mut O,
@@ -91,7 +95,7 @@ pub fn judge_with<S: Sources, O: Outlet, E: Outlet>(
     ensures unwritten { (result ≡ 4) ↔ (O.failed out.new ≡ true) }
     ensures untouched { 0 < result → result < 4 → out.new ≡ out.old }
 {
-    match judge_files(alloc, files, sources) {
+    match judge_files(rt, files, sources) {
         Ok(report) => write_out(&report, out, err),
         Err(stop) => stopped(stop, err),
     }
@@ -170,24 +174,28 @@ fn tell<E: Outlet>(err: &mut E, bytes: &[u8]) {
 }
 
 /// The report of a run over files. They are read in the order of domain, problem and plans.
-fn judge_files<S: Sources>(
-    alloc: Global,
+fn judge_files<R: AllocGlobal + Threads + Wait + Sync, S: Sources>(
+    rt: &R,
     files: &JudgeRequest<'_>,
     sources: &S,
 ) -> Result<Report, Stop>
     ensures { IfOk result (IsReportOver (S.may_hold sources.now) files.now.domain.now files.now.problem.now (map (λ name. name.now) files.now.plans.items)) }
 {
+    let alloc = rt.alloc();
     if files.plans.len() > MOST_FILES {
         return Err(stop_for(alloc, JudgeFault::TooManyPlanners, files.domain, &[], &[])?);
     }
     let domain = read(alloc, sources, files.domain)?;
     let problem = read(alloc, sources, files.problem)?;
     let bundles = read_bundles(alloc, sources, files.plans.as_slice())?;
-    match judge_plain(
+    match judge_bytes(
+        rt,
         alloc,
         domain.as_slice(),
         problem.as_slice(),
         bundles.as_slice(),
+        files.workers,
+        &Open,
     ) {
         Ok(report) => Ok(report),
         Err(fault) => {

@@ -1,6 +1,6 @@
 //! The replay over texts: a domain, a problem and steps in, the lines of the answers out.
 //!
-//! [`replay_bytes`] reads the domain and the problem as [`judge_plain`](crate::engine::judge_plain) does, reads the steps, asks them of a new
+//! [`replay_bytes`] reads the domain and the problem as [`judge_bytes`](crate::engine::judge_bytes) does, reads the steps, asks them of a new
 //! desk, and makes the lines of what it answered.
 ghost use Rattle.std.specs.Prelude.{◌≡◌, ◌≢◌, ◌≤◌, ◌⊎◌, length, IfNone, IfOk, IfErr, Some, None, Err};
 ghost use Rattle.steps_text.specs.StepsTexts.{steps_text};

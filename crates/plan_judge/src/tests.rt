@@ -4,15 +4,18 @@
 ghost use Rattle.std.specs.Prelude.{◌≡◌, false};
 
 use crate::bundle::Bundle;
-use crate::engine::judge_plain;
+use crate::engine::judge_bytes;
 use crate::fault::JudgeFault;
 use crate::inlet::{Feed, InFault, Sources, read_file};
 use crate::outlet::{Failed, Outlet, write_report};
 use crate::program::main_with;
 use crate::report::Report;
+use judge_bench::Open;
 use std::alloc::{AllocError, Global};
 use std::io;
 use std::io::{ErrorKind, Read};
+use std::sync::Wait;
+use std::thread::Threads;
 
 const LAMP: &[u8] = b"(define (domain lamp)
   (:predicates (lit) (dark))
@@ -147,7 +150,13 @@ fn line(alloc: Global, words: &str) -> Result<Vec<String>, AllocError> {
 }
 
 /// The status of a run of these words over these files; 9 where memory ran out before it.
-fn run(rt: &HostRuntime, words: &str, shelf: &Shelf, out: &mut Narrow, err: &mut Narrow) -> u8
+fn run(
+    rt: &(impl AllocGlobal + Threads + Wait + Sync),
+    words: &str,
+    shelf: &Shelf,
+    out: &mut Narrow,
+    err: &mut Narrow,
+) -> u8
     requires { out.old.failed ≡ false }
 {
     match line(rt.alloc(), words) {
@@ -167,13 +176,19 @@ fn lamp_shelf(alloc: Global) -> Shelf {
 }
 
 /// Whether a run over these files ends with this status, and writes this.
-fn answers(rt: &HostRuntime, files: [Content; 3], status: u8, out: &[u8], err: &[u8]) -> bool {
+fn answers(
+    rt: &(impl AllocGlobal + Threads + Wait + Sync),
+    files: [Content; 3],
+    status: u8,
+    out: &[u8],
+    err: &[u8],
+) -> bool {
     answers_to(rt, JUDGE, files, status, out, err)
 }
 
 /// Whether a run of these words over these files ends with this status, and writes this.
 fn answers_to(
-    rt: &HostRuntime,
+    rt: &(impl AllocGlobal + Threads + Wait + Sync),
     words: &str,
     files: [Content; 3],
     status: u8,
@@ -242,7 +257,7 @@ fn a_large_file_comes_before_wrong_texts(rt: HostRuntime) {
 }
 
 /// Whether a command line is refused, and something is told.
-fn refuses(rt: &HostRuntime, words: &str) -> bool {
+fn refuses(rt: &(impl AllocGlobal + Threads + Wait + Sync), words: &str) -> bool {
     let mut out = Narrow::wide(rt.alloc());
     let mut err = Narrow::wide(rt.alloc());
     let status = run(rt, words, &lamp_shelf(rt.alloc()), &mut out, &mut err);
@@ -268,7 +283,13 @@ fn wrong_command_lines(rt: HostRuntime) {
 }
 
 /// Whether a run to an outlet that takes one byte at a time, and so many in all, writes this front of a text and stops as it should.
-fn writes_front(rt: &HostRuntime, words: &str, text: &[u8], room: usize, fails: bool) -> bool {
+fn writes_front(
+    rt: &(impl AllocGlobal + Threads + Wait + Sync),
+    words: &str,
+    text: &[u8],
+    room: usize,
+    fails: bool,
+) -> bool {
     let mut out = Narrow::new(rt.alloc(), 1, room, fails);
     let mut err = Narrow::wide(rt.alloc());
     let status = run(rt, words, &lamp_shelf(rt.alloc()), &mut out, &mut err);
@@ -285,7 +306,11 @@ fn writes_front(rt: &HostRuntime, words: &str, text: &[u8], room: usize, fails: 
 }
 
 /// Whether a text is written whole and, where the outlet stops, from its front, wherever that is.
-fn writes_fronts(rt: &HostRuntime, words: &str, text: &[u8]) -> bool {
+fn writes_fronts(
+    rt: &(impl AllocGlobal + Threads + Wait + Sync),
+    words: &str,
+    text: &[u8],
+) -> bool {
     for room in 0..=text.len() {
         if !writes_front(rt, words, text, room, true)
             || !writes_front(rt, words, text, room, false)
@@ -308,7 +333,13 @@ fn outlets_that_stop(rt: HostRuntime) {
 }
 
 /// The status of a run whose outlet for errors takes so many bytes, and whose other outlet takes so many.
-fn status_with(rt: &HostRuntime, words: &str, room: usize, told: usize, fails: bool) -> u8 {
+fn status_with(
+    rt: &(impl AllocGlobal + Threads + Wait + Sync),
+    words: &str,
+    room: usize,
+    told: usize,
+    fails: bool,
+) -> u8 {
     let mut out = Narrow::new(rt.alloc(), 100, room, fails);
     let mut err = Narrow::new(rt.alloc(), 5, told, fails);
     run(rt, words, &lamp_shelf(rt.alloc()), &mut out, &mut err)
@@ -376,17 +407,17 @@ fn readers_that_stop(rt: HostRuntime) {
 }
 
 /// The report of the lamp domain and problem for a planner `p` with this file.
-fn lamp_report(alloc: Global, plan: &[u8]) -> Result<Report, JudgeFault> {
-    let bundles = [Bundle {
-        name: String::from_str(alloc, "p")?,
-        bytes: plan.to_vec(alloc)?,
-    }];
-    judge_plain(alloc, LAMP, LAMP_1, &bundles)
+fn lamp_report(
+    rt: &(impl AllocGlobal + Threads + Wait + Sync),
+    plan: &[u8],
+) -> Result<Report, JudgeFault> {
+    let bundles = [bundle(rt.alloc(), "p", plan)?];
+    judge_bytes(rt, rt.alloc(), LAMP, LAMP_1, &bundles, 4, &Open)
 }
 
 #[test]
 fn always_out_of_memory(rt: HostRuntime) {
-    match lamp_report(rt.alloc(), b"(light)\n") {
+    match lamp_report(&rt, b"(light)\n") {
         Ok(report) => {
             let expected: &[u8] =
                 b"domain lamp problem lamp-1\np 1 valid 1\np plans 1 valid 1 best 1\n";
@@ -398,7 +429,7 @@ fn always_out_of_memory(rt: HostRuntime) {
 
 #[test]
 fn a_second_step_fails(rt: HostRuntime) {
-    match lamp_report(rt.alloc(), b"(light) (light)") {
+    match lamp_report(&rt, b"(light) (light)") {
         Ok(report) => {
             let expected: &[u8] =
                 b"domain lamp problem lamp-1\np 1 fails at 2 (light): missing (dark)\np plans 1 valid 0 best -\n";
@@ -421,7 +452,7 @@ fn statuses(rt: HostRuntime) {
 #[test]
 fn a_writer_that_stops_after_ten_bytes(rt: HostRuntime) {
     let mut narrow = Narrow::new(rt.alloc(), 100, 10, true);
-    match lamp_report(rt.alloc(), b"(light)\n") {
+    match lamp_report(&rt, b"(light)\n") {
         Ok(report) => match write_report(&report, &mut narrow) {
             Ok(()) => assert!(rt; false, "ten bytes are not the report"),
             Err(fault) => assert_eq!(rt; fault.written, 10),
@@ -440,75 +471,54 @@ fn bundle(alloc: Global, name: &str, bytes: &[u8]) -> Result<Bundle, AllocError>
     })
 }
 
-/// The report of three planners, the second of whom has two plans.
-fn three_planners(alloc: Global) -> Result<Report, JudgeFault> {
-    let bundles = [
-        bundle(alloc, "p", b"(light)\n")?,
-        bundle(alloc, "q", b"(light)\n---\n(light) (light)\n")?,
-        bundle(alloc, "r", b"(fly)\n")?,
-    ];
-    judge_plain(alloc, LAMP, LAMP_1, &bundles)
-}
-
-#[test]
-fn several_planners(rt: HostRuntime) {
-    let expected: &[u8] = b"domain lamp problem lamp-1
-p 1 valid 1
-p plans 1 valid 1 best 1
-q 1 valid 1
-q 2 fails at 2 (light): missing (dark)
-q plans 2 valid 1 best 1
-r 1 fails at 1 (fly): unknown action
-r plans 1 valid 0 best -
-";
-    match three_planners(rt.alloc()) {
-        Ok(report) => assert!(rt; report.bytes() == expected),
-        Err(_) => assert!(rt; false, "memory was ample"),
-    }
-}
-
 /// A run of so many planners with empty files.
-fn empty_files(alloc: Global, count: usize) -> Result<Report, JudgeFault> {
-    let mut bundles = Vec::new(alloc);
+fn empty_files(
+    rt: &(impl AllocGlobal + Threads + Wait + Sync),
+    count: usize,
+) -> Result<Report, JudgeFault> {
+    let mut bundles = Vec::new(rt.alloc());
     for _ in 0..count {
-        if bundles.push(bundle(alloc, "p", b"")?).is_err() {
+        if bundles.push(bundle(rt.alloc(), "p", b"")?).is_err() {
             return Err(JudgeFault::OutOfMemory);
         }
     }
     if bundles.len() > 100 {
         return Err(JudgeFault::OutOfMemory);
     }
-    judge_plain(alloc, LAMP, LAMP_1, bundles.as_slice())
+    judge_bytes(rt, rt.alloc(), LAMP, LAMP_1, bundles.as_slice(), 4, &Open)
 }
 
 /// A run of a planner whose file has so many separators.
-fn separators(alloc: Global, count: usize) -> Result<Report, JudgeFault> {
-    let mut bytes = Vec::new(alloc);
+fn separators(
+    rt: &(impl AllocGlobal + Threads + Wait + Sync),
+    count: usize,
+) -> Result<Report, JudgeFault> {
+    let mut bytes = Vec::new(rt.alloc());
     for _ in 0..count {
         bytes.extend_from_slice(b"---\n")?;
     }
-    let bundles = [bundle(alloc, "p", bytes.as_slice())?];
-    judge_plain(alloc, LAMP, LAMP_1, &bundles)
+    let bundles = [bundle(rt.alloc(), "p", bytes.as_slice())?];
+    judge_bytes(rt, rt.alloc(), LAMP, LAMP_1, &bundles, 4, &Open)
 }
 
 #[test]
 fn limits_of_a_run(rt: HostRuntime) {
-    match empty_files(rt.alloc(), 0) {
+    match empty_files(&rt, 0) {
         Ok(report) => assert!(rt; report.bytes() == b"domain lamp problem lamp-1\n".as_slice()),
         Err(_) => assert!(rt; false, "memory was ample"),
     }
-    assert!(rt; empty_files(rt.alloc(), 64).is_ok());
-    assert!(rt;
-        empty_files(rt.alloc(), 65).is_err_and(|fault| fault == JudgeFault::TooManyPlanners)
-    );
-    assert!(rt; separators(rt.alloc(), 65535).is_ok());
-    assert!(rt;
-        separators(rt.alloc(), 65536).is_err_and(|fault| fault == JudgeFault::TooManyPlans)
-    );
+    assert!(rt; empty_files(&rt, 64).is_ok());
+    assert!(rt; empty_files(&rt, 65).is_err_and(|fault| fault == JudgeFault::TooManyPlanners));
+    assert!(rt; separators(&rt, 65535).is_ok());
+    assert!(rt; separators(&rt, 65536).is_err_and(|fault| fault == JudgeFault::TooManyPlans));
 }
 
 /// Whether the replay of these steps at a lamp's desk writes this.
-fn replays(rt: &HostRuntime, steps: &'static [u8], replies: &[u8]) -> bool {
+fn replays(
+    rt: &(impl AllocGlobal + Threads + Wait + Sync),
+    steps: &'static [u8],
+    replies: &[u8],
+) -> bool {
     use Content::Text;
     let files = [Text(LAMP), Text(LAMP_1), Text(steps)];
     answers_to(rt, REPLAY, files, 0, replies, b"")

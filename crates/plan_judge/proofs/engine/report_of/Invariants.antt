@@ -4,5 +4,5 @@ use Rattle.plan_judge.specs.Report.{report}
 use Rattle.plan_judge.proofs.engine.report_of.Given as goal
 
 -- The lines of the planners so far stand behind the first line.
-abbrev pub invariant-loop-bundle : goal.invariant-loop-bundle
-invariant-loop-bundle l = l.text ≡ report l.task (map (planner_of l.task) (take l.bundle-index l.bundles))
+abbrev pub invariant-loop-planner : goal.invariant-loop-planner
+invariant-loop-planner l = l.text ≡ report l.task (map (planner_of l.task) (take l.planner l.bundles))

@@ -1,0 +1,3 @@
+pub mod ByPlanner
+pub mod Gathered
+pub mod InTurn

@@ -1,0 +1,33 @@
+-- What a run finds.
+
+use Rattle.std.specs.Prelude.{ℕ, List, [], ◌∷◌, ◌++◌, map, filter, nat_eq, replicate, slice_index_or, slice_set}
+use Rattle.std.specs.List.{range_with_len}
+use Rattle.strips_task.specs.declared.tasks.TaskParts.{TaskParts}
+use Rattle.intake_rules.specs.declared.finding.Finding.{Finding}
+use Rattle.intake_rules.specs.Findings.{verdict_of}
+use Rattle.intake_rules.specs.Jobs.{AcceptedPlan}
+use Rattle.judge_bench.specs.Submissions.{SubmittedPlan, jobs_from}
+
+-- the right finding of a job
+abbrev pub right_finding : TaskParts → AcceptedPlan → Finding
+right_finding parts job = record { job = job; verdict = verdict_of parts job.plan }
+
+-- the findings of the jobs of a planner, in order
+abbrev pub of_planner : List Finding → ℕ → List Finding
+of_planner findings planner = filter (λ finding. nat_eq finding.job.planner planner) findings
+
+-- for each planner the findings of its jobs
+abbrev pub by_planner : ℕ → List Finding → List (List Finding)
+by_planner planners findings = map (of_planner findings) (range_with_len 0 planners)
+
+-- what a run finds: for each planner one right finding of each of its plans, in the order in which they were handed in
+unfoldable pub findings_of : TaskParts → ℕ → List SubmittedPlan → List (List Finding)
+findings_of parts planners plans = by_planner planners (map (right_finding parts) (jobs_from 0 plans))
+
+-- no finding, for so many planners
+abbrev pub nothing_kept : ℕ → List (List Finding)
+nothing_kept planners = replicate planners []
+
+-- one finding more, behind those of its planner
+abbrev pub kept : List (List Finding) → Finding → List (List Finding)
+kept lists finding = slice_set lists finding.job.planner (slice_index_or lists finding.job.planner [] ++ finding ∷ [])

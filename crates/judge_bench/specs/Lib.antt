@@ -1,0 +1,4 @@
+pub mod Findings
+pub mod Lists
+pub mod Outcomes
+pub mod Submissions
