@@ -1,0 +1,43 @@
+; A hall of 6 by 5 cells with 3 racks.
+(define (problem hall-1)
+  (:domain warehouse)
+  (:objects
+    robot1 - robot
+    rack1 rack2 rack3 - rack
+    c0-0 c1-0 c2-0 c3-0 c4-0 c5-0 c0-1 c1-1 c2-1 c3-1 c4-1 c5-1 c0-2 c1-2 c2-2 c3-2 c4-2 c5-2 c0-3 c1-3 c2-3 c3-3 c4-3
+    c5-3 c0-4 c1-4 c2-4 c3-4 c4-4 c5-4 - cell)
+  (:init
+    (robot-at robot1 c5-1) (unladen robot1)
+    (rack-at rack1 c2-2) (rack-at rack2 c3-2) (rack-at rack3 c4-2)
+    (no-robot c0-0) (no-robot c1-0) (no-robot c2-0) (no-robot c3-0) (no-robot c4-0) (no-robot c5-0) (no-robot c0-1)
+    (no-robot c1-1) (no-robot c2-1) (no-robot c3-1) (no-robot c4-1) (no-robot c0-2) (no-robot c1-2) (no-robot c2-2)
+    (no-robot c3-2) (no-robot c4-2) (no-robot c5-2) (no-robot c0-3) (no-robot c1-3) (no-robot c2-3) (no-robot c3-3)
+    (no-robot c4-3) (no-robot c5-3) (no-robot c0-4) (no-robot c1-4) (no-robot c2-4) (no-robot c3-4) (no-robot c4-4)
+    (no-robot c5-4)
+    (no-rack c0-0) (no-rack c1-0) (no-rack c2-0) (no-rack c3-0) (no-rack c4-0) (no-rack c5-0) (no-rack c0-1)
+    (no-rack c1-1) (no-rack c2-1) (no-rack c3-1) (no-rack c4-1) (no-rack c5-1) (no-rack c0-2) (no-rack c1-2)
+    (no-rack c5-2) (no-rack c0-3) (no-rack c1-3) (no-rack c2-3) (no-rack c3-3) (no-rack c4-3) (no-rack c5-3)
+    (no-rack c0-4) (no-rack c1-4) (no-rack c2-4) (no-rack c3-4) (no-rack c4-4) (no-rack c5-4)
+    (borders c0-0 c1-0) (borders c0-0 c0-1) (borders c1-0 c0-0) (borders c1-0 c2-0) (borders c1-0 c1-1)
+    (borders c2-0 c1-0) (borders c2-0 c3-0) (borders c2-0 c2-1) (borders c3-0 c2-0) (borders c3-0 c4-0)
+    (borders c3-0 c3-1) (borders c4-0 c3-0) (borders c4-0 c5-0) (borders c4-0 c4-1) (borders c5-0 c4-0)
+    (borders c5-0 c5-1) (borders c0-1 c1-1) (borders c0-1 c0-0) (borders c0-1 c0-2) (borders c1-1 c0-1)
+    (borders c1-1 c2-1) (borders c1-1 c1-0) (borders c1-1 c1-2) (borders c2-1 c1-1) (borders c2-1 c3-1)
+    (borders c2-1 c2-0) (borders c2-1 c2-2) (borders c3-1 c2-1) (borders c3-1 c4-1) (borders c3-1 c3-0)
+    (borders c3-1 c3-2) (borders c4-1 c3-1) (borders c4-1 c5-1) (borders c4-1 c4-0) (borders c4-1 c4-2)
+    (borders c5-1 c4-1) (borders c5-1 c5-0) (borders c5-1 c5-2) (borders c0-2 c1-2) (borders c0-2 c0-1)
+    (borders c0-2 c0-3) (borders c1-2 c0-2) (borders c1-2 c2-2) (borders c1-2 c1-1) (borders c1-2 c1-3)
+    (borders c2-2 c1-2) (borders c2-2 c3-2) (borders c2-2 c2-1) (borders c2-2 c2-3) (borders c3-2 c2-2)
+    (borders c3-2 c4-2) (borders c3-2 c3-1) (borders c3-2 c3-3) (borders c4-2 c3-2) (borders c4-2 c5-2)
+    (borders c4-2 c4-1) (borders c4-2 c4-3) (borders c5-2 c4-2) (borders c5-2 c5-1) (borders c5-2 c5-3)
+    (borders c0-3 c1-3) (borders c0-3 c0-2) (borders c0-3 c0-4) (borders c1-3 c0-3) (borders c1-3 c2-3)
+    (borders c1-3 c1-2) (borders c1-3 c1-4) (borders c2-3 c1-3) (borders c2-3 c3-3) (borders c2-3 c2-2)
+    (borders c2-3 c2-4) (borders c3-3 c2-3) (borders c3-3 c4-3) (borders c3-3 c3-2) (borders c3-3 c3-4)
+    (borders c4-3 c3-3) (borders c4-3 c5-3) (borders c4-3 c4-2) (borders c4-3 c4-4) (borders c5-3 c4-3)
+    (borders c5-3 c5-2) (borders c5-3 c5-4) (borders c0-4 c1-4) (borders c0-4 c0-3) (borders c1-4 c0-4)
+    (borders c1-4 c2-4) (borders c1-4 c1-3) (borders c2-4 c1-4) (borders c2-4 c3-4) (borders c2-4 c2-3)
+    (borders c3-4 c2-4) (borders c3-4 c4-4) (borders c3-4 c3-3) (borders c4-4 c3-4) (borders c4-4 c5-4)
+    (borders c4-4 c4-3) (borders c5-4 c4-4) (borders c5-4 c5-3)
+    (picking-place c0-0))
+  (:goal (and
+    (served rack2) (rack-at rack2 c3-2) (served rack3) (rack-at rack3 c4-2))))
