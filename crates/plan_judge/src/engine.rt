@@ -53,8 +53,7 @@ pub fn judge_bytes<R: Threads + Wait + Sync, G: Gate + Sync>(
     workers: u32,
     gate: &G,
 ) -> Result<Report, JudgeFault>
-    requires bundles { length bundles.now + 2 ≤ 2 ^ 32 }
-    requires workers { (1 ≤ workers) × (workers ≤ 32) }
+    requires { (1 ≤ workers) × (workers ≤ 32) }
     ensures answer { IfOk result (λ report. answer domain.now problem.now bundles.now ≡ Some report) }
     ensures refusal { IfErr result (λ fault. IsOfTexts fault → answer domain.now problem.now bundles.now ≡ None) }
     ensures cause { IfErr result (λ fault. IsOfTexts fault → TextsCallFor domain.now problem.now bundles.now fault) }
@@ -81,8 +80,7 @@ pub fn judge_bytes<R: Threads + Wait + Sync, G: Gate + Sync>(
 }
 
 /// The place of the first text that is over the limit of a file: 0 is the domain, 1 the problem, and 2 + k the k-th file from 0.
-fn too_large(domain: &[u8], problem: &[u8], bundles: &[Bundle]) -> Option<u32>
-    requires { length bundles.now + 2 ≤ 2 ^ 32 }
+fn too_large(domain: &[u8], problem: &[u8], bundles: &[Bundle]) -> Option<usize>
     ensures { result ≡ too_large domain.now problem.now bundles.now }
 {
     if domain.len() > FILE_LIMIT {
@@ -93,7 +91,7 @@ fn too_large(domain: &[u8], problem: &[u8], bundles: &[Bundle]) -> Option<u32>
     }
     for (number, bundle) in bundles.iter().enumerate() {
         if bundle.bytes().len() > FILE_LIMIT {
-            return Some(number as u32 + 2);
+            return Some(number + 2);
         }
     }
     None

@@ -14,7 +14,7 @@ pub enum JudgeFault {
     /// A text is longer than 16,777,216 bytes: 0 is the domain, 1 the problem, and 2 + k the k-th file of plans, counted from 0, or 2 the
     /// steps of a replay. The least such number is told.
     #[error("text {0} is too large")]
-    TooLarge(u32),
+    TooLarge(usize),
     /// There are more than 64 planners.
     #[error("more than 64 planners")]
     TooManyPlanners,

@@ -1,7 +1,7 @@
 //! The program: the words of the command line in, bytes and an exit status out.
 //!
 //! [`main_with`] does all that `main` does, over sources and outlets that are handed in, so that tests can make them fail.
-ghost use Rattle.std.specs.Prelude.{◌≡◌, ◌↔◌, ◌⊎◌, ◌<◌, ◌≤◌, true, false, map, length, IfOk};
+ghost use Rattle.std.specs.Prelude.{◌≡◌, ◌↔◌, ◌⊎◌, ◌<◌, ◌≤◌, true, false, map, IfOk};
 ghost use Rattle.std.specs.Io.KnownBytes.{Appends};
 ghost use Rattle.plan_judge.specs.Outlet.{AppendsFront};
 ghost use Rattle.plan_judge.specs.Run.{IsReportOver, WritesReport, CutsReport, IsReplayOver, WritesReplay, CutsReplay, IsFile, AreFiles};
@@ -21,9 +21,6 @@ use pddl_tokens::line_of;
 use std::alloc::{AllocError, AllocFailed, Global};
 use std::sync::Wait;
 use std::thread::Threads;
-
-/// The most files of plans of a command line; no system passes as many words.
-const MOST_FILES: usize = 1 << 31;
 
 /// Why a run over files stops without a report.
 #[derive(Debug, Drop)]
@@ -182,9 +179,6 @@ fn judge_files<R: AllocGlobal + Threads + Wait + Sync, S: Sources>(
     ensures { IfOk result (IsReportOver (S.may_hold sources.now) files.now.domain.now files.now.problem.now (map (λ name. name.now) files.now.plans.items)) }
 {
     let alloc = rt.alloc();
-    if files.plans.len() > MOST_FILES {
-        return Err(stop_for(alloc, JudgeFault::TooManyPlanners, files.domain, &[], &[])?);
-    }
     let domain = read(alloc, sources, files.domain)?;
     let problem = read(alloc, sources, files.problem)?;
     let bundles = read_bundles(alloc, sources, files.plans.as_slice())?;
@@ -232,8 +226,7 @@ fn replay_files<S: Sources>(
 
 /// The files of planners, in the order of their names. A planner has the name of its file.
 fn read_bundles<S: Sources>(alloc: Global, sources: &S, names: &[&str]) -> Result<Vec<Bundle>, Stop>
-    ensures files { IfOk result (λ bundles. AreFiles (S.may_hold sources.now) (map (λ name. name.now) names.now) bundles.items) }
-    ensures count { IfOk result (λ bundles. length bundles.items ≡ length names.now) }
+    ensures { IfOk result (λ bundles. AreFiles (S.may_hold sources.now) (map (λ name. name.now) names.now) bundles.items) }
 {
     let mut bundles = Vec::with_capacity(alloc, names.len())?;
     for name in names {
@@ -308,7 +301,7 @@ fn stop_for(
 fn large_file<'a>(files: &JudgeRequest<'a>, fault: JudgeFault) -> &'a str {
     match fault {
         JudgeFault::TooLarge(0) => files.domain,
-        JudgeFault::TooLarge(place) if place > 1 => match files.plans.get(place as usize - 2) {
+        JudgeFault::TooLarge(place) if place > 1 => match files.plans.get(place - 2) {
             Some(name) => name,
             None => files.problem,
         },

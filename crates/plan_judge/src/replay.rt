@@ -48,7 +48,7 @@ pub fn replay_bytes(
 
 /// The place of the first text that is over the limit of a file: 0 is the domain, 1 the problem, and 2 the steps.
 #[tactic(auto, unfolding(crate::specs::ReplayAnswer::too_large_for_replay))]
-fn too_large(domain: &[u8], problem: &[u8], steps: &[u8]) -> Option<u32>
+fn too_large(domain: &[u8], problem: &[u8], steps: &[u8]) -> Option<usize>
     ensures place { result ≡ too_large_for_replay domain.now problem.now steps.now }
     ensures within { IfNone result (length steps.now ≤ 16777216) }
 {

@@ -482,9 +482,6 @@ fn empty_files(
             return Err(JudgeFault::OutOfMemory);
         }
     }
-    if bundles.len() > 100 {
-        return Err(JudgeFault::OutOfMemory);
-    }
     judge_bytes(rt, rt.alloc(), LAMP, LAMP_1, bundles.as_slice(), 4, &Open)
 }
 
