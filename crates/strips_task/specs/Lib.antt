@@ -10,3 +10,4 @@ pub mod TypeTable
 pub mod Types
 pub mod WellFormed
 pub mod Within
+pub mod Ranges

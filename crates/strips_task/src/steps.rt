@@ -9,6 +9,7 @@ ghost use Rattle.strips_task.specs.Steps.{step_of};
 ghost use Rattle.strips_task.specs.OpenPlan.{IsExtension};
 ghost use Rattle.strips_task.specs.StepView.{step_shown};
 
+use crate::ranges::StepRanges;
 use crate::{Name, Seq, StepView, WordList};
 use std::alloc::{AllocError, AllocFailed, Global};
 use std::marker::Model;
@@ -36,7 +37,7 @@ pub struct StepRange {
 #[derive(Debug, Drop)]
 pub struct StepList {
     words: WordList,
-    ranges: Vec<StepRange>,
+    ranges: StepRanges,
 }
 
 impl Model for StepList {
@@ -47,9 +48,9 @@ impl Model for StepList {
 
     ghost Value = { List StepText };
 
-    ghost view = { λ s. map (step_at s.words) s.ranges.items };
+    ghost view = { λ s. map (step_at s.words) s.ranges };
 
-    ghost invariant = { λ s. All (IsStepRange (length s.words)) s.ranges.items × (length s.ranges.items ≤ MOST_STEPS) };
+    ghost invariant = { λ s. All (IsStepRange (length s.words)) s.ranges × (length s.ranges ≤ MOST_STEPS) };
 }
 
 impl StepList {
@@ -59,7 +60,7 @@ impl StepList {
     {
         StepList {
             words: WordList::new(alloc),
-            ranges: Vec::new(alloc),
+            ranges: StepRanges::new(alloc),
         }
     }
 
@@ -83,10 +84,9 @@ impl StepList {
         ensures err { OnErr result (self.new ≡ self.old) }
     {
         let first = self.words.len();
-        self.ranges.reserve(1)?;
         push_words(&mut self.words, step)?;
         let end = self.words.len();
-        self.ranges.push_reserved(StepRange { first, end });
+        self.ranges.push(StepRange { first, end })?;
         Ok(())
     }
 
@@ -102,7 +102,7 @@ impl StepList {
     pub fn is_empty(&self) -> bool
         ensures { IsTrue result ↔ (length self.now ≡ 0) }
     {
-        self.ranges.is_empty()
+        self.ranges.len() == 0
     }
 
     /// A look at the step at a place, counted from 0.
@@ -110,7 +110,7 @@ impl StepList {
         requires { place < length self.now }
         ensures { slice_get self.now place ≡ Some (step_shown result) }
     {
-        let range = self.ranges[place];
+        let range = self.ranges.get(place);
         StepView::new(&self.words, range.first, range.end)
     }
 }
@@ -131,7 +131,7 @@ fn push_words(words: &mut WordList, step: &StepText) -> Result<(), AllocError>
 #[derive(Debug, Drop)]
 pub struct OpenSteps {
     words: WordList,
-    ranges: Vec<StepRange>,
+    ranges: StepRanges,
     first: usize,
 }
 
@@ -143,9 +143,9 @@ impl Model for OpenSteps {
 
     ghost Value = { OpenPlan };
 
-    ghost view = { λ s. record { steps = map (step_at s.words) s.ranges.items; words = drop s.first s.words } };
+    ghost view = { λ s. record { steps = map (step_at s.words) s.ranges; words = drop s.first s.words } };
 
-    ghost invariant = { λ s. All (IsStepRange (length s.words)) s.ranges.items × (length s.ranges.items ≤ MOST_STEPS) × (s.first ≤ length s.words) };
+    ghost invariant = { λ s. All (IsStepRange (length s.words)) s.ranges × (length s.ranges ≤ MOST_STEPS) × (s.first ≤ length s.words) };
 }
 
 impl OpenSteps {
@@ -155,7 +155,7 @@ impl OpenSteps {
     {
         OpenSteps {
             words: WordList::new(alloc),
-            ranges: Vec::new(alloc),
+            ranges: StepRanges::new(alloc),
             first: 0,
         }
     }

@@ -1,8 +1,10 @@
 //! Each public call once, on values that are known from outside.
 
+use crate::places::Places;
+use crate::ranges::StepRanges;
 use crate::{
     Action, Atom, Cond, GroundCond, InitialAtoms, Name, NameTable, OpenSteps, Pattern, Plan, Seq,
-    ShortSeq, StepList, StepText, Task, TaskParts, Term, TypeList, Word, WordList, laws,
+    ShortSeq, StepList, StepRange, StepText, Task, TaskParts, Term, TypeList, Word, WordList, laws,
 };
 use pddl_words::{WordKind, word_kind};
 use std::alloc::{AllocError, Global};
@@ -46,6 +48,56 @@ fn names_are_in_lower_case(rt: HostRuntime) -> Result<(), Fail> {
         assert!(rt; words.get(0) == b"on".as_slice());
         assert!(rt; words.get(1) == b"a-b_1".as_slice());
     }
+    Ok(())
+}
+
+/// The place with a number; 0 where there is none.
+fn place_at(places: &Places, number: usize) -> usize {
+    if number < places.len() {
+        places.get(number)
+    } else {
+        0
+    }
+}
+
+#[test]
+fn far_places_stand_behind_near_ones(rt: HostRuntime) -> Result<(), Fail> {
+    let mut places = Places::new(rt.alloc());
+    places.push(7)?;
+    places.push(4_294_967_295)?;
+    places.push(4_294_967_296)?;
+    places.push(8)?;
+    assert_eq!(rt; places.len(), 4);
+    assert_eq!(rt; place_at(&places, 0), 7);
+    assert_eq!(rt; place_at(&places, 1), 4_294_967_295);
+    assert_eq!(rt; place_at(&places, 2), 4_294_967_296);
+    assert_eq!(rt; place_at(&places, 3), 8);
+    Ok(())
+}
+
+/// The range with a number; an empty one where there is none.
+fn range_at(ranges: &StepRanges, number: usize) -> StepRange {
+    if number < ranges.len() {
+        ranges.get(number)
+    } else {
+        StepRange { first: 0, end: 0 }
+    }
+}
+
+#[test]
+fn far_ranges_stand_behind_near_ones(rt: HostRuntime) -> Result<(), Fail> {
+    let far = StepRange {
+        first: 3,
+        end: 4_294_967_296,
+    };
+    let mut ranges = StepRanges::new(rt.alloc());
+    ranges.push(StepRange { first: 0, end: 3 })?;
+    ranges.push(far)?;
+    ranges.push(StepRange { first: 4, end: 6 })?;
+    assert_eq!(rt; ranges.len(), 3);
+    assert_eq!(rt; range_at(&ranges, 0), StepRange { first: 0, end: 3 });
+    assert_eq!(rt; range_at(&ranges, 1), far);
+    assert_eq!(rt; range_at(&ranges, 2), StepRange { first: 4, end: 6 });
     Ok(())
 }
 

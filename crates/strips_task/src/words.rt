@@ -4,6 +4,7 @@
 ghost use Rattle.std.specs.Prelude.{◌≡◌, ◌+◌, ◌<◌, ℕ, List, [], ◌∷◌, ◌++◌, length, slice_get, OnOk, OnErr, Some, ◌≤◌, vec_len, vec_capacity, slice_index, ◌-◌, take, drop};
 ghost use Rattle.pddl_words.specs.Words.{folded};
 
+use crate::places::Places;
 use std::alloc::{AllocError, Global};
 use std::marker::Model;
 
@@ -11,7 +12,7 @@ use std::marker::Model;
 #[derive(Debug, Drop)]
 pub struct WordList {
     bytes: Vec<u8>,
-    ends: Vec<usize>,
+    ends: Places,
 }
 
 impl Model for WordList {
@@ -20,9 +21,9 @@ impl Model for WordList {
 
     ghost Value = { List (List ℕ) };
 
-    ghost view = { λ s. parts_from s.bytes.items 0 s.ends.items };
+    ghost view = { λ s. parts_from s.bytes.items 0 s.ends };
 
-    ghost invariant = { λ s. AreEnds 0 s.ends.items (length s.bytes.items) };
+    ghost invariant = { λ s. AreEnds 0 s.ends (length s.bytes.items) };
 }
 
 impl WordList {
@@ -32,7 +33,7 @@ impl WordList {
     {
         WordList {
             bytes: Vec::new(alloc),
-            ends: Vec::new(alloc),
+            ends: Places::new(alloc),
         }
     }
 
@@ -42,9 +43,8 @@ impl WordList {
         ensures err { OnErr result (self.new ≡ self.old) }
     {
         self.bytes.reserve(word.len())?;
-        self.ends.reserve(1)?;
+        self.ends.push(self.bytes.len() + word.len())?;
         append_folded(&mut self.bytes, word);
-        self.ends.push_reserved(self.bytes.len());
         Ok(())
     }
 
@@ -60,8 +60,8 @@ impl WordList {
         requires { place < length self.now }
         ensures { slice_get self.now place ≡ Some result.now }
     {
-        let start = start_of(self.ends.as_slice(), place);
-        part_of(self.bytes.as_slice(), start, self.ends[place])
+        let start = start_of(&self.ends, place);
+        part_of(self.bytes.as_slice(), start, self.ends.get(place))
     }
 }
 
@@ -76,11 +76,11 @@ fn append_folded(bytes: &mut Vec<u8>, word: &[u8])
 }
 
 /// Where a part starts: at the end of the one before it.
-fn start_of(ends: &[usize], place: usize) -> usize
+fn start_of(ends: &Places, place: usize) -> usize
     requires { place < length ends.now }
     ensures { result ≡ slice_index (0 ∷ ends.now) place }
 {
-    if place == 0 { 0 } else { ends[place - 1] }
+    if place == 0 { 0 } else { ends.get(place - 1) }
 }
 
 /// The bytes between two places.
