@@ -4,9 +4,9 @@ use Rattle.std.proofs.Common.{◌≡◌, ℕ, List, Some, None, refl}
 use Rattle.std.specs.List.{slice_get}
 use Rattle.std.specs.Map.{values_of}
 use Rattle.strips_task.specs.declared.actions.Term.{Term}
-use Rattle.pddl_reader.specs.declared.syntax.AtomSyntax.{AtomSyntax}
+use Rattle.pddl_syntax.specs.declared.syntax.AtomSyntax.{AtomSyntax}
 use Rattle.pddl_reader.specs.Declarations.{Known, fitted_all, fitted_places, predicate_number, object_in_place, term_in_place, pattern_by, pattern_of, ground_by, ground_of}
-use Rattle.pddl_reader.specs.Forms.{atom_form, word_forms}
+use Rattle.pddl_syntax.specs.Forms.{atom_form, word_forms}
 use Rattle.pddl_reader.specs.Variables.{Parameters}
 use Rattle.pddl_reader.proofs.TableSteps.{number_taken, taken_within}
 

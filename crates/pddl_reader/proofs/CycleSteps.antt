@@ -15,12 +15,13 @@ use Rattle.strips_task.specs.Types.{IsTypeTree, is_within, is_below, ancestor}
 use Rattle.strips_task.proofs.Numbered.{item_within}
 use Rattle.strips_task.proofs.TypeTrees.{below_from_within, ancestor-object}
 use Rattle.pddl_reader.specs.declared.resolution.types.TypeTables.{TypeTables}
-use Rattle.pddl_reader.specs.Keywords.{object_word}
-use Rattle.pddl_reader.specs.Optional.{guard, through}
-use Rattle.pddl_reader.specs.Syntax.{NameGroup}
+use Rattle.pddl_syntax.specs.Keywords.{object_word}
+use Rattle.pddl_syntax.specs.Optional.{guard, through}
+use Rattle.pddl_syntax.specs.Syntax.{NameGroup}
 use Rattle.pddl_reader.specs.Tables.{value_at, value_named}
 use Rattle.pddl_reader.specs.TypeOrder.{TypeNames, TypeParents, numbered, under, declared_under, tables_of, type_declared, parent_numbered, group_declared, object_alone, types_declared, parent_name, parent_number, parents_of, is_tree, is_under_itself, numbers_cycle, names_cycle, declares_cycle}
-use Rattle.pddl_reader.proofs.Through.{through_keeps, guard_held}
+use Rattle.pddl_syntax.proofs.Guards.{guard_held}
+use Rattle.pddl_reader.proofs.Through.{through_keeps}
 use Rattle.pddl_reader.proofs.TypeCycles.{tree_without_cycles}
 use Rattle.pddl_reader.proofs.TableSteps.{entry_at}
 use Rattle.pddl_reader.proofs.TypeSteps.{parent_unnamed}

@@ -7,17 +7,17 @@ use Rattle.pddl_words.specs.Words.{folded}
 use Rattle.strips_task.specs.declared.actions.Cond.{Cond}
 use Rattle.strips_task.specs.declared.actions.Pattern.{Pattern}
 use Rattle.strips_task.specs.Names.{number_named}
-use Rattle.pddl_reader.specs.declared.syntax.PredicateSyntax.{PredicateSyntax}
-use Rattle.pddl_reader.specs.declared.syntax.LiteralSyntax.{LiteralSyntax}
-use Rattle.pddl_reader.specs.Optional.{guard, through, with_front}
-use Rattle.pddl_reader.specs.Forms.{predicate_form, predicate_forms, literal_form, literal_forms}
+use Rattle.pddl_syntax.specs.declared.syntax.PredicateSyntax.{PredicateSyntax}
+use Rattle.pddl_syntax.specs.declared.syntax.LiteralSyntax.{LiteralSyntax}
+use Rattle.pddl_syntax.specs.Optional.{guard, through, with_front}
+use Rattle.pddl_syntax.specs.Forms.{predicate_form, predicate_forms, literal_form, literal_forms}
 use Rattle.pddl_reader.specs.Declarations.{Known, Predicates, may_declare, declared, pattern_of, condition_of, conditions_of}
 use Rattle.pddl_reader.specs.Domain.{declared_predicate, with_predicate, predicates_from}
 use Rattle.pddl_reader.specs.Variables.{Parameters, places_of}
 use Rattle.pddl_reader.proofs.Through.{through_behind, through_item, through_end}
-use Rattle.pddl_reader.specs.Syntax.{LiteralForm, PredicateForm}
+use Rattle.pddl_syntax.specs.Syntax.{LiteralForm, PredicateForm}
 use Rattle.pddl_reader.proofs.Items.{item_steps}
-use Rattle.pddl_reader.proofs.ListsOf.{with_front-followed_by, with_item, item_none, item_some, front_none}
+use Rattle.pddl_syntax.proofs.ListsOf.{with_front-followed_by, with_item, item_none, item_some, front_none}
 
 pub condition_none : (known : Known) (p : Parameters) (l : LiteralForm) → pattern_of known p l.atom ≡ None → condition_of known p l ≡ None
 unfolding condition_of

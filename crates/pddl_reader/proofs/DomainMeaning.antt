@@ -5,54 +5,55 @@ use Rattle.std.specs.Global.{Vec}
 use Rattle.std.specs.Map.{keys_of}
 use Rattle.pddl_reader.specs.declared.resolution.domain.Head.{Head}
 use Rattle.pddl_reader.specs.declared.resolution.types.KnownTypes.{KnownTypes}
-use Rattle.pddl_reader.specs.declared.syntax.DomainSyntax.{DomainSyntax}
-use Rattle.pddl_reader.specs.declared.syntax.NameGroup as groups
-use Rattle.pddl_reader.specs.declared.syntax.PredicateSyntax.{PredicateSyntax}
-use Rattle.pddl_reader.specs.Forms.{name_groups, predicate_forms, action_forms, given_groups, given_predicates, domain_sections_form, domain_syntax_form}
+use Rattle.pddl_syntax.specs.declared.syntax.DomainSyntax.{DomainSyntax}
+use Rattle.pddl_syntax.specs.declared.syntax.NameGroup as groups
+use Rattle.pddl_syntax.specs.declared.syntax.PredicateSyntax.{PredicateSyntax}
+use Rattle.pddl_syntax.specs.Forms.{name_groups, predicate_forms, action_forms, domain_sections_form, domain_syntax_form}
+use Rattle.pddl_reader.specs.Parts.{part_items}
 use Rattle.pddl_reader.specs.Declarations.{Predicates}
 use Rattle.pddl_reader.specs.Domain.{Actions, predicates_from, actions_from, head, head_typed, head_of, known_by, domain_value, domain_with, domain_headed, domain_of}
 use Rattle.pddl_reader.specs.Objects.{Objects, objects_from}
-use Rattle.pddl_reader.specs.Syntax.{DomainForm, domain_form}
+use Rattle.pddl_syntax.specs.Syntax.{DomainForm, domain_form}
 use Rattle.pddl_reader.specs.TypeOrder.{types_of}
 
-pub types_given : (syntax : DomainSyntax) → (domain_syntax_form syntax).types ≡ name_groups (given_groups syntax.sections.types)
-unfolding domain_form domain_sections_form given_groups name_groups
+pub types_given : (syntax : DomainSyntax) → (domain_syntax_form syntax).types ≡ name_groups (part_items syntax.sections.types)
+unfolding domain_form domain_sections_form part_items name_groups
 types_given syntax = by syntax.sections.types
   where
     by : (types : Option (Vec groups.NameGroup)) →
-        (domain_form syntax.name.text.now (domain_sections_form (record syntax.sections { types = types }))).types ≡ name_groups (given_groups types)
+        (domain_form syntax.name.text.now (domain_sections_form (record syntax.sections { types = types }))).types ≡ name_groups (part_items types)
     by None = refl
     by (Some v) = refl
 
-pub constants_given : (syntax : DomainSyntax) → (domain_syntax_form syntax).constants ≡ name_groups (given_groups syntax.sections.constants)
-unfolding domain_form domain_sections_form given_groups name_groups
+pub constants_given : (syntax : DomainSyntax) → (domain_syntax_form syntax).constants ≡ name_groups (part_items syntax.sections.constants)
+unfolding domain_form domain_sections_form part_items name_groups
 constants_given syntax = by syntax.sections.constants
   where
     by : (constants : Option (Vec groups.NameGroup)) →
-        (domain_form syntax.name.text.now (domain_sections_form (record syntax.sections { constants = constants }))).constants ≡ name_groups (given_groups constants)
+        (domain_form syntax.name.text.now (domain_sections_form (record syntax.sections { constants = constants }))).constants ≡ name_groups (part_items constants)
     by None = refl
     by (Some v) = refl
 
-pub predicates_given : (syntax : DomainSyntax) → (domain_syntax_form syntax).predicates ≡ predicate_forms (given_predicates syntax.sections.predicates)
-unfolding domain_form domain_sections_form given_predicates predicate_forms
+pub predicates_given : (syntax : DomainSyntax) → (domain_syntax_form syntax).predicates ≡ predicate_forms (part_items syntax.sections.predicates)
+unfolding domain_form domain_sections_form part_items predicate_forms
 predicates_given syntax = by syntax.sections.predicates
   where
     by : (predicates : Option (Vec PredicateSyntax)) →
-        (domain_form syntax.name.text.now (domain_sections_form (record syntax.sections { predicates = predicates }))).predicates ≡ predicate_forms (given_predicates predicates)
+        (domain_form syntax.name.text.now (domain_sections_form (record syntax.sections { predicates = predicates }))).predicates ≡ predicate_forms (part_items predicates)
     by None = refl
     by (Some v) = refl
 
-pub no_types : (syntax : DomainSyntax) → types_of (name_groups (given_groups syntax.sections.types)) ≡ None → head_of (domain_syntax_form syntax) ≡ None
+pub no_types : (syntax : DomainSyntax) → types_of (name_groups (part_items syntax.sections.types)) ≡ None → head_of (domain_syntax_form syntax) ≡ None
 unfolding head_of head_typed
 no_types syntax h = rw (types_given syntax, h) refl
 
-pub no_constants : (syntax : DomainSyntax) (types : KnownTypes) → types_of (name_groups (given_groups syntax.sections.types)) ≡ Some types →
-    objects_from (keys_of types.names) [] (name_groups (given_groups syntax.sections.constants)) ≡ None → head_of (domain_syntax_form syntax) ≡ None
+pub no_constants : (syntax : DomainSyntax) (types : KnownTypes) → types_of (name_groups (part_items syntax.sections.types)) ≡ Some types →
+    objects_from (keys_of types.names) [] (name_groups (part_items syntax.sections.constants)) ≡ None → head_of (domain_syntax_form syntax) ≡ None
 unfolding head_of head_typed
 no_constants syntax types h e = rw (types_given syntax, h, constants_given syntax, e) refl
 
-pub head_meant : (syntax : DomainSyntax) (types : KnownTypes) (objects : Objects) → types_of (name_groups (given_groups syntax.sections.types)) ≡ Some types →
-    objects_from (keys_of types.names) [] (name_groups (given_groups syntax.sections.constants)) ≡ Some objects →
+pub head_meant : (syntax : DomainSyntax) (types : KnownTypes) (objects : Objects) → types_of (name_groups (part_items syntax.sections.types)) ≡ Some types →
+    objects_from (keys_of types.names) [] (name_groups (part_items syntax.sections.constants)) ≡ Some objects →
     head_of (domain_syntax_form syntax) ≡ Some (head syntax.name.text.now types objects)
 unfolding head_of head_typed domain_form
 head_meant syntax types objects h e = rw (types_given syntax, h, constants_given syntax, e) refl
@@ -64,7 +65,7 @@ unfolding domain_of domain_headed
 no_head domain h = rw h refl
 
 pub with_head : (syntax : DomainSyntax) (head : Head) → head_of (domain_syntax_form syntax) ≡ Some head →
-    domain_of (domain_syntax_form syntax) ≡ domain_with (domain_syntax_form syntax) head (predicates_from (keys_of head.types) [] (predicate_forms (given_predicates syntax.sections.predicates)))
+    domain_of (domain_syntax_form syntax) ≡ domain_with (domain_syntax_form syntax) head (predicates_from (keys_of head.types) [] (predicate_forms (part_items syntax.sections.predicates)))
 unfolding domain_of domain_headed
 with_head syntax head h = rw (h, predicates_given syntax) refl
 

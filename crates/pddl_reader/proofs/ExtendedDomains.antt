@@ -8,7 +8,7 @@ use Rattle.pddl_reader.specs.Domain.{DomainValue}
 use Rattle.pddl_reader.specs.Domains.{IsDomain}
 use Rattle.pddl_reader.specs.Objects.{Objects, objects_from}
 use Rattle.pddl_reader.specs.Problem.{domain_extended}
-use Rattle.pddl_reader.specs.Syntax.{NameGroup}
+use Rattle.pddl_syntax.specs.Syntax.{NameGroup}
 use Rattle.pddl_reader.proofs.KeptObjects.{objects_kept, objects_behind}
 use Rattle.pddl_reader.proofs.MoreObjects.{domain_stays}
 

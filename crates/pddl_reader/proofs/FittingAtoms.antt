@@ -13,10 +13,10 @@ use Rattle.strips_task.specs.declared.atoms.Atom.{Atom}
 use Rattle.strips_task.specs.declared.tasks.TaskParts.{TaskParts}
 use Rattle.strips_task.specs.WellFormed.{term_types, is_fitting, are_fitting, is_pattern, is_atom}
 use Rattle.pddl_reader.specs.Declarations.{Known, types_of_term, fitted_all, fitted_places, object_number, term_named, term_fitted, term_in_place, object_fitted, object_in_place, pattern_with, pattern_by, pattern_of, ground_with, ground_by, ground_of, predicate_number}
-use Rattle.pddl_reader.specs.Optional.{followed_by}
-use Rattle.pddl_reader.specs.Syntax.{AtomForm}
+use Rattle.pddl_syntax.specs.Optional.{followed_by}
+use Rattle.pddl_syntax.specs.Syntax.{AtomForm}
 use Rattle.pddl_reader.specs.Variables.{Parameters}
-use Rattle.pddl_reader.proofs.Through.{guard_held}
+use Rattle.pddl_syntax.proofs.Guards.{guard_held}
 
 -- what the atoms of a task may speak of
 abbrev pub known_of : TaskParts → Known

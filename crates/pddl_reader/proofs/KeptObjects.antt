@@ -14,11 +14,12 @@ use Rattle.strips_task.proofs.NameNumbers.{entries_distinct}
 use Rattle.pddl_reader.specs.declared.resolution.types.KnownTypes.{KnownTypes}
 use Rattle.pddl_reader.specs.declared.resolution.types.TypeTables.{TypeTables}
 use Rattle.pddl_reader.specs.Objects.{Objects, type_number, of_type, object_declared, objects_typed, objects_grouped, objects_from}
-use Rattle.pddl_reader.specs.Optional.{guard}
-use Rattle.pddl_reader.specs.Syntax.{NameGroup}
+use Rattle.pddl_syntax.specs.Optional.{guard}
+use Rattle.pddl_syntax.specs.Syntax.{NameGroup}
 use Rattle.pddl_reader.specs.Tables.{value_at, value_named}
 use Rattle.pddl_reader.specs.TypeOrder.{types_declared, parent_number, parents_of, is_tree, ordered, types_of}
-use Rattle.pddl_reader.proofs.Through.{through_keeps, guard_held}
+use Rattle.pddl_syntax.proofs.Guards.{guard_held}
+use Rattle.pddl_reader.proofs.Through.{through_keeps}
 use Rattle.pddl_reader.proofs.TypeSteps.{AreFew, declared-few}
 use Rattle.pddl_reader.proofs.TypeTests.{tree_from}
 

@@ -8,15 +8,16 @@ use Rattle.std.specs.List.{list_all}
 use Rattle.std.specs.Option.{option_and_then, option_map}
 use Rattle.strips_task.specs.WellFormed.{are_alternatives, are_variables}
 use Rattle.pddl_reader.specs.declared.resolution.variables.ActionParameters.{ActionParameters}
-use Rattle.pddl_reader.specs.Forms.{word_forms}
-use Rattle.pddl_reader.specs.declared.walk.Word.{Word}
+use Rattle.pddl_syntax.specs.Forms.{word_forms}
+use Rattle.pddl_syntax.specs.declared.walk.Word.{Word}
 use Rattle.pddl_reader.specs.Objects.{type_number}
-use Rattle.pddl_reader.specs.Optional.{guard, through}
+use Rattle.pddl_syntax.specs.Optional.{guard, through}
 use Rattle.pddl_reader.specs.Resolved.{parameters_form}
-use Rattle.pddl_reader.specs.Syntax.{VariableGroup}
+use Rattle.pddl_syntax.specs.Syntax.{VariableGroup}
 use Rattle.pddl_reader.specs.Variables.{alternative_behind, alternative_named, alternatives_of, places_behind, group_placed, places_of, Parameters, parameter_number, parameter_named, parameters_with, group_named, no_parameters, parameters_of}
 use Rattle.pddl_reader.proofs.KeptObjects.{type_number-within}
-use Rattle.pddl_reader.proofs.Through.{through_keeps, guard_held}
+use Rattle.pddl_syntax.proofs.Guards.{guard_held}
+use Rattle.pddl_reader.proofs.Through.{through_keeps}
 
 -- numbers of types, no more than the limit
 record AreTypes (count : ℕ) (numbers : List ℕ) : Type 0 where

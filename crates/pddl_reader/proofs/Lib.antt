@@ -1,12 +1,4 @@
-pub mod Depths
-pub mod LevelSteps
-pub mod ListSteps
-pub mod FormulaSteps
-pub mod ActionSteps
-pub mod ListsOf
-pub mod TypedSteps
-pub mod WordSteps
-pub mod VariableSteps
+pub mod Items
 pub mod Through
 pub mod TypeTests
 pub mod TypeCycles
@@ -16,8 +8,6 @@ pub mod ObjectSteps
 pub mod KeptObjects
 pub mod MoreObjects
 pub mod ExtendedDomains
-pub mod DomainSteps
-pub mod ProblemSteps
 pub mod TableSteps
 pub mod VariableMeaning
 pub mod TermSteps
@@ -25,13 +15,9 @@ pub mod AtomSteps
 pub mod KeptVariables
 pub mod FittingAtoms
 pub mod DeclarationSteps
-pub mod Items
 pub mod ActionMeaning
 pub mod WellFormedDomains
 pub mod WellFormedTasks
 pub mod DomainMeaning
 pub mod ProblemMeaning
 pub mod TextSteps
-pub mod Spelling
-pub mod Sizes
-pub mod Balanced

@@ -6,12 +6,12 @@ use Rattle.std.specs.List.{slice_get}
 use Rattle.std.specs.Map.{keys_of}
 use Rattle.pddl_words.specs.Words.{folded}
 use Rattle.strips_task.specs.Names.{number_named}
-use Rattle.pddl_reader.specs.declared.walk.NameWord.{NameWord}
-use Rattle.pddl_reader.specs.declared.syntax.NameGroup as groups
-use Rattle.pddl_reader.specs.Forms.{name_forms, name_group_form, name_groups}
+use Rattle.pddl_syntax.specs.declared.walk.NameWord.{NameWord}
+use Rattle.pddl_syntax.specs.declared.syntax.NameGroup as groups
+use Rattle.pddl_syntax.specs.Forms.{name_forms, name_group_form, name_groups}
 use Rattle.pddl_reader.specs.Objects.{Objects, type_number, of_type, object_declared, objects_typed, objects_grouped, objects_from}
-use Rattle.pddl_reader.specs.Optional.{guard, through}
-use Rattle.pddl_reader.specs.Syntax.{NameGroup}
+use Rattle.pddl_syntax.specs.Optional.{guard, through}
+use Rattle.pddl_syntax.specs.Syntax.{NameGroup}
 use Rattle.pddl_reader.proofs.TableSteps.{value_unnamed, value_numbered}
 use Rattle.pddl_reader.proofs.Through.{through_behind, through_item, through_end}
 

@@ -5,17 +5,18 @@ use Rattle.std.proofs.lemmas.List.{append-nil}
 use Rattle.std.specs.Global.{Vec}
 use Rattle.strips_task.specs.declared.atoms.Atom.{Atom}
 use Rattle.strips_task.specs.declared.atoms.GroundCond.{GroundCond}
-use Rattle.pddl_reader.specs.declared.syntax.LiteralSyntax.{LiteralSyntax}
-use Rattle.pddl_reader.specs.declared.syntax.ProblemSyntax.{ProblemSyntax}
-use Rattle.pddl_reader.specs.Optional.{followed_by, with_front}
-use Rattle.pddl_reader.specs.Forms.{literal_form, literal_forms, given_groups, given_literals, name_groups, problem_syntax_form}
-use Rattle.pddl_reader.specs.declared.syntax.NameGroup as groups
+use Rattle.pddl_syntax.specs.declared.syntax.LiteralSyntax.{LiteralSyntax}
+use Rattle.pddl_syntax.specs.declared.syntax.ProblemSyntax.{ProblemSyntax}
+use Rattle.pddl_syntax.specs.Optional.{followed_by, with_front}
+use Rattle.pddl_syntax.specs.Forms.{literal_form, literal_forms, name_groups, problem_syntax_form}
+use Rattle.pddl_reader.specs.Parts.{part_items}
+use Rattle.pddl_syntax.specs.declared.syntax.NameGroup as groups
 use Rattle.pddl_reader.specs.Declarations.{Known, ground_of}
 use Rattle.pddl_reader.specs.Domain.{DomainValue}
 use Rattle.pddl_reader.specs.Problem.{known_in, ground_condition_of, ground_conditions_of, initial_before, initial_of, task_value, task_with, domain_extended, problem_within, problem_of}
-use Rattle.pddl_reader.specs.Syntax.{LiteralForm}
+use Rattle.pddl_syntax.specs.Syntax.{LiteralForm}
 use Rattle.pddl_reader.proofs.Items.{item_steps}
-use Rattle.pddl_reader.proofs.ListsOf.{with_item, item_none, item_some, front_none, with_front-followed_by}
+use Rattle.pddl_syntax.proofs.ListsOf.{with_item, item_none, item_some, front_none, with_front-followed_by}
 
 pub condition_none : (known : Known) (l : LiteralForm) → ground_of known l.atom ≡ None → ground_condition_of known l ≡ None
 unfolding ground_condition_of
@@ -90,30 +91,30 @@ after_negated front given others h = rw h refl
 pub ruleset initial_steps = (item_steps, front_none, initial_item, initial_end, after_none, after_positive, after_negated)
 
 pub meant_parts : (domain : DomainValue) (syntax : ProblemSyntax) → problem_within (problem_syntax_form syntax) (Some domain)
-    ≡ task_with domain syntax.name.text.now (initial_of (known_in domain) (literal_forms (given_literals syntax.init)))
+    ≡ task_with domain syntax.name.text.now (initial_of (known_in domain) (literal_forms (part_items syntax.init)))
     (ground_conditions_of (known_in domain) (literal_forms syntax.goal.items))
-unfolding problem_within given_literals literal_forms
+unfolding problem_within part_items literal_forms
 meant_parts domain syntax = by syntax.init
   where
     by : (init : Option (Vec LiteralSyntax)) →
         problem_within (problem_syntax_form (record syntax { init = init })) (Some domain)
-        ≡ task_with domain syntax.name.text.now (initial_of (known_in domain) (literal_forms (given_literals init)))
+        ≡ task_with domain syntax.name.text.now (initial_of (known_in domain) (literal_forms (part_items init)))
         (ground_conditions_of (known_in domain) (literal_forms syntax.goal.items))
     by None = refl
     by (Some v) = refl
 
-pub no_initial : (domain : DomainValue) (syntax : ProblemSyntax) → initial_of (known_in domain) (literal_forms (given_literals syntax.init)) ≡ None →
+pub no_initial : (domain : DomainValue) (syntax : ProblemSyntax) → initial_of (known_in domain) (literal_forms (part_items syntax.init)) ≡ None →
     problem_within (problem_syntax_form syntax) (Some domain) ≡ None
 unfolding task_with
 no_initial domain syntax h = rw (meant_parts domain syntax, h) refl
 
-pub no_goal : (domain : DomainValue) (syntax : ProblemSyntax) (init : List Atom) → initial_of (known_in domain) (literal_forms (given_literals syntax.init)) ≡ Some init →
+pub no_goal : (domain : DomainValue) (syntax : ProblemSyntax) (init : List Atom) → initial_of (known_in domain) (literal_forms (part_items syntax.init)) ≡ Some init →
     ground_conditions_of (known_in domain) (literal_forms syntax.goal.items) ≡ None → problem_within (problem_syntax_form syntax) (Some domain) ≡ None
 unfolding task_with
 no_goal domain syntax init h e = rw (meant_parts domain syntax, h, e) refl
 
 pub problem_meant : (domain : DomainValue) (syntax : ProblemSyntax) (init : List Atom) (goal : List GroundCond) →
-    initial_of (known_in domain) (literal_forms (given_literals syntax.init)) ≡ Some init →
+    initial_of (known_in domain) (literal_forms (part_items syntax.init)) ≡ Some init →
     ground_conditions_of (known_in domain) (literal_forms syntax.goal.items) ≡ Some goal →
     problem_within (problem_syntax_form syntax) (Some domain) ≡ Some (task_value domain syntax.name.text.now init goal)
 unfolding task_with
@@ -121,20 +122,20 @@ problem_meant domain syntax init goal h e = rw (meant_parts domain syntax, h, e)
 
 pub ruleset problem_steps = (no_initial, no_goal)
 
-pub objects_given : (syntax : ProblemSyntax) → (problem_syntax_form syntax).objects ≡ name_groups (given_groups syntax.objects)
-unfolding given_groups name_groups
+pub objects_given : (syntax : ProblemSyntax) → (problem_syntax_form syntax).objects ≡ name_groups (part_items syntax.objects)
+unfolding part_items name_groups
 objects_given syntax = by syntax.objects
   where
-    by : (objects : Option (Vec groups.NameGroup)) → (problem_syntax_form (record syntax { objects = objects })).objects ≡ name_groups (given_groups objects)
+    by : (objects : Option (Vec groups.NameGroup)) → (problem_syntax_form (record syntax { objects = objects })).objects ≡ name_groups (part_items objects)
     by None = refl
     by (Some v) = refl
 
-pub not_extended : (domain : DomainValue) (syntax : ProblemSyntax) → domain_extended domain (name_groups (given_groups syntax.objects)) ≡ None →
+pub not_extended : (domain : DomainValue) (syntax : ProblemSyntax) → domain_extended domain (name_groups (part_items syntax.objects)) ≡ None →
     problem_of domain (problem_syntax_form syntax) ≡ None
 unfolding problem_of problem_within
 not_extended domain syntax h = rw (objects_given syntax, h) refl
 
-pub when_extended : (domain more : DomainValue) (syntax : ProblemSyntax) → domain_extended domain (name_groups (given_groups syntax.objects)) ≡ Some more →
+pub when_extended : (domain more : DomainValue) (syntax : ProblemSyntax) → domain_extended domain (name_groups (part_items syntax.objects)) ≡ Some more →
     problem_of domain (problem_syntax_form syntax) ≡ problem_within (problem_syntax_form syntax) (Some more)
 unfolding problem_of
 when_extended domain more syntax h = rw (objects_given syntax, h) refl

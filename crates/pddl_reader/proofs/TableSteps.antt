@@ -11,12 +11,12 @@ use Rattle.std.specs.Option.{option_map}
 use Rattle.std.specs.Str.{bytes_eq}
 use Rattle.pddl_words.specs.Words.{folded}
 use Rattle.strips_task.specs.Names.{number_named}
-use Rattle.pddl_reader.specs.Optional.{guard}
+use Rattle.pddl_syntax.specs.Optional.{guard}
 use Rattle.pddl_reader.specs.Declarations.{Predicates, may_declare, are_as_many, takes_terms, predicate_taking, predicate_number}
-use Rattle.pddl_reader.specs.declared.syntax.AtomSyntax.{AtomSyntax}
-use Rattle.pddl_reader.specs.declared.walk.Word.{Word}
-use Rattle.pddl_reader.specs.Forms.{atom_form, word_forms}
-use Rattle.pddl_reader.proofs.Through.{guard_held}
+use Rattle.pddl_syntax.specs.declared.syntax.AtomSyntax.{AtomSyntax}
+use Rattle.pddl_syntax.specs.declared.walk.Word.{Word}
+use Rattle.pddl_syntax.specs.Forms.{atom_form, word_forms}
+use Rattle.pddl_syntax.proofs.Guards.{guard_held}
 use Rattle.pddl_reader.specs.Tables.{value_at, value_named}
 
 -- a name that an entry has may not be declared

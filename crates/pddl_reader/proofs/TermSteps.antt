@@ -10,15 +10,15 @@ use Rattle.strips_task.specs.declared.actions.Term.TheVariants.{Param, Object}
 use Rattle.strips_task.specs.Names.{number_named}
 use Rattle.strips_task.specs.Types.{is_below}
 use Rattle.strips_task.specs.WellFormed.{fits, is_fitting}
-use Rattle.pddl_reader.specs.declared.walk.Word.{Word}
+use Rattle.pddl_syntax.specs.declared.walk.Word.{Word}
 use Rattle.pddl_reader.specs.Declarations.{Known, types_of_term, fitted_all, object_number, term_named, term_fitted, term_in_place, object_fitted, object_in_place}
-use Rattle.pddl_reader.specs.Forms.{word_forms}
-use Rattle.pddl_reader.specs.Heads.{is_variable}
+use Rattle.pddl_syntax.specs.Forms.{word_forms}
+use Rattle.pddl_syntax.specs.Heads.{is_variable}
 use Rattle.pddl_reader.specs.Objects.{Objects}
-use Rattle.pddl_reader.specs.Optional.{guard, with_front}
+use Rattle.pddl_syntax.specs.Optional.{guard, with_front}
 use Rattle.pddl_reader.specs.Variables.{Parameters, parameter_number}
 use Rattle.pddl_reader.proofs.Items.{item_steps, word_item_steps}
-use Rattle.pddl_reader.proofs.ListsOf.{with_item, with_front-followed_by, item_none, item_some, front_none}
+use Rattle.pddl_syntax.proofs.ListsOf.{with_item, with_front-followed_by, item_none, item_some, front_none}
 
 pub parameter_fits : (known : Known) (params : List (List ℕ)) (place : List ℕ) (number : ℕ) (types : List ℕ) → slice_get params number ≡ Some types →
     is_fitting known.parents (types_of_term known params (Param number)) place ≡ fits known.parents types place

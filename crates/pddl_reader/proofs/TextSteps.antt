@@ -1,18 +1,13 @@
 -- What whole texts stand for, one equation for each case.
 
 use Rattle.std.proofs.Common.{◌≡◌, ℕ, List, Some, None, refl}
-use Rattle.pddl_tokens.specs.Tokens.{pieces}
-use Rattle.pddl_reader.specs.declared.fault.ReadFault.{ReadFault}
+use Rattle.pddl_syntax.specs.declared.fault.ReadFault.{ReadFault}
 use Rattle.pddl_reader.specs.Domain.{DomainValue, domain_of}
-use Rattle.pddl_reader.specs.Levels.{here, trees}
+use Rattle.pddl_syntax.specs.Levels.{trees}
 use Rattle.pddl_reader.specs.Problem.{problem_of}
-use Rattle.pddl_reader.specs.Syntax.{DomainForm, ProblemForm, domain_syntax, problem_syntax}
+use Rattle.pddl_syntax.specs.Syntax.{DomainForm, ProblemForm, domain_syntax, problem_syntax}
 use Rattle.pddl_reader.specs.Texts.{unless_fault, domain_of_text, problem_of_text}
-use Rattle.pddl_reader.specs.Trees.{text_fault}
-
-pub trees_here : (text : List ℕ) → trees text ≡ (here (pieces text)).top
-unfolding trees
-trees_here text = refl
+use Rattle.pddl_syntax.specs.Trees.{text_fault}
 
 pub domain_fault : (text : List ℕ) (e : ReadFault) → text_fault text ≡ Some e → domain_of_text text ≡ None
 unfolding domain_of_text unless_fault

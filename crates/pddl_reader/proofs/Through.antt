@@ -2,7 +2,7 @@
 
 use Rattle.std.proofs.Common.{◌≡◌, Bool, true, false, List, [], ◌∷◌, Option, Some, None, refl, subst}
 use Rattle.std.specs.Option.{option_and_then}
-use Rattle.pddl_reader.specs.Optional.{guard, through}
+use Rattle.pddl_syntax.specs.Optional.{guard, through}
 use Rattle.pddl_reader.proofs.Items.{item_steps}
 
 -- what is left to do behind one step
@@ -47,9 +47,3 @@ through_keeps {S} {X} P step keeps s (x ∷ xs) t kept h =
         option_and_then (λ state. through step state xs) next ≡ Some t → P t
     by None first rest e = cc
     by (Some u) first rest e = rest u (first u refl) e
-
--- a guard that gives a value held
-pub guard_held : {A : Type 0} (test : Bool) (value found : A) → guard test (Some value) ≡ Some found → (test ≡ true) × (value ≡ found)
-unfolding guard
-guard_held true value found h = (refl, cc)
-guard_held false value found h = cc

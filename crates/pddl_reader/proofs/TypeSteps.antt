@@ -7,18 +7,19 @@ use Rattle.std.specs.List.{slice_get, list_any}
 use Rattle.std.specs.Str.{bytes_eq}
 use Rattle.pddl_words.specs.Words.{folded}
 use Rattle.strips_task.specs.Names.{number_named}
-use Rattle.pddl_reader.specs.declared.syntax.NameGroup as groups
-use Rattle.pddl_reader.specs.declared.walk.NameWord.{NameWord}
+use Rattle.pddl_syntax.specs.declared.syntax.NameGroup as groups
+use Rattle.pddl_syntax.specs.declared.walk.NameWord.{NameWord}
 use Rattle.pddl_reader.specs.declared.resolution.types.KnownTypes.{KnownTypes}
 use Rattle.pddl_reader.specs.declared.resolution.types.TypeTables.{TypeTables}
-use Rattle.pddl_reader.specs.Forms.{name_forms, name_group_form, name_groups}
-use Rattle.pddl_reader.specs.Keywords.{object_word}
-use Rattle.pddl_reader.specs.Optional.{guard, through}
-use Rattle.pddl_reader.specs.Syntax.{NameGroup}
+use Rattle.pddl_syntax.specs.Forms.{name_forms, name_group_form, name_groups}
+use Rattle.pddl_syntax.specs.Keywords.{object_word}
+use Rattle.pddl_syntax.specs.Optional.{guard, through}
+use Rattle.pddl_syntax.specs.Syntax.{NameGroup}
 use Rattle.pddl_reader.specs.TypeOrder.{TypeNames, TypeParents, numbered, under, declared_under, tables_of, type_declared, parent_numbered, group_declared, object_alone, types_declared, parent_name, parent_number, parents_of, is_tree, is_under_itself, numbers_cycle, names_cycle, declares_cycle, ordered, types_of}
 use Rattle.pddl_reader.proofs.Items.{item_steps}
 use Rattle.pddl_reader.proofs.TableSteps.{value_unnamed, value_numbered}
-use Rattle.pddl_reader.proofs.Through.{through_keeps, guard_held}
+use Rattle.pddl_syntax.proofs.Guards.{guard_held}
+use Rattle.pddl_reader.proofs.Through.{through_keeps}
 
 pub number_again : (names : TypeNames) (name : List ℕ) → is_some (number_named names name) ≡ true → numbered names name ≡ Some names
 unfolding numbered

@@ -6,18 +6,19 @@ use Rattle.std.proofs.lemmas.List.{append-nil, length-map, map_push}
 use Rattle.std.specs.List.{position_from}
 use Rattle.std.specs.Option.{option_map}
 use Rattle.pddl_words.specs.Kinds.{is_same_word}
-use Rattle.pddl_reader.specs.declared.syntax.VariableGroup as groups
-use Rattle.pddl_reader.specs.declared.walk.Word.{Word}
-use Rattle.pddl_reader.specs.Forms.{name_forms, word_forms, variable_group_form, variable_groups}
+use Rattle.pddl_syntax.specs.declared.syntax.VariableGroup as groups
+use Rattle.pddl_syntax.specs.declared.walk.Word.{Word}
+use Rattle.pddl_syntax.specs.Forms.{name_forms, word_forms, variable_group_form, variable_groups}
 use Rattle.pddl_reader.specs.Objects.{type_number}
-use Rattle.pddl_reader.specs.Optional.{guard, through}
-use Rattle.pddl_reader.specs.Syntax.{VariableGroup}
+use Rattle.pddl_syntax.specs.Optional.{guard, through}
+use Rattle.pddl_syntax.specs.Syntax.{VariableGroup}
 use Rattle.pddl_reader.specs.Variables.{alternative_behind, alternative_named, alternatives_of, places_behind, group_placed, places_of, Parameters, parameter_number, parameter_named, parameters_with, group_named, parameters_of}
 use Rattle.std.proofs.lemmas.List.{drop_all}
 use Rattle.pddl_reader.proofs.Items.{item_steps, word_at, word_item_steps}
 use Rattle.pddl_reader.proofs.ObjectSteps.{named_steps}
-use Rattle.pddl_reader.proofs.Through.{through_behind, through_item, through_end, through_steps, through_keeps, guard_held}
-use Rattle.pddl_reader.proofs.WordSteps.{no_words, word_forms-push}
+use Rattle.pddl_syntax.proofs.Guards.{guard_held}
+use Rattle.pddl_reader.proofs.Through.{through_behind, through_item, through_end, through_steps, through_keeps}
+use Rattle.pddl_syntax.proofs.WordSteps.{no_words, word_forms-push}
 
 pub alternatives_many : (types : List (List ℕ)) (numbers word : List ℕ) → 32 ≤ length numbers → alternative_named types numbers word ≡ None
 unfolding alternative_named guard

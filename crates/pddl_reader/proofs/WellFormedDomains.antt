@@ -16,7 +16,7 @@ use Rattle.strips_task.specs.Types.{IsTypeTree}
 use Rattle.strips_task.specs.WellFormed.{are_variables, is_pattern, is_action}
 use Rattle.strips_task.proofs.NameNumbers.{entries_distinct}
 use Rattle.pddl_reader.specs.declared.resolution.actions.Effects.{Effects}
-use Rattle.pddl_reader.specs.Optional.{guard, followed_by}
+use Rattle.pddl_syntax.specs.Optional.{guard, followed_by}
 use Rattle.pddl_reader.specs.Declarations.{Predicates, may_declare, declared, pattern_of, condition, condition_of, conditions_of}
 use Rattle.pddl_reader.specs.Variables.{Parameters, places_of, parameters_of}
 use Rattle.pddl_reader.proofs.FittingAtoms.{known_of, pattern_fits}
@@ -29,7 +29,7 @@ use Rattle.pddl_reader.specs.TypeOrder.{types_of}
 use Rattle.pddl_reader.specs.declared.resolution.domain.Head.{Head}
 use Rattle.pddl_reader.specs.declared.resolution.types.KnownTypes.{KnownTypes}
 use Rattle.pddl_reader.proofs.KeptObjects.{AreObjects, AreKnown, known_types, objects_kept, no_objects}
-use Rattle.pddl_reader.specs.Syntax.{LiteralForm, PredicateForm, ActionForm, DomainForm}
+use Rattle.pddl_syntax.specs.Syntax.{LiteralForm, PredicateForm, ActionForm, DomainForm}
 use Rattle.pddl_reader.proofs.DeclarationSteps.{may_declare_new, may_declare_length}
 
 no_names_distinct : are_distinct [] ≡ true

@@ -7,11 +7,11 @@ use Rattle.strips_task.specs.declared.atoms.Atom.{Atom}
 use Rattle.strips_task.specs.declared.atoms.GroundCond.{GroundCond}
 use Rattle.strips_task.specs.declared.tasks.TaskParts.{TaskParts}
 use Rattle.strips_task.specs.WellFormed.{IsWellFormed, term_types, is_pattern, is_atom, is_action}
-use Rattle.pddl_reader.specs.Optional.{followed_by}
+use Rattle.pddl_syntax.specs.Optional.{followed_by}
 use Rattle.pddl_reader.specs.Declarations.{ground_of}
 use Rattle.pddl_reader.specs.Domain.{DomainValue, bare_task}
 use Rattle.pddl_reader.specs.Problem.{known_in, ground_condition, ground_condition_of, ground_conditions_of, initial_before, initial_of, task_named}
-use Rattle.pddl_reader.specs.Syntax.{LiteralForm}
+use Rattle.pddl_syntax.specs.Syntax.{LiteralForm}
 use Rattle.pddl_reader.proofs.FittingAtoms.{known_of, atom_fits}
 
 ground_fits_by : (task : TaskParts) (positive : Bool) (atom : Option Atom) (c : GroundCond) → ((a : Atom) → atom ≡ Some a → is_atom task a ≡ true) →

@@ -9,13 +9,13 @@ use Rattle.strips_task.specs.declared.actions.Pattern.{Pattern}
 use Rattle.strips_task.specs.declared.actions.Term.{Term}
 use Rattle.strips_task.specs.declared.actions.Term.TheVariants.{Param, Object}
 use Rattle.strips_task.specs.WellFormed.{is_fitting}
-use Rattle.pddl_reader.specs.Heads.{is_variable}
+use Rattle.pddl_syntax.specs.Heads.{is_variable}
 use Rattle.pddl_reader.specs.Objects.{Objects}
 use Rattle.pddl_reader.specs.Variables.{Parameters, parameter_number}
 use Rattle.strips_task.specs.declared.actions.Cond.{Cond}
 use Rattle.strips_task.specs.Names.{number_named}
-use Rattle.pddl_reader.specs.Optional.{guard, followed_by}
-use Rattle.pddl_reader.specs.Syntax.{AtomForm, LiteralForm}
+use Rattle.pddl_syntax.specs.Optional.{guard, followed_by}
+use Rattle.pddl_syntax.specs.Syntax.{AtomForm, LiteralForm}
 
 -- the declared predicates: for each its name and, for each argument, the types of which it may be
 abbrev pub Predicates : Type 0

@@ -14,9 +14,9 @@ use Rattle.pddl_reader.specs.declared.resolution.types.KnownTypes.{KnownTypes}
 use Rattle.pddl_reader.specs.Objects.{Objects, objects_from}
 use Rattle.pddl_reader.specs.TypeOrder.{types_of}
 use Rattle.pddl_reader.specs.Declarations.{Predicates, declared, Known, condition_of, conditions_of}
-use Rattle.pddl_reader.specs.Optional.{through}
+use Rattle.pddl_syntax.specs.Optional.{through}
 use Rattle.pddl_reader.specs.Variables.{Parameters, parameters_of, places_of}
-use Rattle.pddl_reader.specs.Syntax.{LiteralForm, PredicateForm, ActionForm, DomainForm}
+use Rattle.pddl_syntax.specs.Syntax.{LiteralForm, PredicateForm, ActionForm, DomainForm}
 
 -- what a domain gives of a task, and the names of its types
 pub record DomainValue : Type 0 where

@@ -1,15 +1,4 @@
-pub mod FaultKind
-pub mod ReadFault
-pub mod Trees
-pub mod Refusing
-pub mod Levels
-pub mod Walking
-pub mod Keywords
-pub mod Heads
-pub mod Optional
-pub mod Syntax
-pub mod Reading
-pub mod Forms
+pub mod Parts
 pub mod Tables
 pub mod TypeOrder
 pub mod Objects

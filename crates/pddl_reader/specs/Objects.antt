@@ -5,8 +5,8 @@ use Rattle.std.specs.List.{position_from}
 use Rattle.std.specs.Str.{bytes_eq}
 use Rattle.pddl_words.specs.Words.{folded}
 use Rattle.strips_task.specs.WellFormed.{most_objects}
-use Rattle.pddl_reader.specs.Optional.{guard, through}
-use Rattle.pddl_reader.specs.Syntax.{NameGroup}
+use Rattle.pddl_syntax.specs.Optional.{guard, through}
+use Rattle.pddl_syntax.specs.Syntax.{NameGroup}
 use Rattle.pddl_reader.specs.Tables.{value_named}
 
 -- for each object its name and the number of its type

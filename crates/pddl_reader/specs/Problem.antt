@@ -6,11 +6,11 @@ use Rattle.pddl_words.specs.Words.{folded}
 use Rattle.strips_task.specs.declared.atoms.Atom.{Atom}
 use Rattle.strips_task.specs.declared.atoms.GroundCond.{GroundCond}
 use Rattle.strips_task.specs.declared.tasks.TaskParts.{TaskParts}
-use Rattle.pddl_reader.specs.Optional.{followed_by}
+use Rattle.pddl_syntax.specs.Optional.{followed_by}
 use Rattle.pddl_reader.specs.Declarations.{Known, ground_of}
 use Rattle.pddl_reader.specs.Domain.{DomainValue}
 use Rattle.pddl_reader.specs.Objects.{Objects, objects_from}
-use Rattle.pddl_reader.specs.Syntax.{LiteralForm, NameGroup, ProblemForm}
+use Rattle.pddl_syntax.specs.Syntax.{LiteralForm, NameGroup, ProblemForm}
 
 -- a ground condition on an atom
 abbrev pub ground_condition : Bool → Atom → GroundCond

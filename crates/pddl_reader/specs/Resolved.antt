@@ -3,7 +3,7 @@
 use Rattle.pddl_reader.specs.declared.resolution.variables.ActionParameters.{ActionParameters}
 use Rattle.pddl_reader.specs.declared.resolution.tables.Declared.{Declared}
 use Rattle.pddl_reader.specs.Declarations.{Known}
-use Rattle.pddl_reader.specs.Forms.{word_forms}
+use Rattle.pddl_syntax.specs.Forms.{word_forms}
 use Rattle.pddl_reader.specs.Variables.{Parameters}
 
 abbrev pub parameters_form : ActionParameters → Parameters

@@ -3,12 +3,12 @@
 use Rattle.std.specs.Prelude.{ℕ, List, Option, Some, None}
 use Rattle.std.specs.Option.{option_and_then}
 use Rattle.strips_task.specs.declared.tasks.TaskParts.{TaskParts}
-use Rattle.pddl_reader.specs.declared.fault.ReadFault.{ReadFault}
+use Rattle.pddl_syntax.specs.declared.fault.ReadFault.{ReadFault}
 use Rattle.pddl_reader.specs.Domain.{DomainValue, domain_of}
-use Rattle.pddl_reader.specs.Levels.{trees}
+use Rattle.pddl_syntax.specs.Levels.{trees}
 use Rattle.pddl_reader.specs.Problem.{problem_of}
-use Rattle.pddl_reader.specs.Syntax.{domain_syntax, problem_syntax}
-use Rattle.pddl_reader.specs.Trees.{text_fault}
+use Rattle.pddl_syntax.specs.Syntax.{domain_syntax, problem_syntax}
+use Rattle.pddl_syntax.specs.Trees.{text_fault}
 
 -- the value of a text that has no text fault
 unfoldable pub unless_fault : {A : Type 0} → Option ReadFault → Option A → Option A

@@ -9,9 +9,9 @@ use Rattle.strips_task.specs.Types.{IsTypeTree, ancestor, is_below}
 use Rattle.strips_task.specs.WellFormed.{most_types}
 use Rattle.pddl_reader.specs.declared.resolution.types.KnownTypes.{KnownTypes}
 use Rattle.pddl_reader.specs.declared.resolution.types.TypeTables.{TypeTables}
-use Rattle.pddl_reader.specs.Keywords.{object_word}
-use Rattle.pddl_reader.specs.Optional.{guard, through}
-use Rattle.pddl_reader.specs.Syntax.{NameGroup}
+use Rattle.pddl_syntax.specs.Keywords.{object_word}
+use Rattle.pddl_syntax.specs.Optional.{guard, through}
+use Rattle.pddl_syntax.specs.Syntax.{NameGroup}
 use Rattle.pddl_reader.specs.Tables.{value_named}
 
 -- the names of the types, in the order of their numbers

@@ -6,8 +6,8 @@ use Rattle.std.specs.Option.{option_map}
 use Rattle.pddl_words.specs.Kinds.{is_same_word}
 use Rattle.strips_task.specs.WellFormed.{most_variables, most_alternatives}
 use Rattle.pddl_reader.specs.Objects.{type_number}
-use Rattle.pddl_reader.specs.Optional.{guard, through}
-use Rattle.pddl_reader.specs.Syntax.{VariableGroup}
+use Rattle.pddl_syntax.specs.Optional.{guard, through}
+use Rattle.pddl_syntax.specs.Syntax.{VariableGroup}
 
 -- one more alternative behind others, where it is a type
 unfoldable pub alternative_behind : List ℕ → Option ℕ → Option (List ℕ)

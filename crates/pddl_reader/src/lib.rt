@@ -1,22 +1,19 @@
 //! Reads PDDL domains and problems (PDDL 2.1, Fox and Long 2003, level 1): STRIPS with types, and negated conditions.
 //!
-//! A text passes through three layers. [`text`] finds bad bytes and wrong parentheses in one pass. [`syntax`] then walks over
-//! the tokens by recursive descent and keeps what the grammar allows as tables of slices of the text. [`resolution`] looks the
-//! names up and makes the domain and the task.
+//! ```text
+//! let domain = read_domain(alloc, domain_text)?;
+//! let task = read_problem(alloc, domain, problem_text)?;    // a strips_task::Task
+//! ```
+//!
+//! A text passes through three layers. The first two are the crate `pddl_syntax`: a pass that finds bad bytes and wrong parentheses, and
+//! the grammar, which keeps tables of slices of the text. The third is [`resolution`] here: it looks the names up and makes the domain and
+//! the task.
 #![tactic(auto)]
 
-mod fault;
-mod heads;
 pub mod laws;
 mod readers;
 mod resolution;
-mod syntax;
-mod text;
-mod walk;
 
-pub use fault::{FaultKind, ReadFault};
+pub use pddl_syntax::{FaultKind, ReadFault};
 pub use readers::{read_domain, read_problem};
 pub use resolution::domain::Domain;
-
-#[cfg(test)]
-mod tests;

@@ -1,17 +1,14 @@
 //! The readers of whole texts: the three layers, one after the other.
 
 ghost use Rattle.std.specs.Prelude.{◌≡◌, Some, Err};
-ghost use Rattle.pddl_reader.specs.declared.fault.ReadFault as read_fault;
-ghost use Rattle.pddl_reader.specs.Reading.{Gives};
+ghost use Rattle.pddl_syntax.specs.declared.fault.ReadFault as read_fault;
+ghost use Rattle.pddl_syntax.specs.Reading.{Gives};
 ghost use Rattle.pddl_reader.specs.Texts.{domain_of_text, problem_of_text};
-ghost use Rattle.pddl_reader.specs.Trees.{text_fault};
+ghost use Rattle.pddl_syntax.specs.Trees.{text_fault};
 
-use crate::fault::ReadFault;
 use crate::resolution::domain::{Domain, resolve_domain};
 use crate::resolution::problem::resolve_problem;
-use crate::syntax::domain::domain_text;
-use crate::syntax::problem::problem_text;
-use crate::text::check_text;
+use pddl_syntax::{ReadFault, check_text, domain_text, problem_text};
 use std::alloc::Global;
 use strips_task::Task;
 

@@ -7,6 +7,7 @@ pub(crate) mod atoms;
 pub(crate) mod domain;
 pub(crate) mod names;
 pub(crate) mod objects;
+pub(crate) mod parts;
 pub(crate) mod problem;
 pub(crate) mod tables;
 pub(crate) mod terms;

@@ -14,6 +14,3 @@ pub use lines::line_of;
 pub use pddl_words::{WordKind, same_folded, word_kind};
 pub use scan::Cursor;
 pub use spans::{Span, TextFault, Token, TokenKind};
-
-#[cfg(test)]
-mod tests;

@@ -107,6 +107,3 @@ static NAME_BYTES: [bool; 256] = [
     N, N, N, N, N, N, N, N, N, N, N, N, N, N, N, N,
     N, N, N, N, N, N, N, N, N, N, N, N, N, N, N, N,
 ];
-
-#[cfg(test)]
-mod tests;

@@ -1,4 +1,3 @@
-pub mod Bits
 pub mod Summaries
 pub mod Views
 pub mod Writes

@@ -3,9 +3,9 @@
 use Rattle.std.proofs.Common.{subst, ◌≡◌, ◌≢◌, ℕ, ◌/◌, ◌<◌, ◌≤◌, ⊎_elim, Bool, true, false, not, List, length, slice_index, nat_eq, ap, sym, ◌∙◌, refl, arith, true≢false}
 use Rattle.std.proofs.lemmas.Bool.{cases_eq, cases_lt, eqb-true, eqb-false}
 use Rattle.std.proofs.lemmas.List.{get_or_past}
-use Rattle.place_set.specs.Row.{row_has, ChangesBit}
+use Rattle.bit_rows.specs.Rows.{row_has, ChangesBit}
 use Rattle.place_set.specs.Layers.{is_used, IsSummary, IsLayered}
-use Rattle.place_set.proofs.Bits.{row_has-zero}
+use Rattle.bit_rows.proofs.Bits.{row_has-zero}
 
 -- a word that is not 0 is used
 pub used : (words : List ℕ) (j : ℕ) → 0 < slice_index words j → is_used words j ≡ true

@@ -8,7 +8,7 @@ use Rattle.std.proofs.lemmas.Bool.Decides.{nat_tests}
 use Rattle.std.proofs.lemmas.List.{same_lists, length-replicate, get_or-replicate}
 use Rattle.std.proofs.lemmas.List.FromFn.{length-map-range_with_len, get_or-map-range_with_len}
 use Rattle.std.proofs.lemmas.List.Sums.{position_or_len_is}
-use Rattle.place_set.specs.Row.{row_has, ChangesBit}
+use Rattle.bit_rows.specs.Rows.{row_has, ChangesBit}
 use Rattle.place_set.specs.Members.{least_member}
 use Rattle.place_set.specs.Layers.{members_of}
 use Rattle.place_set.proofs.Summaries.{IsLeastBit}

@@ -2,7 +2,7 @@
 
 use Rattle.std.proofs.Common.{◌≡◌, ℕ, ◌<◌, ◌++◌, Bool, List, length, take, drop, set, ap, ◌∙◌, subst, arith}
 use Rattle.std.proofs.lemmas.Grind.{common_steps}
-use Rattle.place_set.specs.Row.{ChangesBit}
+use Rattle.bit_rows.specs.Rows.{ChangesBit}
 use Rattle.place_set.specs.Layers.{members_of, IsSummary, IsLayered}
 use Rattle.place_set.proofs.Summaries.{layered-changes}
 use Rattle.place_set.proofs.Views.{members-changes}

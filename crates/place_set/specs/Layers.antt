@@ -2,7 +2,7 @@
 
 use Rattle.std.specs.Prelude.{◌≡◌, ℕ, ◌*◌, ◌≤◌, Bool, false, not, List, map, length, slice_index, nat_eq}
 use Rattle.std.specs.List.{range_with_len}
-use Rattle.place_set.specs.Row.{row_has}
+use Rattle.bit_rows.specs.Rows.{row_has}
 
 -- of each place, whether its bit in this row is set
 abbrev pub members_of : ℕ → List ℕ → List Bool

@@ -1,3 +1,2 @@
-pub mod Row
 pub mod Members
 pub mod Layers

@@ -10,7 +10,6 @@
 //! a bit for each place, and 136 bytes that do not depend on their number.
 #![tactic(auto)]
 
-mod rows;
 mod set;
 
 pub use set::PlaceSet;

@@ -2,7 +2,7 @@
 ghost use Rattle.std.specs.Prelude.{◌≡◌, ◌<◌, ◌≤◌, length, set, replicate, position, true, false, IfOk};
 ghost use Rattle.place_set.specs.Members.{is_member, least_member};
 
-use crate::rows::{WORD_BITS, clear_bit, empty_row, has_bit, least_bit, set_bit};
+use bit_rows::{WORD_BITS, clear_bit, empty_row, has_bit, least_bit, set_bit};
 use std::alloc::{AllocError, Global};
 use std::marker::Model;
 

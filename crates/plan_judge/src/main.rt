@@ -1,29 +1,11 @@
 //! `plan_judge` judges plans of classical planners against domains and problems in PDDL.
+//!
+//! All that it does is in the library `judge_engine`; here are only the real command line, files and outputs.
 #![tactic(auto)]
 
-pub mod bundle;
-mod command;
-pub mod engine;
-pub mod fault;
-#[cfg(test)]
-mod gate_tests;
-pub mod inlet;
-mod lines;
-pub mod outlet;
-mod planner;
-mod plans;
-pub mod program;
-mod render;
-pub mod replay;
-mod replies;
-pub mod report;
-#[cfg(test)]
-mod tests;
-mod text;
-
-use inlet::Files;
-use outlet::Sink;
-use program::{main_with, out_of_memory};
+use judge_engine::inlet::Files;
+use judge_engine::outlet::Sink;
+use judge_engine::program::{main_with, out_of_memory};
 use std::env;
 use std::io::ErrorKind;
 use std::process::ExitCode;

@@ -4,7 +4,6 @@ pub mod VerdictMeanings
 pub mod NumberedLaws
 pub mod Fits
 pub mod Numbering
-pub mod RowLaws
 pub mod Runs
 pub mod Searches
 pub mod StepLaws

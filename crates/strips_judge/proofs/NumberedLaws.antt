@@ -10,7 +10,7 @@ use Rattle.strips_task.specs.FirstPlaces.{first_places}
 use Rattle.strips_task.proofs.AtomEquality.{atom_equiv, atom_same}
 use Rattle.strips_judge.specs.Numbers.{number_in}
 use Rattle.strips_judge.specs.Numbered.{bit_of}
-use Rattle.strips_judge.specs.Row.{row_has}
+use Rattle.bit_rows.specs.Rows.{row_has}
 use Rattle.strips_judge.specs.State.{State, is_in, with_all, without}
 use Rattle.strips_judge.proofs.Numbering.{same_number, is_some-place, place-lt}
 

@@ -1,7 +1,6 @@
 pub mod Grounding
 pub mod Numbered
 pub mod Numbers
-pub mod Row
 pub mod State
 pub mod Step
 pub mod Verdict

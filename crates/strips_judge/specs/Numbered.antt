@@ -4,7 +4,7 @@ use Rattle.std.specs.Prelude.{ℕ, Bool, false, List, Option, Some, None}
 use Rattle.strips_task.specs.Atom.{atom_eq}
 use Rattle.strips_task.specs.FirstPlaces.{first_places}
 use Rattle.strips_judge.specs.declared.state.NumberedState.{NumberedState}
-use Rattle.strips_judge.specs.Row.{row_has}
+use Rattle.bit_rows.specs.Rows.{row_has}
 use Rattle.strips_judge.specs.Numbers.{number_in}
 use Rattle.strips_judge.specs.State.{State}
 

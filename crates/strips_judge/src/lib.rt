@@ -12,7 +12,6 @@ mod grounding;
 mod judging;
 pub mod laws;
 mod numbers;
-mod row;
 mod state;
 mod verdict;
 

@@ -7,7 +7,7 @@ ghost use Rattle.std.specs.Prelude.{◌≡◌, ◌∷◌, [], IfOk, OnOk};
 ghost use Rattle.strips_judge.specs.State.{is_in, without, with_all};
 
 use crate::numbers::{number_in, number_or_add};
-use crate::row::Row;
+use bit_rows::Row;
 use indexmap::IndexSet;
 use std::alloc::{AllocError, Global};
 use strips_task::{Atom, InitialAtoms};

@@ -38,6 +38,3 @@ pub use table::NameTable;
 pub use tasks::{Task, TaskParts};
 pub use types::TypeList;
 pub use words::WordList;
-
-#[cfg(test)]
-mod tests;

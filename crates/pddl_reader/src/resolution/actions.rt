@@ -4,16 +4,17 @@ ghost use Rattle.std.specs.Prelude.{◌≡◌, ◌≤◌, length, [], OnOk, Some
 ghost use Rattle.std.specs.Map.{keys_of};
 ghost use Rattle.pddl_reader.specs.Resolved.{known_form, parameters_form};
 ghost use Rattle.pddl_reader.specs.Declarations.{condition_of, conditions_of};
-ghost use Rattle.pddl_reader.specs.Forms.{action_forms, action_syntax_form, given_literals, given_variables, literal_form, literal_forms};
-ghost use Rattle.pddl_reader.specs.Reading.{Gives, Puts};
+ghost use Rattle.pddl_syntax.specs.Forms.{action_forms, action_syntax_form, literal_form, literal_forms};
+ghost use Rattle.pddl_reader.specs.Parts.{part_items};
+ghost use Rattle.pddl_syntax.specs.Reading.{Gives, Puts};
 ghost use Rattle.pddl_reader.specs.Domain.{action_by, action_meant, actions_from, both_effects, effects_of, lone_effect, with_action_of};
 
-use crate::fault::ReadFault;
 use crate::resolution::atoms::pattern;
 use crate::resolution::names::{check_new, name};
+use crate::resolution::parts::part_items;
 use crate::resolution::tables::Declared;
 use crate::resolution::variables::{ActionParameters, parameters};
-use crate::syntax::{ActionSyntax, LiteralSyntax, VariableGroup};
+use pddl_syntax::{ActionSyntax, LiteralSyntax, ReadFault, VariableGroup};
 use std::alloc::{AllocError, Global};
 use strips_task::{Action, Alternatives, Cond, NameTable, Pattern, Seq};
 
@@ -97,30 +98,6 @@ fn effect(
     Ok(effects)
 }
 
-/// The literals of a part or a section, if it is given.
-#[tactic(auto, unfolding(crate::specs::Forms::given_literals))]
-pub(crate) fn given_literals<'s, 'a>(
-    part: &'s Option<Vec<LiteralSyntax<'a>>>,
-) -> &'s [LiteralSyntax<'a>]
-    ensures { result.now ≡ given_literals part.now }
-{
-    match part {
-        Some(literals) => literals.as_slice(),
-        None => &[],
-    }
-}
-
-/// The variables of a part, if it is given.
-#[tactic(auto, unfolding(crate::specs::Forms::given_variables))]
-fn given_variables<'s, 'a>(part: &'s Option<Vec<VariableGroup<'a>>>) -> &'s [VariableGroup<'a>]
-    ensures { result.now ≡ given_variables part.now }
-{
-    match part {
-        Some(groups) => groups.as_slice(),
-        None => &[],
-    }
-}
-
 /// What an action asks and does.
 #[derive(Drop)]
 struct ActionBody {
@@ -140,14 +117,9 @@ fn body(
     ensures { Gives (λ body. record { params = parameters.now.types; pre = body.pre; add = body.effects.add; del = body.effects.del }) result
         (action_by (known_form known.now) (action_syntax_form syntax.now) (Some (parameters_form parameters.now))) }
 {
-    let precondition = given_literals(&syntax.parts.precondition);
+    let precondition = part_items(&syntax.parts.precondition);
     let pre = conditions(alloc, known, parameters, precondition)?;
-    let effects = effect(
-        alloc,
-        known,
-        parameters,
-        given_literals(&syntax.parts.effect),
-    )?;
+    let effects = effect(alloc, known, parameters, part_items(&syntax.parts.effect))?;
     Ok(ActionBody { pre, effects })
 }
 
@@ -162,7 +134,7 @@ fn action(
     requires { length types.now ≤ 1025 }
     ensures { Gives (λ action. action) result (action_meant (keys_of types.now) (known_form known.now) (action_syntax_form syntax.now)) }
 {
-    let parameters = parameters(alloc, types, given_variables(&syntax.parts.parameters))?;
+    let parameters = parameters(alloc, types, part_items(&syntax.parts.parameters))?;
     let ActionBody { pre, effects } = body(alloc, known, &parameters, syntax)?;
     let ActionParameters { names: _, types } = parameters;
     let Effects { add, del } = effects;

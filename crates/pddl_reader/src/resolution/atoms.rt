@@ -3,16 +3,15 @@
 ghost use Rattle.std.specs.Prelude.{◌≡◌, ◌≤◌, length, slice_get, true, Some};
 ghost use Rattle.std.specs.Map.{values_of};
 ghost use Rattle.pddl_reader.specs.Declarations.{ground_of, pattern_of, takes_terms};
-ghost use Rattle.pddl_reader.specs.Forms.{atom_form};
-ghost use Rattle.pddl_reader.specs.Reading.{Gives};
+ghost use Rattle.pddl_syntax.specs.Forms.{atom_form};
+ghost use Rattle.pddl_syntax.specs.Reading.{Gives};
 ghost use Rattle.pddl_reader.specs.Resolved.{known_form, parameters_form};
 
-use crate::fault::ReadFault;
 use crate::resolution::names::predicate_number;
 use crate::resolution::tables::Declared;
 use crate::resolution::terms::{objects_in_places, terms_in_places};
 use crate::resolution::variables::ActionParameters;
-use crate::syntax::AtomSyntax;
+use pddl_syntax::{AtomSyntax, ReadFault};
 use std::alloc::Global;
 use strips_task::{Alternatives, Atom, NameTable, Pattern, Seq};
 

@@ -6,18 +6,19 @@ ghost use Rattle.pddl_reader.specs.Domain.{domain_of, domain_value, domain_with,
 ghost use Rattle.pddl_reader.specs.Domains.{IsDomain};
 ghost use Rattle.pddl_reader.specs.Objects.{objects_from};
 ghost use Rattle.pddl_reader.specs.Problem.{domain_extended};
-ghost use Rattle.pddl_reader.specs.Forms.{domain_syntax_form, given_groups, given_predicates, name_groups, predicate_form, predicate_forms};
-ghost use Rattle.pddl_reader.specs.Reading.{Gives, Puts};
+ghost use Rattle.pddl_syntax.specs.Forms.{domain_syntax_form, name_groups, predicate_form, predicate_forms};
+ghost use Rattle.pddl_reader.specs.Parts.{part_items};
+ghost use Rattle.pddl_syntax.specs.Reading.{Gives, Puts};
 ghost use Rattle.pddl_reader.specs.Assembled.{domain_assembled, domain_joined};
 
-use crate::fault::ReadFault;
 use crate::resolution::actions::{Predicates, actions};
 use crate::resolution::names::{check_new, name};
 use crate::resolution::objects::more_objects;
+use crate::resolution::parts::part_items;
 use crate::resolution::tables::Declared;
 use crate::resolution::types::{KnownTypes, types};
 use crate::resolution::variables::places;
-use crate::syntax::{DomainSyntax, NameGroup, PredicateSyntax};
+use pddl_syntax::{DomainSyntax, NameGroup, PredicateSyntax, ReadFault};
 use std::alloc::Global;
 use std::marker::Model;
 use strips_task::{Action, Name, NameTable, Seq, TypeList};
@@ -96,30 +97,6 @@ fn predicates(
     Ok(table)
 }
 
-/// The declared predicates, if the section is given.
-#[tactic(auto, unfolding(crate::specs::Forms::given_predicates))]
-fn given_predicates<'s, 'a>(
-    section: &'s Option<Vec<PredicateSyntax<'a>>>,
-) -> &'s [PredicateSyntax<'a>]
-    ensures { result.now ≡ given_predicates section.now }
-{
-    match section {
-        Some(predicates) => predicates.as_slice(),
-        None => &[],
-    }
-}
-
-/// The groups of a section, if it is given.
-#[tactic(auto, unfolding(crate::specs::Forms::given_groups))]
-pub(crate) fn given_groups<'s, 'a>(section: &'s Option<Vec<NameGroup<'a>>>) -> &'s [NameGroup<'a>]
-    ensures { result.now ≡ given_groups section.now }
-{
-    match section {
-        Some(groups) => groups.as_slice(),
-        None => &[],
-    }
-}
-
 /// The tables of a domain's predicates and actions.
 #[derive(Drop)]
 struct Tables {
@@ -138,9 +115,9 @@ fn resolve_tables(
     requires objects { length head.now.objects ≤ 65535 }
     ensures { Gives (domain_assembled head.now) result
         (domain_with (domain_syntax_form syntax.now) head.now
-        (predicates_from (keys_of head.now.types) [] (predicate_forms (given_predicates syntax.now.sections.predicates)))) }
+        (predicates_from (keys_of head.now.types) [] (predicate_forms (part_items syntax.now.sections.predicates)))) }
 {
-    let declared = given_predicates(&syntax.sections.predicates);
+    let declared = part_items(&syntax.sections.predicates);
     let predicates = predicates(alloc, &head.types, declared)?;
     let known = Declared::new(&head.parents, &head.objects, &predicates);
     let actions = actions(
@@ -195,8 +172,8 @@ fn resolve_head(alloc: Global, syntax: &DomainSyntax<'_>) -> Result<Head, ReadFa
     ensures { Gives (λ head. head) result (head_of (domain_syntax_form syntax.now)) }
 {
     let name = name(alloc, syntax.name)?;
-    let known = types(alloc, given_groups(&syntax.sections.types))?;
-    let constants = given_groups(&syntax.sections.constants);
+    let known = types(alloc, part_items(&syntax.sections.types))?;
+    let constants = part_items(&syntax.sections.constants);
     let objects = more_objects(alloc, &known.names, NameTable::new(alloc), constants)?;
     let KnownTypes { names, parents } = known;
     Ok(Head {

@@ -5,12 +5,10 @@ ghost use Rattle.std.specs.Str.{bytes_eq};
 ghost use Rattle.pddl_words.specs.Words.{folded};
 ghost use Rattle.strips_task.specs.Names.{number_named};
 ghost use Rattle.pddl_reader.specs.Declarations.{declared, may_declare, predicate_number, takes_terms};
-ghost use Rattle.pddl_reader.specs.Forms.{atom_form};
-ghost use Rattle.pddl_reader.specs.Reading.{Allows, Gives, GivesOption, ReadsName};
+ghost use Rattle.pddl_syntax.specs.Forms.{atom_form};
+ghost use Rattle.pddl_syntax.specs.Reading.{Allows, Gives, GivesOption, ReadsName};
 
-use crate::fault::{FaultKind, ReadFault};
-use crate::syntax::AtomSyntax;
-use crate::walk::NameWord;
+use pddl_syntax::{AtomSyntax, FaultKind, NameWord, ReadFault};
 use std::alloc::Global;
 use strips_task::{Alternatives, Name, NameTable, Seq};
 

@@ -2,15 +2,13 @@
 
 ghost use Rattle.std.specs.Prelude.{◌≡◌, ◌<◌, ◌≤◌, length, None, IfSome};
 ghost use Rattle.std.specs.Map.{keys_of};
-ghost use Rattle.pddl_reader.specs.Forms.{name_forms, name_group_form, name_groups};
+ghost use Rattle.pddl_syntax.specs.Forms.{name_forms, name_group_form, name_groups};
 ghost use Rattle.pddl_reader.specs.Objects.{object_declared, objects_from, objects_grouped, type_number};
-ghost use Rattle.pddl_reader.specs.Optional.{through};
-ghost use Rattle.pddl_reader.specs.Reading.{Gives, GivesOption, Puts};
+ghost use Rattle.pddl_syntax.specs.Optional.{through};
+ghost use Rattle.pddl_syntax.specs.Reading.{Gives, GivesOption, Puts};
 
-use crate::fault::{FaultKind, ReadFault};
 use crate::resolution::names::{name, number_of};
-use crate::syntax::NameGroup;
-use crate::walk::NameWord;
+use pddl_syntax::{FaultKind, NameGroup, NameWord, ReadFault};
 use std::alloc::Global;
 use strips_task::NameTable;
 

@@ -2,19 +2,18 @@
 
 ghost use Rattle.std.specs.Prelude.{◌≡◌, IfOk, Some};
 ghost use Rattle.pddl_reader.specs.Resolved.{known_form};
-ghost use Rattle.pddl_reader.specs.Forms.{literal_form, literal_forms, problem_syntax_form};
+ghost use Rattle.pddl_syntax.specs.Forms.{literal_form, literal_forms, problem_syntax_form};
 ghost use Rattle.pddl_reader.specs.Problem.{ground_condition_of, ground_conditions_of, initial_of, problem_of, problem_within};
-ghost use Rattle.pddl_reader.specs.Reading.{Gives};
+ghost use Rattle.pddl_syntax.specs.Reading.{Gives};
 ghost use Rattle.strips_task.specs.WellFormed.{IsWellFormed};
 ghost use Rattle.pddl_reader.specs.Assembled.{task_assembled};
 
-use crate::fault::ReadFault;
-use crate::resolution::actions::given_literals;
 use crate::resolution::atoms::ground_atom;
-use crate::resolution::domain::{Domain, extended, given_groups};
+use crate::resolution::domain::{Domain, extended};
 use crate::resolution::names::name;
+use crate::resolution::parts::part_items;
 use crate::resolution::tables::Declared;
-use crate::syntax::{LiteralSyntax, ProblemSyntax};
+use pddl_syntax::{LiteralSyntax, ProblemSyntax, ReadFault};
 use std::alloc::Global;
 use strips_task::{CondList, GroundCond, InitialAtoms, Name, Seq, Task, TaskParts};
 
@@ -118,7 +117,7 @@ fn resolve_given(
     ensures well_formed { IfOk result (λ given. IsWellFormed (task_assembled domain.now given)) }
 {
     let known = domain.known();
-    let init = initial(alloc, &known, given_literals(&syntax.init))?;
+    let init = initial(alloc, &known, part_items(&syntax.init))?;
     let goal = ground_conditions(alloc, &known, syntax.goal.as_slice())?;
     let problem = name(alloc, syntax.name)?;
     Ok(Given {
@@ -137,7 +136,7 @@ pub(crate) fn resolve_problem(
 ) -> Result<Task, ReadFault>
     ensures { Gives (λ task. task) result (problem_of domain (problem_syntax_form syntax.now)) }
 {
-    let domain = extended(alloc, domain, given_groups(&syntax.objects))?;
+    let domain = extended(alloc, domain, part_items(&syntax.objects))?;
     let given = resolve_given(alloc, &domain, syntax)?;
     Ok(assemble(domain, given))
 }

@@ -5,16 +5,14 @@ ghost use Rattle.std.specs.List.{list_any};
 ghost use Rattle.strips_task.specs.Types.{is_below};
 ghost use Rattle.strips_task.specs.WellFormed.{fits, is_fitting};
 ghost use Rattle.pddl_reader.specs.Declarations.{fitted_all, object_in_place, object_number, term_in_place, term_named, types_of_term};
-ghost use Rattle.pddl_reader.specs.Forms.{word_forms};
-ghost use Rattle.pddl_reader.specs.Reading.{Gives, GivesOption};
+ghost use Rattle.pddl_syntax.specs.Forms.{word_forms};
+ghost use Rattle.pddl_syntax.specs.Reading.{Gives, GivesOption};
 ghost use Rattle.pddl_reader.specs.Resolved.{known_form, parameters_form};
 
-use crate::fault::{FaultKind, ReadFault};
-use crate::heads::is_variable;
 use crate::resolution::names::number_of;
 use crate::resolution::tables::Declared;
 use crate::resolution::variables::{ActionParameters, parameter_number};
-use crate::walk::Word;
+use pddl_syntax::{FaultKind, ReadFault, Word, is_variable};
 use std::alloc::Global;
 use strips_task::{Alternatives, NameTable, ShortSeq, Term, TypeList};
 

@@ -3,16 +3,14 @@
 ghost use Rattle.std.specs.Prelude.{◌≡◌, ◌≢◌, ◌<◌, ◌≤◌, length, IfOk, Some};
 ghost use Rattle.std.specs.List.{list_any};
 ghost use Rattle.pddl_words.specs.Words.{folded};
-ghost use Rattle.pddl_reader.specs.Forms.{name_forms, name_group_form, name_groups};
-ghost use Rattle.pddl_reader.specs.Keywords.{object_word};
-ghost use Rattle.pddl_reader.specs.Optional.{guard, through};
-ghost use Rattle.pddl_reader.specs.Reading.{FindsAny, Gives, GivesTest, Puts};
+ghost use Rattle.pddl_syntax.specs.Forms.{name_forms, name_group_form, name_groups};
+ghost use Rattle.pddl_syntax.specs.Keywords.{object_word};
+ghost use Rattle.pddl_syntax.specs.Optional.{guard, through};
+ghost use Rattle.pddl_syntax.specs.Reading.{FindsAny, Gives, GivesTest, Puts};
 ghost use Rattle.pddl_reader.specs.TypeOrder.{TypeParents, declared_under, declares_cycle, group_declared, is_tree, is_under_itself, names_cycle, numbered, object_alone, parent_name, parent_number, parents_of, type_declared, types_declared, types_of};
 
-use crate::fault::{FaultKind, ReadFault};
 use crate::resolution::names::{is_same_name, name, number_of};
-use crate::syntax::NameGroup;
-use crate::walk::NameWord;
+use pddl_syntax::{FaultKind, NameGroup, NameWord, ReadFault};
 use std::alloc::{AllocError, Global};
 use strips_task::{Name, NameTable, TypeList};
 

@@ -2,16 +2,14 @@
 
 ghost use Rattle.std.specs.Prelude.{◌≡◌, ◌<◌, ◌≤◌, ◌+◌, nat_le, length, IfOk, IfSome, OnOk};
 ghost use Rattle.std.specs.Map.{keys_of};
-ghost use Rattle.pddl_reader.specs.Forms.{name_forms, variable_group_form, variable_groups, word_forms};
-ghost use Rattle.pddl_reader.specs.Optional.{through};
-ghost use Rattle.pddl_reader.specs.Reading.{Allows, Gives, Puts};
+ghost use Rattle.pddl_syntax.specs.Forms.{name_forms, variable_group_form, variable_groups, word_forms};
+ghost use Rattle.pddl_syntax.specs.Optional.{through};
+ghost use Rattle.pddl_syntax.specs.Reading.{Allows, Gives, Puts};
 ghost use Rattle.pddl_reader.specs.Resolved.{parameters_form};
 ghost use Rattle.pddl_reader.specs.Variables.{alternatives_of, group_named, group_placed, parameter_named, parameter_number, parameters_of, places_behind, places_of};
 
-use crate::fault::{FaultKind, ReadFault};
 use crate::resolution::objects::type_number;
-use crate::syntax::VariableGroup;
-use crate::walk::{NameWord, Word};
+use pddl_syntax::{FaultKind, NameWord, ReadFault, VariableGroup, Word};
 use pddl_tokens::same_folded;
 use std::alloc::{AllocError, Global};
 use strips_task::{Alternatives, NameTable, Seq};

@@ -1,8 +1,8 @@
 use Rattle.std.proofs.Common.{◌≡◌, [], drop}
 use Rattle.std.specs.Map.{keys_of}
 use Rattle.pddl_reader.specs.Domain.{with_action_of}
-use Rattle.pddl_reader.specs.Forms.{action_forms}
-use Rattle.pddl_reader.specs.Optional.{through}
+use Rattle.pddl_syntax.specs.Forms.{action_forms}
+use Rattle.pddl_syntax.specs.Optional.{through}
 use Rattle.pddl_reader.specs.Resolved.{known_form}
 use Rattle.pddl_reader.proofs.resolution.actions.actions.Given as goal
 

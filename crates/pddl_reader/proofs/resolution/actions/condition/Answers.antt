@@ -1,4 +1,4 @@
-use Rattle.pddl_reader.specs.Forms.{literal_form}
+use Rattle.pddl_syntax.specs.Forms.{literal_form}
 use Rattle.pddl_reader.specs.Resolved.{known_form, parameters_form}
 use Rattle.pddl_reader.proofs.DeclarationSteps.{condition_some}
 use Rattle.pddl_reader.proofs.resolution.actions.condition.Goals as goal

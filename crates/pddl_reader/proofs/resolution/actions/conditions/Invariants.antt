@@ -1,8 +1,8 @@
 use Rattle.std.proofs.Common.{◌≡◌, drop}
 use Rattle.pddl_reader.specs.Declarations.{conditions_of}
-use Rattle.pddl_reader.specs.Forms.{literal_forms}
+use Rattle.pddl_syntax.specs.Forms.{literal_forms}
 use Rattle.pddl_reader.specs.Resolved.{known_form, parameters_form}
-use Rattle.pddl_reader.specs.Optional.{with_front}
+use Rattle.pddl_syntax.specs.Optional.{with_front}
 use Rattle.pddl_reader.proofs.resolution.actions.conditions.Given as goal
 
 abbrev pub invariant-conditions : goal.invariant-conditions

@@ -2,9 +2,9 @@ use Rattle.std.proofs.Common.{◌≡◌, true}
 use Rattle.std.specs.Map.{keys_of}
 use Rattle.pddl_words.specs.Words.{folded}
 use Rattle.pddl_reader.specs.Declarations.{may_declare}
-use Rattle.pddl_reader.specs.Forms.{action_syntax_form}
+use Rattle.pddl_syntax.specs.Forms.{action_syntax_form}
 use Rattle.pddl_reader.specs.Resolved.{known_form}
-use Rattle.pddl_reader.specs.Syntax.{action_form}
+use Rattle.pddl_syntax.specs.Syntax.{action_form}
 use Rattle.pddl_reader.proofs.ActionMeaning.{action_declared}
 use Rattle.pddl_reader.proofs.resolution.actions.declare_action.Goals as goal
 

@@ -1,6 +1,6 @@
 use Rattle.std.proofs.Common.{◌≡◌, drop}
 use Rattle.pddl_reader.specs.Domain.{effects_of}
-use Rattle.pddl_reader.specs.Forms.{literal_forms}
+use Rattle.pddl_syntax.specs.Forms.{literal_forms}
 use Rattle.pddl_reader.specs.Resolved.{known_form, parameters_form}
 use Rattle.pddl_reader.proofs.ActionMeaning.{effects_onto}
 use Rattle.pddl_reader.proofs.resolution.actions.effect.Given as goal

@@ -2,7 +2,7 @@ use Rattle.std.proofs.Common.{◌≡◌, true}
 use Rattle.std.specs.Map.{keys_of}
 use Rattle.pddl_words.specs.Words.{folded}
 use Rattle.pddl_reader.specs.Declarations.{may_declare}
-use Rattle.pddl_reader.specs.Forms.{predicate_form}
+use Rattle.pddl_syntax.specs.Forms.{predicate_form}
 use Rattle.pddl_reader.proofs.DeclarationSteps.{may_declare_length, predicate_declared}
 use Rattle.pddl_reader.proofs.resolution.domain.declare_predicate.Goals as goal
 

@@ -1,5 +1,5 @@
 use Rattle.std.proofs.lemmas.Result.{err_from_is_err_and}
-use Rattle.pddl_reader.specs.Forms.{name_groups}
+use Rattle.pddl_syntax.specs.Forms.{name_groups}
 use Rattle.pddl_reader.proofs.ExtendedDomains.{joined_domain, extended_meant, not_extended_meant}
 use Rattle.pddl_reader.proofs.resolution.domain.extended.Goals as goal
 

@@ -1,8 +1,8 @@
 use Rattle.std.proofs.Common.{◌≡◌, ◌≤◌, [], length, drop}
 use Rattle.std.specs.Map.{keys_of}
 use Rattle.pddl_reader.specs.Domain.{with_predicate}
-use Rattle.pddl_reader.specs.Forms.{predicate_forms}
-use Rattle.pddl_reader.specs.Optional.{through}
+use Rattle.pddl_syntax.specs.Forms.{predicate_forms}
+use Rattle.pddl_syntax.specs.Optional.{through}
 use Rattle.pddl_reader.proofs.resolution.domain.predicates.Given as goal
 
 abbrev pub invariant-predicates : goal.invariant-predicates

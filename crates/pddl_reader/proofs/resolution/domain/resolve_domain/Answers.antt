@@ -1,7 +1,8 @@
 use Rattle.std.proofs.Common.{[], refl}
 use Rattle.std.specs.Map.{keys_of}
 use Rattle.pddl_reader.specs.Domain.{predicates_from}
-use Rattle.pddl_reader.specs.Forms.{domain_syntax_form, given_predicates, predicate_forms}
+use Rattle.pddl_syntax.specs.Forms.{domain_syntax_form, predicate_forms}
+use Rattle.pddl_reader.specs.Parts.{part_items}
 use Rattle.pddl_reader.proofs.DomainMeaning.{predicates_given, with_head}
 use Rattle.pddl_reader.proofs.WellFormedDomains.{domain_well_formed, head_types_few, head_objects_few}
 use Rattle.pddl_reader.proofs.resolution.domain.resolve_domain.Goals as goal
@@ -15,7 +16,7 @@ resolve_tables-requires-clause-objects c = head_objects_few (domain_syntax_form 
 pub assemble-requires : goal.assemble-requires
 assemble-requires c =
     let syntax = c.args.syntax.now in
-    domain_well_formed (domain_syntax_form syntax) c.in_ok-head.head (predicates_from (keys_of c.in_ok-head.head.types) [] (predicate_forms (given_predicates syntax.sections.predicates))) _
+    domain_well_formed (domain_syntax_form syntax) c.in_ok-head.head (predicates_from (keys_of c.in_ok-head.head.types) [] (predicate_forms (part_items syntax.sections.predicates))) _
     c.in_ok-head.ensures (rw (predicates_given syntax) refl) c.in_ok-tables.ensures
 
 pub returns : goal.returns

@@ -1,4 +1,4 @@
-use Rattle.pddl_reader.specs.Forms.{literal_form}
+use Rattle.pddl_syntax.specs.Forms.{literal_form}
 use Rattle.pddl_reader.specs.Resolved.{known_form}
 use Rattle.pddl_reader.proofs.ProblemMeaning.{condition_some}
 use Rattle.pddl_reader.proofs.resolution.problem.ground_condition.Goals as goal

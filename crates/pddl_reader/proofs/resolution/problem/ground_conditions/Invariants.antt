@@ -1,7 +1,7 @@
 use Rattle.std.proofs.Common.{◌≡◌, drop}
-use Rattle.pddl_reader.specs.Forms.{literal_forms}
+use Rattle.pddl_syntax.specs.Forms.{literal_forms}
 use Rattle.pddl_reader.specs.Resolved.{known_form}
-use Rattle.pddl_reader.specs.Optional.{with_front}
+use Rattle.pddl_syntax.specs.Optional.{with_front}
 use Rattle.pddl_reader.specs.Problem.{ground_conditions_of}
 use Rattle.pddl_reader.proofs.resolution.problem.ground_conditions.Given as goal
 

@@ -1,6 +1,6 @@
 use Rattle.std.proofs.Common.{◌≡◌, ◌∙◌, ap, sym}
-use Rattle.pddl_reader.specs.declared.fault.FaultKind.TheVariants.{WrongType, OutOfMemory}
-use Rattle.pddl_reader.specs.declared.fault.ReadFault.{ReadFault}
+use Rattle.pddl_syntax.specs.declared.fault.FaultKind.TheVariants.{WrongType, OutOfMemory}
+use Rattle.pddl_syntax.specs.declared.fault.ReadFault.{ReadFault}
 use Rattle.pddl_reader.specs.Resolved.{known_form}
 use Rattle.pddl_reader.proofs.TermSteps.{object_misplaced, object_placed}
 use Rattle.pddl_reader.proofs.resolution.terms.object_in_place.Goals as goal

@@ -1,5 +1,5 @@
 use Rattle.std.proofs.Common.{◌≡◌, ◌∙◌, sym, Some}
-use Rattle.pddl_reader.specs.Forms.{word_forms}
+use Rattle.pddl_syntax.specs.Forms.{word_forms}
 use Rattle.pddl_reader.specs.Resolved.{known_form, parameters_form}
 use Rattle.pddl_reader.specs.Variables.{parameter_number}
 use Rattle.pddl_reader.proofs.TermSteps.{variable_known, constant_known}

@@ -1,7 +1,7 @@
 use Rattle.std.proofs.Common.{◌≡◌, ◌∙◌, ap, sym, true, false}
 use Rattle.strips_task.specs.WellFormed.{is_fitting}
-use Rattle.pddl_reader.specs.declared.fault.FaultKind.TheVariants.{WrongType, OutOfMemory}
-use Rattle.pddl_reader.specs.declared.fault.ReadFault.{ReadFault}
+use Rattle.pddl_syntax.specs.declared.fault.FaultKind.TheVariants.{WrongType, OutOfMemory}
+use Rattle.pddl_syntax.specs.declared.fault.ReadFault.{ReadFault}
 use Rattle.pddl_reader.specs.Declarations.{types_of_term}
 use Rattle.pddl_reader.specs.Resolved.{known_form, parameters_form}
 use Rattle.pddl_reader.proofs.TermSteps.{term_misplaced, term_placed}

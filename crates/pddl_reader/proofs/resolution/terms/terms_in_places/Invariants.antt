@@ -1,7 +1,7 @@
 use Rattle.std.proofs.Common.{◌≡◌, drop}
 use Rattle.pddl_reader.specs.Declarations.{fitted_all, term_in_place}
-use Rattle.pddl_reader.specs.Forms.{word_forms}
-use Rattle.pddl_reader.specs.Optional.{with_front}
+use Rattle.pddl_syntax.specs.Forms.{word_forms}
+use Rattle.pddl_syntax.specs.Optional.{with_front}
 use Rattle.pddl_reader.specs.Resolved.{known_form, parameters_form}
 use Rattle.pddl_reader.proofs.resolution.terms.terms_in_places.Given as goal
 

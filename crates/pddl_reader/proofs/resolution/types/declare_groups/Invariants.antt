@@ -1,7 +1,7 @@
 use Rattle.std.proofs.Common.{◌≡◌, drop}
-use Rattle.pddl_reader.specs.Forms.{name_groups}
+use Rattle.pddl_syntax.specs.Forms.{name_groups}
 use Rattle.pddl_reader.specs.TypeOrder.{group_declared}
-use Rattle.pddl_reader.specs.Optional.{through}
+use Rattle.pddl_syntax.specs.Optional.{through}
 use Rattle.pddl_reader.proofs.resolution.types.declare_groups.Given as goal
 
 abbrev pub invariant-groups : goal.invariant-groups

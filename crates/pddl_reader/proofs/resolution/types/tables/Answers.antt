@@ -1,4 +1,4 @@
-use Rattle.pddl_reader.specs.Forms.{name_groups}
+use Rattle.pddl_syntax.specs.Forms.{name_groups}
 use Rattle.pddl_reader.proofs.TypeSteps.{declared_all, few_declared}
 use Rattle.pddl_reader.proofs.resolution.types.tables.Goals as goal
 

@@ -1,7 +1,7 @@
 use Rattle.std.proofs.Common.{◌≡◌, [], drop}
 use Rattle.std.specs.Map.{keys_of}
-use Rattle.pddl_reader.specs.Forms.{name_forms}
-use Rattle.pddl_reader.specs.Optional.{through}
+use Rattle.pddl_syntax.specs.Forms.{name_forms}
+use Rattle.pddl_syntax.specs.Optional.{through}
 use Rattle.pddl_reader.specs.Variables.{alternative_named}
 use Rattle.pddl_reader.proofs.resolution.variables.alternatives.Given as goal
 

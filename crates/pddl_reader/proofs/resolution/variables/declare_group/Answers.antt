@@ -1,5 +1,5 @@
 use Rattle.std.specs.Map.{keys_of}
-use Rattle.pddl_reader.specs.Forms.{word_forms}
+use Rattle.pddl_syntax.specs.Forms.{word_forms}
 use Rattle.pddl_reader.specs.Resolved.{parameters_form}
 use Rattle.pddl_reader.proofs.VariableMeaning.{group_both}
 use Rattle.pddl_reader.proofs.resolution.variables.declare_group.Goals as goal

@@ -1,7 +1,7 @@
 use Rattle.std.proofs.Common.{◌≡◌, drop}
 use Rattle.std.specs.Map.{keys_of}
-use Rattle.pddl_reader.specs.Forms.{variable_groups}
-use Rattle.pddl_reader.specs.Optional.{through}
+use Rattle.pddl_syntax.specs.Forms.{variable_groups}
+use Rattle.pddl_syntax.specs.Optional.{through}
 use Rattle.pddl_reader.specs.Resolved.{parameters_form}
 use Rattle.pddl_reader.specs.Variables.{group_named}
 use Rattle.pddl_reader.proofs.resolution.variables.declare_groups.Given as goal

@@ -1,6 +1,6 @@
 use Rattle.std.proofs.Common.{◌≡◌, drop}
-use Rattle.pddl_reader.specs.Forms.{word_forms}
-use Rattle.pddl_reader.specs.Optional.{through}
+use Rattle.pddl_syntax.specs.Forms.{word_forms}
+use Rattle.pddl_syntax.specs.Optional.{through}
 use Rattle.pddl_reader.specs.Variables.{parameter_named}
 use Rattle.pddl_reader.proofs.resolution.variables.name_parameters.Given as goal
 

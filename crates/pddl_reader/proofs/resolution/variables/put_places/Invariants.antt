@@ -1,5 +1,5 @@
 use Rattle.std.proofs.Common.{◌≡◌, drop}
-use Rattle.pddl_reader.specs.Forms.{word_forms}
+use Rattle.pddl_syntax.specs.Forms.{word_forms}
 use Rattle.pddl_reader.specs.Variables.{places_behind}
 use Rattle.pddl_reader.proofs.resolution.variables.put_places.Given as goal
 

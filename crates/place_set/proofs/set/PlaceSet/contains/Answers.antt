@@ -1,5 +1,5 @@
 use Rattle.std.proofs.Common.{◌<◌, ap, sym, ◌∙◌, length, false, arith}
-use Rattle.place_set.specs.Row.{row_has}
+use Rattle.bit_rows.specs.Rows.{row_has}
 use Rattle.place_set.specs.Members.{is_member}
 use Rattle.place_set.proofs.Views.{below, get_or-members}
 use Rattle.place_set.proofs.set.PlaceSet.contains.Goals as goal

@@ -1,5 +1,5 @@
 use Rattle.std.proofs.Common.{ap, sym, ◌∙◌, arith}
-use Rattle.place_set.specs.Row.{row_has}
+use Rattle.bit_rows.specs.Rows.{row_has}
 use Rattle.place_set.specs.Members.{least_member}
 use Rattle.place_set.proofs.Views.{least-is, least-none}
 use Rattle.place_set.proofs.Summaries.{IsLeastBit, least-down, none-down, row_has-none, within-places}

@@ -1,4 +1,4 @@
-use Rattle.place_set.proofs.Bits.{row_has-zero}
+use Rattle.bit_rows.proofs.Bits.{row_has-zero}
 use Rattle.place_set.proofs.Views.{members-none}
 use Rattle.place_set.proofs.set.PlaceSet.new.Goals as goal
 use Rattle.std.proofs.Common.{◌/◌}

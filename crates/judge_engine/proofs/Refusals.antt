@@ -1,0 +1,139 @@
+-- Refusals that the texts of a run call for.
+
+use Rattle.std.proofs.Common.{◌≡◌, ◌≢◌, ℕ, ◌<◌, ◌≤◌, List, length, Option, None, Some, Result, Ok, Err, IfErr, refl, ap, sym, ◌∙◌, subst, ◌↔◌}
+use Rattle.pddl_syntax.specs.declared.fault.FaultKind.{FaultKind}
+use Rattle.pddl_syntax.specs.declared.fault.FaultKind.TheVariants.{OutOfMemory as Memory}
+use Rattle.pddl_syntax.specs.declared.fault.ReadFault.{ReadFault}
+use Rattle.pddl_reader.specs.Domain.{DomainValue}
+use Rattle.pddl_reader.specs.Texts.{domain_of_text, problem_of_text}
+use Rattle.pddl_syntax.specs.Trees.{text_fault}
+use Rattle.strips_task.specs.declared.tasks.TaskParts.{TaskParts}
+use Rattle.judge_engine.specs.declared.fault.JudgeFault.{JudgeFault}
+use Rattle.judge_engine.specs.declared.fault.JudgeFault.TheVariants.{TooLarge, TooManyPlanners, Domain, Problem, TooManyPlans, Steps, OutOfMemory, NoThread, Held}
+use Rattle.judge_engine.specs.Bundle.{BundleValue}
+use Rattle.judge_engine.specs.Answer.{too_large, task_of, plan_count, most_planners, most_plans}
+use Rattle.judge_bench.specs.declared.running.RunFault.{RunFault}
+use Rattle.judge_bench.specs.declared.running.RunFault.TheVariants as run
+use Rattle.judge_engine.specs.Refusal.{IsOfTexts, ReadingCallsFor, TextsCallFor, IsFaultOf, refusal_of_run}
+use Rattle.judge_engine.proofs.TextFaults.{text_fault_kind}
+
+-- a refusal that is not for memory is of a fault that is not either
+pub other_kind : {kind : FaultKind} {refusal : JudgeFault} → (kind ≡ Memory → refusal ≡ OutOfMemory) → refusal ≢ OutOfMemory → kind ≢ Memory
+other_kind memory other is = other (memory is)
+
+-- one error at most
+pub same_error : {T E : Type 0} (e f : E) → ◌≡◌ {A = Result T E} (Err e) (Err f) → e ≡ f
+same_error e f is = cc
+
+-- a reader's refusal of a text
+module _ {A T : Type 0} (text : List ℕ) (value : Option A) (fault : ReadFault) where
+  fault_of : fault.kind ≢ Memory → (fault.kind ≢ Memory → value ≡ None)
+      → ((e : ReadFault) → text_fault text ≡ Some e → ◌≡◌ {A = Result T ReadFault} (Err fault) (Err e)) → IsFaultOf text value fault
+  fault_of kind none first = record {
+    no_value = none kind;
+    of_the_text = kind;
+    first = λ e is. same_error {T = T} fault e (first e is);
+  }
+
+module _ {T : Type 0} (domain problem : List ℕ) where
+  pub domain_fault : (fault : ReadFault) (refusal : JudgeFault) → fault.kind ≢ Memory → (fault.kind ≢ Memory → refusal ≡ Domain fault)
+      → (fault.kind ≢ Memory → domain_of_text domain ≡ None)
+      → ((e : ReadFault) → text_fault domain ≡ Some e → ◌≡◌ {A = Result T ReadFault} (Err fault) (Err e))
+      → ReadingCallsFor domain problem refusal
+  domain_fault fault refusal kind is none first =
+      subst (ReadingCallsFor domain problem) (sym (is kind)) (fault_of {T = T} domain (domain_of_text domain) fault kind none first)
+
+  pub problem_fault : (value : DomainValue) (fault : ReadFault) (refusal : JudgeFault) → fault.kind ≢ Memory
+      → (fault.kind ≢ Memory → refusal ≡ Problem fault) → domain_of_text domain ≡ Some value
+      → (fault.kind ≢ Memory → problem_of_text value problem ≡ None)
+      → ((e : ReadFault) → text_fault problem ≡ Some e → ◌≡◌ {A = Result T ReadFault} (Err fault) (Err e))
+      → ReadingCallsFor domain problem refusal
+  problem_fault value fault refusal kind is read none first =
+      subst (ReadingCallsFor domain problem) (sym (is kind))
+      (value, read, fault_of {T = T} problem (problem_of_text value problem) fault kind none first)
+
+-- wrong bytes and parentheses of the domain are told, since finding them takes no memory
+pub told_at_once : {T U : Type 0} (domain : List ℕ) (fault : ReadFault) (refusal : JudgeFault) → (fault.kind ≢ Memory → refusal ≡ Domain fault)
+    → ((e : ReadFault) → text_fault domain ≡ Some e → ◌≡◌ {A = Result T ReadFault} (Err fault) (Err e))
+    → (e : ReadFault) → text_fault domain ≡ Some e → ◌≡◌ {A = Result U JudgeFault} (Err refusal) (Err (Domain e))
+told_at_once {T} {U} domain fault refusal is first e found =
+    let same : fault ≡ e = same_error {T = T} fault e (first e found) in
+    let kind : fault.kind ≢ Memory = subst (λ (f : ReadFault). f.kind ≢ Memory) (sym same) (text_fault_kind domain e found) in
+    let told : refusal ≡ Domain e = is kind ∙ ap (λ (f : ReadFault). Domain f) same in
+    ap (λ (r : JudgeFault). Err r) told
+
+-- what an error says holds of the error
+err_at : {T E : Type 0} (P : E → Type 0) (r : Result T E) (e : E) → r ≡ Err e → IfErr r P → P e
+err_at {T} {E} P (Ok x) e is h = let clash : ◌≡◌ {A = Result T E} (Ok x) (Err e) = is in cc
+err_at {T} {E} P (Err f) e is h = subst P (same_error {T = T} f e is) h
+
+module _ (domain problem : List ℕ) (bundles : List BundleValue) where
+  -- where no text is too large and the planners are few, what the domain and the problem call for
+  pub read_cause : (fault : JudgeFault) → None ≡ too_large domain problem bundles → length bundles ≤ most_planners
+      → ReadingCallsFor domain problem fault → TextsCallFor domain problem bundles fault
+  read_cause (Domain fault) none few h = (sym none, few, h)
+  read_cause (Problem fault) none few h = (sym none, few, h)
+  read_cause (TooLarge place) none few h = absurd h
+  read_cause TooManyPlanners none few h = absurd h
+  read_cause TooManyPlans none few h = absurd h
+  read_cause (Steps fault) none few h = absurd h
+  read_cause OutOfMemory none few h = absurd h
+  read_cause NoThread none few h = absurd h
+  read_cause (Held job) none few h = absurd h
+
+  -- where there is a task, too many plans are the cause
+  pub plans_cause : (task : TaskParts) (fault : JudgeFault) → None ≡ too_large domain problem bundles → length bundles ≤ most_planners
+      → task_of domain problem ≡ Some task → (fault ≡ TooManyPlans) × (most_plans < plan_count bundles)
+      → TextsCallFor domain problem bundles fault
+  plans_cause task fault none few is plans =
+      subst (TextsCallFor domain problem bundles) (sym plans.0) (sym none, few, (task, is), plans.1)
+
+  -- the place of a text that is too large is told, and no other
+  pub large_told : {T : Type 0} (place : ℕ) → Some place ≡ too_large domain problem bundles
+      → (n : ℕ) → (◌≡◌ {A = Result T JudgeFault} (Err (TooLarge place)) (Err (TooLarge n))) ↔ (too_large domain problem bundles ≡ Some n)
+  large_told {T} place is n = (
+    λ same. let told : TooLarge place ≡ TooLarge n = same_error {T = T} (TooLarge place) (TooLarge n) same in
+        let equal : place ≡ n = cc in sym is ∙ ap Some equal,
+    λ at. let both : Some place ≡ Some n = is ∙ at in let equal : place ≡ n = cc in ap (λ (k : ℕ). Err (TooLarge k)) equal,
+  )
+
+  -- where there is none, that is not told
+  pub no_large_told : {T : Type 0} (result : Result T JudgeFault) → None ≡ too_large domain problem bundles
+      → IfErr result (λ fault. (n : ℕ) → fault ≢ TooLarge n)
+      → (n : ℕ) → (result ≡ Err (TooLarge n)) ↔ (too_large domain problem bundles ≡ Some n)
+  no_large_told result none other n = (
+    λ same. absurd (err_at (λ fault. (n : ℕ) → fault ≢ TooLarge n) result (TooLarge n) same other n refl),
+    λ at. let clash : ◌≡◌ {A = Option ℕ} None (Some n) = none ∙ at in cc,
+  )
+
+  -- the readers tell no size
+  pub read_no_size : (fault : JudgeFault) → (fault ≢ OutOfMemory → ReadingCallsFor domain problem fault) → (n : ℕ) → fault ≢ TooLarge n
+  read_no_size fault cause n is =
+      subst (ReadingCallsFor domain problem) is (cause (λ memory. let clash : TooLarge n ≡ OutOfMemory = sym is ∙ memory in cc))
+
+  -- and no held job
+  pub read_not_held : (fault : JudgeFault) → (fault ≢ OutOfMemory → ReadingCallsFor domain problem fault) → (job : ℕ) → fault ≢ Held job
+  read_not_held fault cause job is =
+      subst (ReadingCallsFor domain problem) is (cause (λ memory. let clash : Held job ≡ OutOfMemory = sym is ∙ memory in cc))
+
+-- what lies in the texts is no want of memory
+pub not_memory : (fault : JudgeFault) → IsOfTexts fault → fault ≢ OutOfMemory
+not_memory fault in_texts memory = subst IsOfTexts memory in_texts
+
+-- where nothing in the texts but too many plans is told, no size is
+pub plans_no_size : {P : Type 0} (fault : JudgeFault) → (IsOfTexts fault → (fault ≡ TooManyPlans) × P) → (n : ℕ) → fault ≢ TooLarge n
+plans_no_size fault told n is =
+    let plans = told (subst IsOfTexts (sym is) tt) in
+    let clash : TooManyPlans ≡ TooLarge n = sym plans.0 ∙ is in cc
+
+-- a fault of the run does not lie in the texts
+pub run_not_in_texts : (fault : RunFault) → IsOfTexts (refusal_of_run fault) → ⊥
+run_not_in_texts run.OutOfMemory h = h
+run_not_in_texts run.NoThread h = h
+run_not_in_texts (run.Held job) h = h
+
+-- and where it is that a job is held, it is so for that job
+pub held_in_run : (fault : RunFault) (job : ℕ) → refusal_of_run fault ≡ Held job → fault ≡ run.Held job
+held_in_run run.OutOfMemory job is = let clash : OutOfMemory ≡ Held job = is in cc
+held_in_run run.NoThread job is = let clash : NoThread ≡ Held job = is in cc
+held_in_run (run.Held other) job is = let both : Held other ≡ Held job = is in let same : other ≡ job = cc in ap (λ (n : ℕ). run.Held n) same

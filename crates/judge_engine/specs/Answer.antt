@@ -1,0 +1,57 @@
+-- The answer to the input bytes: what the report of a run has to be.
+
+use Rattle.std.specs.Prelude.{ℕ, Bool, List, ◌∷◌, length, map, nat_lt, nat_le, ◌&&◌, Option, None, is_none, if◌then◌else◌}
+use Rattle.std.specs.List.{position_from, sum_by}
+use Rattle.std.specs.Option.{option_map, option_and_then}
+use Rattle.strips_task.specs.declared.tasks.TaskParts.{TaskParts}
+use Rattle.strips_judge.specs.Verdict.{verdict}
+use Rattle.plan_text.specs.Bundle.{parts}
+use Rattle.plan_text.specs.PlanReading.{plan_of}
+use Rattle.pddl_reader.specs.Texts.{domain_of_text, problem_of_text}
+use Rattle.judge_engine.specs.declared.inlet.TheConstants.{FILE_LIMIT}
+use Rattle.judge_engine.specs.Bundle.{BundleValue}
+use Rattle.judge_engine.specs.Report.{Judged, Planner, report}
+
+-- the limits of a run
+abbrev pub most_planners : ℕ
+most_planners = 64
+
+abbrev pub most_plans : ℕ
+most_plans = 65536
+
+-- the plan of a text with its verdict
+unfoldable pub judged : TaskParts → List ℕ → Judged
+judged task text = record { plan = plan_of text; verdict = verdict task (plan_of text) }
+
+-- a planner with its plans and their verdicts
+unfoldable pub planner_of : TaskParts → BundleValue → Planner
+planner_of task bundle = record { name = bundle.name; plans = map (judged task) (parts bundle.bytes) }
+
+-- whether a text is over the limit of a file
+abbrev pub is_over_limit : List ℕ → Bool
+is_over_limit text = nat_lt FILE_LIMIT (length text)
+
+-- the place of the first text that is over the limit of a file: the domain, the problem, then the planners' files
+unfoldable pub too_large : List ℕ → List ℕ → List BundleValue → Option ℕ
+too_large domain problem bundles = position_from is_over_limit 0 (domain ∷ problem ∷ map (λ bundle. bundle.bytes) bundles)
+
+-- how many plans the planners' files hold
+unfoldable pub plan_count : List BundleValue → ℕ
+plan_count bundles = sum_by (λ bundle. length (parts bundle.bytes)) bundles
+
+-- whether a run is within its limits: no text is too large, and there are not too many planners and plans
+abbrev pub is_within_limits : List ℕ → List ℕ → List BundleValue → Bool
+is_within_limits domain problem bundles =
+    is_none (too_large domain problem bundles)
+    && (nat_le (length bundles) most_planners && nat_le (plan_count bundles) most_plans)
+
+-- the task that a domain text and a problem text stand for
+unfoldable pub task_of : List ℕ → List ℕ → Option TaskParts
+task_of domain problem = option_and_then (λ value. problem_of_text value problem) (domain_of_text domain)
+
+-- the report of a run, where it is within its limits and the domain and the problem stand for a task
+unfoldable pub answer : List ℕ → List ℕ → List BundleValue → Option (List ℕ)
+answer domain problem bundles =
+    (if is_within_limits domain problem bundles
+    then option_map (λ task. report task (map (planner_of task) bundles)) (task_of domain problem)
+    else None)

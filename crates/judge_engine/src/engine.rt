@@ -1,0 +1,213 @@
+//! The engine: texts in, report out.
+//!
+//! [`judge_bytes`] reads the domain and the problem and the plans of all planners, has the plans judged, and makes the whole report. Its
+//! contract says that the report is the stated function of the bytes that came in, for any number of threads.
+ghost use Rattle.std.specs.Prelude.{◌≡◌, ◌≢◌, ◌↔◌, ◌+◌, ◌<◌, ◌≤◌, ◌^◌, [], ℕ, List, length, map, IfOk, IfErr, Some, None, Err, MatchBool};
+ghost use Rattle.judge_bench.specs.Findings.{findings_of};
+ghost use Rattle.pddl_syntax.specs.declared.fault.ReadFault as read_fault;
+ghost use Rattle.pddl_syntax.specs.Trees.{text_fault};
+ghost use Rattle.judge_engine.specs.Answer.{answer, task_of, planner_of, too_large, plan_count, most_planners, most_plans};
+ghost use Rattle.judge_engine.specs.Plans.{plans_of_files};
+ghost use Rattle.judge_engine.specs.Refusal.{IsOfTexts, ReadingCallsFor, TextsCallFor};
+ghost use Rattle.judge_engine.specs.Report.{report};
+ghost use Rattle.judge_engine.specs.declared.fault.JudgeFault.TheVariants.{OutOfMemory, TooLarge, TooManyPlanners, TooManyPlans, Domain, Held};
+
+use crate::bundle::Bundle;
+use crate::fault::JudgeFault;
+use crate::inlet::FILE_LIMIT;
+use crate::lines::push_header;
+use crate::planner::push_planner;
+use crate::plans::read_plans;
+use crate::report::Report;
+use crate::text::Text;
+use judge_bench::{Findings, Gate, run};
+use pddl_reader::{FaultKind, ReadFault, read_domain, read_problem};
+use plan_text::count_parts;
+use std::alloc::{AllocError, Global};
+use std::sync::Wait;
+use std::thread::Threads;
+use strips_task::Task;
+
+/// The most planners of a run.
+pub const MOST_PLANNERS: usize = 64;
+
+/// The most plans of a run, of all planners together.
+pub const MOST_PLANS: usize = 65536;
+
+/// The report of a run over a domain text, a problem text and the files of planners, whose plans so many threads judge at most.
+///
+/// A file holds one plan or more (`plan_text::Parts`). Their reading and judging never refuse: a text that is no plan is a verdict. The
+/// plans are jobs, numbered from 0 in the order of the files and of the parts of each, and the gate is asked of each before it is judged. The
+/// whole report is made before anything is written; without planners it is the first line alone. Waits until all threads are done.
+///
+/// A run without a report is refused for the first cause in the order of `JudgeFault`. The plans are counted before any is read. Which kind
+/// of fault a text has, and where, once its bytes and parentheses are right, is the reader's to say. Want of memory can come in place of any
+/// cause but those that take no memory to find: that a text is too large, too many planners, and the wrong bytes and parentheses of the
+/// domain.
+pub fn judge_bytes<R: Threads + Wait + Sync, G: Gate + Sync>(
+    rt: &R,
+    alloc: Global,
+    domain: &[u8],
+    problem: &[u8],
+    bundles: &[Bundle],
+    workers: u32,
+    gate: &G,
+) -> Result<Report, JudgeFault>
+    requires { (1 ≤ workers) × (workers ≤ 32) }
+    ensures answer { IfOk result (λ report. answer domain.now problem.now bundles.now ≡ Some report) }
+    ensures refusal { IfErr result (λ fault. IsOfTexts fault → answer domain.now problem.now bundles.now ≡ None) }
+    ensures cause { IfErr result (λ fault. IsOfTexts fault → TextsCallFor domain.now problem.now bundles.now fault) }
+    ensures held { IfErr result (λ fault. (job : ℕ) → fault ≡ Held job → G.may_hold gate.now job) }
+
+    // What takes no memory to find is always told.
+    ensures large { (place : ℕ) → (result ≡ Err (TooLarge place)) ↔ (too_large domain.now problem.now bundles.now ≡ Some place) }
+    ensures planners { too_large domain.now problem.now bundles.now ≡ None → most_planners < length bundles.now → result ≡ Err TooManyPlanners }
+    ensures domain_text { (e : read_fault.ReadFault) → too_large domain.now problem.now bundles.now ≡ None → length bundles.now ≤ most_planners
+        → text_fault domain.now ≡ Some e → result ≡ Err (Domain e) }
+{
+    match too_large(domain, problem, bundles) {
+        Some(place) => Err(JudgeFault::TooLarge(place)),
+        None => {
+            if bundles.len() > MOST_PLANNERS {
+                return Err(JudgeFault::TooManyPlanners);
+            }
+            match read_task(alloc, domain, problem) {
+                Ok(task) => judge_planners(rt, alloc, &task, bundles, workers, gate),
+                Err(fault) => Err(fault),
+            }
+        }
+    }
+}
+
+/// The place of the first text that is over the limit of a file: 0 is the domain, 1 the problem, and 2 + k the k-th file from 0.
+fn too_large(domain: &[u8], problem: &[u8], bundles: &[Bundle]) -> Option<usize>
+    ensures { result ≡ too_large domain.now problem.now bundles.now }
+{
+    if domain.len() > FILE_LIMIT {
+        return Some(0);
+    }
+    if problem.len() > FILE_LIMIT {
+        return Some(1);
+    }
+    for (number, bundle) in bundles.iter().enumerate() {
+        if bundle.bytes().len() > FILE_LIMIT {
+            return Some(number + 2);
+        }
+    }
+    None
+}
+
+/// The task of a domain text and a problem text.
+pub(crate) fn read_task(alloc: Global, domain: &[u8], problem: &[u8]) -> Result<Task, JudgeFault>
+    ensures task { IfOk result (λ task. task_of domain.now problem.now ≡ Some task) }
+    ensures refusal { IfErr result (λ fault. fault ≢ OutOfMemory → task_of domain.now problem.now ≡ None) }
+    ensures cause { IfErr result (λ fault. fault ≢ OutOfMemory → ReadingCallsFor domain.now problem.now fault) }
+    ensures domain_text { (e : read_fault.ReadFault) → text_fault domain.now ≡ Some e → result ≡ Err (Domain e) }
+    ensures reader { IfErr result (λ fault. (place : ℕ) → fault ≢ TooLarge place) }
+{
+    let domain = match read_domain(alloc, domain) {
+        Ok(domain) => domain,
+        Err(fault) => return Err(refusal(fault, JudgeFault::Domain(fault))),
+    };
+    match read_problem(alloc, domain, problem) {
+        Ok(task) => Ok(task),
+        Err(fault) => Err(refusal(fault, JudgeFault::Problem(fault))),
+    }
+}
+
+/// Why a run stops at a reader's refusal: want of memory is one wherever it comes.
+fn refusal(fault: ReadFault, other: JudgeFault) -> JudgeFault
+    ensures memory { fault.kind ≡ FaultKind.OutOfMemory → result ≡ OutOfMemory }
+    ensures other { fault.kind ≢ FaultKind.OutOfMemory → result ≡ other }
+{
+    match fault.kind {
+        FaultKind::OutOfMemory => JudgeFault::OutOfMemory,
+        _ => other,
+    }
+}
+
+/// The report of a task's plans, unless there are too many.
+fn judge_planners<R: Threads + Wait + Sync, G: Gate + Sync>(
+    rt: &R,
+    alloc: Global,
+    task: &Task,
+    bundles: &[Bundle],
+    workers: u32,
+    gate: &G,
+) -> Result<Report, JudgeFault>
+    requires planners { length bundles.now ≤ 64 }
+    requires workers { (1 ≤ workers) × (workers ≤ 32) }
+    ensures report { IfOk result (λ text. (plan_count bundles.now ≤ most_plans) × (text ≡ report task.now (map (planner_of task.now) bundles.now))) }
+    ensures refusal { IfErr result (λ fault. IsOfTexts fault → (fault ≡ TooManyPlans) × (most_plans < plan_count bundles.now)) }
+    ensures held { IfErr result (λ fault. (job : ℕ) → fault ≡ Held job → G.may_hold gate.now job) }
+{
+    if have_too_many_plans(bundles) {
+        return Err(JudgeFault::TooManyPlans);
+    }
+    match judge_plans(rt, alloc, task, bundles, workers, gate) {
+        Ok(findings) => match report_of(alloc, task, bundles, &findings) {
+            Ok(report) => Ok(report),
+            Err(AllocError) => Err(JudgeFault::OutOfMemory),
+        },
+        Err(fault) => Err(fault),
+    }
+}
+
+/// What is found of the plans of all files.
+fn judge_plans<R: Threads + Wait + Sync, G: Gate + Sync>(
+    rt: &R,
+    alloc: Global,
+    task: &Task,
+    bundles: &[Bundle],
+    workers: u32,
+    gate: &G,
+) -> Result<Findings, JudgeFault>
+    requires planners { length bundles.now ≤ 64 }
+    requires plans { plan_count bundles.now ≤ most_plans }
+    requires workers { (1 ≤ workers) × (workers ≤ 32) }
+    ensures findings { IfOk result (λ findings. findings ≡ findings_of task.now (length bundles.now) (plans_of_files 0 bundles.now)) }
+    ensures refusal { IfErr result (λ fault. IsOfTexts fault → ⊥) }
+    ensures held { IfErr result (λ fault. (job : ℕ) → fault ≡ Held job → G.may_hold gate.now job) }
+{
+    match read_plans(alloc, bundles) {
+        Ok(plans) => match run(rt, alloc, task, bundles.len() as u32, plans, workers, gate) {
+            Ok(findings) => Ok(findings),
+            Err(fault) => Err(JudgeFault::from(fault)),
+        },
+        Err(AllocError) => Err(JudgeFault::OutOfMemory),
+    }
+}
+
+/// Whether the planners' files hold too many plans. They are counted, and none is read.
+fn have_too_many_plans(bundles: &[Bundle]) -> bool
+    ensures { MatchBool result (most_plans < plan_count bundles.now) (plan_count bundles.now ≤ most_plans) }
+{
+    let mut room = MOST_PLANS;
+    for bundle in bundles {
+        let count = count_parts(bundle.bytes());
+        if count > room {
+            return true;
+        }
+        room -= count;
+    }
+    false
+}
+
+/// The report of a task's plans, of which this was found.
+fn report_of(
+    alloc: Global,
+    task: &Task,
+    bundles: &[Bundle],
+    findings: &Findings,
+) -> Result<Report, AllocError>
+    requires findings { findings.now ≡ findings_of task.now (length bundles.now) (plans_of_files 0 bundles.now) }
+    requires plans { plan_count bundles.now ≤ most_plans }
+    ensures { IfOk result (λ text. text ≡ report task.now (map (planner_of task.now) bundles.now)) }
+{
+    let mut text = Text::new(alloc);
+    push_header(&mut text, task)?;
+    for (planner, bundle) in bundles.iter().enumerate() {
+        push_planner(&mut text, task, bundle.name(), findings, planner)?;
+    }
+    Ok(Report::from_bytes(text.into_bytes()))
+}

@@ -1,0 +1,27 @@
+//! All that the program `plan_judge` does: texts in, a report out, and the command line around it.
+//!
+//! ```text
+//! let bundles = [Bundle { name, bytes }];    // the file of a planner
+//! let report = judge_bytes(rt, alloc, domain, problem, &bundles, 4, &Open)?;
+//! write_report(&report, &mut Sink::new(rt.stdout()))?;
+//! ```
+//!
+//! [`engine::judge_bytes`] makes the report of a run and [`replay::replay_bytes`] the lines of a replay, each from the bytes of its input
+//! files. [`program::main_with`] reads the command line and the files, and writes what they answer.
+#![tactic(auto)]
+
+pub mod bundle;
+pub mod command;
+pub mod engine;
+pub mod fault;
+pub mod inlet;
+mod lines;
+pub mod outlet;
+mod planner;
+mod plans;
+pub mod program;
+mod render;
+pub mod replay;
+mod replies;
+pub mod report;
+mod text;

@@ -1,0 +1,345 @@
+//! The program: the words of the command line in, bytes and an exit status out.
+//!
+//! [`main_with`] does all that `main` does, over sources and outlets that are handed in, so that tests can make them fail.
+ghost use Rattle.std.specs.Prelude.{◌≡◌, ◌↔◌, ◌⊎◌, ◌<◌, ◌≤◌, true, false, map, IfOk};
+ghost use Rattle.std.specs.Io.KnownBytes.{Appends};
+ghost use Rattle.judge_engine.specs.Outlet.{AppendsFront};
+ghost use Rattle.judge_engine.specs.Run.{IsReportOver, WritesReport, CutsReport, IsReplayOver, WritesReplay, CutsReplay, IsFile, AreFiles};
+
+use crate::bundle::Bundle;
+use crate::command::{JudgeRequest, ReplayRequest, Request, parse};
+use crate::engine::judge_bytes;
+use crate::fault::JudgeFault;
+use crate::inlet::{InFault, Sources};
+use crate::outlet::{Outlet, write_bytes, write_report};
+use crate::replay::replay_bytes;
+use crate::report::Report;
+use crate::text::Text;
+use judge_bench::Open;
+use pddl_reader::ReadFault;
+use pddl_tokens::line_of;
+use std::alloc::{AllocError, AllocFailed, Global};
+use std::sync::Wait;
+use std::thread::Threads;
+
+/// Why a run over files stops without a report.
+#[derive(Debug, Drop)]
+enum Stop {
+    /// An input is refused; this is told.
+    Input(Vec<u8>),
+    /// Something that the run needs is missing; this is told.
+    Lacking(Vec<u8>),
+    /// Memory ran out.
+    OutOfMemory,
+}
+
+impl From<AllocError> for Stop {
+    fn from(_error: AllocError) -> Stop {
+        Stop::OutOfMemory
+    }
+}
+
+impl<T: Drop> From<AllocFailed<T>> for Stop {
+    fn from(_error: AllocFailed<T>) -> Stop {
+        Stop::OutOfMemory
+    }
+}
+
+/// Runs the program on the words of a command line, the first of which is the program's name, and answers the exit status:
+/// 0 where a report or help was written, 1 where an input was refused, 2 where the command line was, 3 where memory ran out or a thread could not
+/// be started, and 4 where
+/// the report or help could not be written.
+///
+/// A report goes to `out` whole or, where `out` fails, from its front. What else is told goes to `err`, whose faults are ignored.
+pub fn main_with<R: AllocGlobal + Threads + Wait + Sync, S: Sources, O: Outlet, E: Outlet>(
+    rt: &R,
+    words: &[String],
+    sources: &S,
+    out: &mut O,
+    err: &mut E,
+) -> u8
+    requires { O.failed out.old ≡ false }
+    ensures status { result ≤ 4 }
+    ensures unwritten { (result ≡ 4) ↔ (O.failed out.new ≡ true) }
+    ensures untouched { 0 < result → result < 4 → out.new ≡ out.old }
+{
+    match parse(rt.alloc(), words) {
+        Ok(Request::Judge(files)) => judge_with(rt, &files, sources, out, err),
+        Ok(Request::Replay(files)) => replay_with(rt.alloc(), &files, sources, out, err),
+        Ok(Request::Show(text)) => write_out(&Report::from_bytes(text.into_bytes()), out, err),
+        Ok(Request::Refused(text)) => {
+            tell(err, text.as_bytes());
+            2
+        }
+        Err(AllocError) => out_of_memory(err),
+    }
+}
+
+/// Judges the plans of files, one for each planner, and answers the exit status, as `main_with` does for a command line that names these files.
+pub fn judge_with<R: AllocGlobal + Threads + Wait + Sync, S: Sources, O: Outlet, E: Outlet>(
+    rt: &R,
+    files: &JudgeRequest<'_>,
+    sources: &S,
+    out: &mut O,
+    err: &mut E,
+) -> u8
+    requires { O.failed out.old ≡ false }
+    ensures status { result ≤ 4 }
+    ensures written { result ≡ 0 → WritesReport (S.may_hold sources.now) files.now.domain.now files.now.problem.now (map (λ name. name.now) files.now.plans.items)
+        (O.taken out.old) (O.taken out.new) }
+    ensures cut { result ≡ 4 → CutsReport (S.may_hold sources.now) files.now.domain.now files.now.problem.now (map (λ name. name.now) files.now.plans.items)
+        (O.taken out.old) (O.taken out.new) }
+    ensures unwritten { (result ≡ 4) ↔ (O.failed out.new ≡ true) }
+    ensures untouched { 0 < result → result < 4 → out.new ≡ out.old }
+{
+    match judge_files(rt, files, sources) {
+        Ok(report) => write_out(&report, out, err),
+        Err(stop) => stopped(stop, err),
+    }
+}
+
+/// Replays the steps of a file, and answers the exit status, as `main_with` does for a command line that names these files.
+pub fn replay_with<S: Sources, O: Outlet, E: Outlet>(
+    alloc: Global,
+    files: &ReplayRequest<'_>,
+    sources: &S,
+    out: &mut O,
+    err: &mut E,
+) -> u8
+    requires { O.failed out.old ≡ false }
+    ensures status { result ≤ 4 }
+    ensures written { result ≡ 0 → WritesReplay (S.may_hold sources.now) files.now.domain.now files.now.problem.now files.now.steps.now
+        (O.taken out.old) (O.taken out.new) }
+    ensures cut { result ≡ 4 → CutsReplay (S.may_hold sources.now) files.now.domain.now files.now.problem.now files.now.steps.now
+        (O.taken out.old) (O.taken out.new) }
+    ensures unwritten { (result ≡ 4) ↔ (O.failed out.new ≡ true) }
+    ensures untouched { 0 < result → result < 4 → out.new ≡ out.old }
+{
+    match replay_files(alloc, files, sources) {
+        Ok(report) => write_out(&report, out, err),
+        Err(stop) => stopped(stop, err),
+    }
+}
+
+/// Tells why a run stops without a report, and answers the exit status for it.
+fn stopped<E: Outlet>(stop: Stop, err: &mut E) -> u8
+    ensures status { (result ≡ 1) ⊎ (result ≡ 3) }
+{
+    match stop {
+        Stop::Input(text) => {
+            tell(err, text.as_slice());
+            1
+        }
+        Stop::Lacking(text) => {
+            tell(err, text.as_slice());
+            3
+        }
+        Stop::OutOfMemory => out_of_memory(err),
+    }
+}
+
+/// Writes a report or help, and answers the exit status: 0 where all of it went out, and else 4.
+fn write_out<O: Outlet, E: Outlet>(report: &Report, out: &mut O, err: &mut E) -> u8
+    requires { O.failed out.old ≡ false }
+    ensures status { (result ≡ 0) ⊎ (result ≡ 4) }
+    ensures whole { result ≡ 0 → Appends (O.taken out.old) (O.taken out.new) report.now }
+    ensures cut { result ≡ 4 → AppendsFront (O.taken out.old) (O.taken out.new) report.now }
+    ensures unwritten { (result ≡ 4) ↔ (O.failed out.new ≡ true) }
+{
+    match write_report(report, out) {
+        Ok(()) => 0,
+        Err(_) => {
+            tell(err, b"cannot write the report\n");
+            4
+        }
+    }
+}
+
+/// Tells that memory ran out, and answers the exit status for it. Takes no memory.
+pub fn out_of_memory<E: Outlet>(err: &mut E) -> u8
+    ensures { result ≡ 3 }
+{
+    tell(err, b"out of memory\n");
+    3
+}
+
+/// Writes bytes to the outlet for errors; a fault there is ignored.
+fn tell<E: Outlet>(err: &mut E, bytes: &[u8]) {
+    if !err.has_failed() {
+        let _ = write_bytes(bytes, err);
+    }
+}
+
+/// The report of a run over files. They are read in the order of domain, problem and plans.
+fn judge_files<R: AllocGlobal + Threads + Wait + Sync, S: Sources>(
+    rt: &R,
+    files: &JudgeRequest<'_>,
+    sources: &S,
+) -> Result<Report, Stop>
+    ensures { IfOk result (IsReportOver (S.may_hold sources.now) files.now.domain.now files.now.problem.now (map (λ name. name.now) files.now.plans.items)) }
+{
+    let alloc = rt.alloc();
+    let domain = read(alloc, sources, files.domain)?;
+    let problem = read(alloc, sources, files.problem)?;
+    let bundles = read_bundles(alloc, sources, files.plans.as_slice())?;
+    match judge_bytes(
+        rt,
+        alloc,
+        domain.as_slice(),
+        problem.as_slice(),
+        bundles.as_slice(),
+        files.workers,
+        &Open,
+    ) {
+        Ok(report) => Ok(report),
+        Err(fault) => {
+            let large = large_file(files, fault);
+            Err(stop_for(alloc, fault, large, domain.as_slice(), problem.as_slice())?)
+        }
+    }
+}
+
+/// The lines of a replay over files. They are read in the order of domain, problem and steps.
+fn replay_files<S: Sources>(
+    alloc: Global,
+    files: &ReplayRequest<'_>,
+    sources: &S,
+) -> Result<Report, Stop>
+    ensures { IfOk result (IsReplayOver (S.may_hold sources.now) files.now.domain.now files.now.problem.now files.now.steps.now) }
+{
+    let domain = read(alloc, sources, files.domain)?;
+    let problem = read(alloc, sources, files.problem)?;
+    let steps = read(alloc, sources, files.steps)?;
+    match replay_bytes(
+        alloc,
+        domain.as_slice(),
+        problem.as_slice(),
+        steps.as_slice(),
+    ) {
+        Ok(report) => Ok(report),
+        Err(fault) => {
+            let large = large_replay_file(files, fault);
+            Err(stop_for(alloc, fault, large, domain.as_slice(), problem.as_slice())?)
+        }
+    }
+}
+
+/// The files of planners, in the order of their names. A planner has the name of its file.
+fn read_bundles<S: Sources>(alloc: Global, sources: &S, names: &[&str]) -> Result<Vec<Bundle>, Stop>
+    ensures { IfOk result (λ bundles. AreFiles (S.may_hold sources.now) (map (λ name. name.now) names.now) bundles.items) }
+{
+    let mut bundles = Vec::with_capacity(alloc, names.len())?;
+    for name in names {
+        bundles.push(read_bundle(alloc, sources, name)?)?;
+    }
+    Ok(bundles)
+}
+
+/// The file of a planner.
+fn read_bundle<S: Sources>(alloc: Global, sources: &S, name: &str) -> Result<Bundle, Stop>
+    ensures { IfOk result (IsFile (S.may_hold sources.now) name.now) }
+{
+    let bytes = read(alloc, sources, name)?;
+    let name = String::from_str(alloc, name)?;
+    Ok(Bundle { name, bytes })
+}
+
+/// The text of a file.
+fn read<S: Sources>(alloc: Global, sources: &S, name: &str) -> Result<Vec<u8>, Stop>
+    ensures { IfOk result (λ bytes. S.may_hold sources.now name.now bytes.items) }
+{
+    match sources.text(name) {
+        Ok(bytes) => Ok(bytes),
+        Err(InFault::OutOfMemory) => Err(Stop::OutOfMemory),
+        Err(InFault::Unreadable) => {
+            let mut text = Text::new(alloc);
+            text.push(b"cannot read ")?;
+            text.push(name.as_bytes())?;
+            text.push(b"\n")?;
+            Err(Stop::Input(text.into_bytes()))
+        }
+    }
+}
+
+/// What is told where a run gives no report. A text that is too large is that of the file of this name.
+fn stop_for(
+    alloc: Global,
+    fault: JudgeFault,
+    large: &str,
+    domain: &[u8],
+    problem: &[u8],
+) -> Result<Stop, AllocError> {
+    let mut text = Text::new(alloc);
+    match fault {
+        JudgeFault::TooLarge(_) => {
+            text.push(large.as_bytes())?;
+            text.push(b" is too large")?;
+        }
+        JudgeFault::TooManyPlanners => text.push(b"more than 64 planners")?,
+        JudgeFault::Domain(fault) => push_fault(&mut text, b"domain", domain, fault)?,
+        JudgeFault::Problem(fault) => push_fault(&mut text, b"problem", problem, fault)?,
+        JudgeFault::TooManyPlans => text.push(b"more than 65536 plans")?,
+        JudgeFault::Steps(fault) => {
+            text.push(b"steps line ")?;
+            text.push_number(fault.line as usize)?;
+            text.push(b": ")?;
+            text.push(fault.kind.word().as_bytes())?;
+        }
+        JudgeFault::OutOfMemory => return Ok(Stop::OutOfMemory),
+        JudgeFault::NoThread => text.push(b"no thread")?,
+        JudgeFault::Held(_) => text.push(b"a job is held")?,
+    }
+    text.push(b"\n")?;
+    if fault.status() == 1 {
+        Ok(Stop::Input(text.into_bytes()))
+    } else {
+        Ok(Stop::Lacking(text.into_bytes()))
+    }
+}
+
+/// The name of the file whose text is too large: 0 is the domain, 1 the problem, and 2 + k the k-th file of plans.
+fn large_file<'a>(files: &JudgeRequest<'a>, fault: JudgeFault) -> &'a str {
+    match fault {
+        JudgeFault::TooLarge(0) => files.domain,
+        JudgeFault::TooLarge(place) if place > 1 => match files.plans.get(place - 2) {
+            Some(name) => name,
+            None => files.problem,
+        },
+        _ => files.problem,
+    }
+}
+
+/// The name of the file whose text is too large: 0 is the domain, 1 the problem, and 2 the steps.
+fn large_replay_file<'a>(files: &ReplayRequest<'a>, fault: JudgeFault) -> &'a str {
+    match fault {
+        JudgeFault::TooLarge(0) => files.domain,
+        JudgeFault::TooLarge(2) => files.steps,
+        _ => files.problem,
+    }
+}
+
+/// Adds what is wrong with a text and where: its line, its bytes from the first up to the one behind the last, and its kind.
+fn push_fault(
+    text: &mut Text,
+    what: &[u8],
+    bytes: &[u8],
+    fault: ReadFault,
+) -> Result<(), AllocError> {
+    text.push(what)?;
+    text.push(b" line ")?;
+    text.push_number(line_at(bytes, fault.span.start) as usize)?;
+    text.push(b" bytes ")?;
+    text.push_number(fault.span.start as usize)?;
+    text.push(b"-")?;
+    text.push_number(fault.span.end as usize)?;
+    text.push(b": ")?;
+    text.push(fault.kind.word().as_bytes())
+}
+
+/// The line of a place in a text; a place behind its end counts as its end, and a text of 2^31 bytes or more as one line.
+fn line_at(bytes: &[u8], place: u32) -> u32 {
+    if bytes.len() >= 1 << 31 {
+        return 1;
+    }
+    line_of(bytes, place.min(bytes.len() as u32))
+}

@@ -1,0 +1,190 @@
+//! The text of atoms, steps and verdicts, as reports show them.
+//!
+//! Each function adds its piece behind the text that is there. Names come from the task, by number.
+ghost use Rattle.std.specs.Prelude.{◌≡◌, ◌++◌, ◌∷◌, ℕ, List, ◌-◌, OnOk, map, slice_get};
+ghost use Rattle.std.specs.Map.{keys_of};
+ghost use Rattle.judge_engine.specs.Report.{name_at, spaced, atom_text, condition_text, conditions_text, step_text, why_text, failure_text, verdict_text};
+ghost use Rattle.strips_task.specs.StepView.{step_shown};
+
+use crate::text::Text;
+use std::alloc::AllocError;
+use strips_judge::{Verdict, Why};
+use strips_task::{Atom, GroundCond, Plan, StepList, StepView, Task};
+
+/// Adds the name of the object with a number; a number that no object has adds nothing.
+fn push_object(text: &mut Text, task: &Task, number: u16) -> Result<(), AllocError>
+    ensures { OnOk result (text.new ≡ text.old ++ name_at (keys_of task.now.objects) number) }
+{
+    if usize::from(number) < task.object_count() {
+        return text.push(task.object_name(number).as_bytes());
+    }
+    Ok(())
+}
+
+/// Adds the name of the predicate with a number; a number that no predicate has adds nothing.
+fn push_predicate(text: &mut Text, task: &Task, number: u16) -> Result<(), AllocError>
+    ensures { OnOk result (text.new ≡ text.old ++ name_at (keys_of task.now.preds) number) }
+{
+    if usize::from(number) < task.pred_count() {
+        return text.push(task.pred_name(number).as_bytes());
+    }
+    Ok(())
+}
+
+/// Adds the names of objects, each behind a space.
+fn push_objects(text: &mut Text, task: &Task, numbers: &[u16]) -> Result<(), AllocError>
+    ensures { OnOk result (text.new ≡ text.old ++ spaced (map (name_at (keys_of task.now.objects)) numbers.now)) }
+{
+    for number in numbers {
+        text.push(b" ")?;
+        push_object(text, task, *number)?;
+    }
+    Ok(())
+}
+
+/// Adds an atom.
+fn push_atom(text: &mut Text, task: &Task, atom: &Atom) -> Result<(), AllocError>
+    ensures { OnOk result (text.new ≡ text.old ++ atom_text task.now atom.now) }
+{
+    text.push(b"(")?;
+    push_predicate(text, task, atom.pred)?;
+    push_objects(text, task, atom.args.as_slice())?;
+    text.push(b")")
+}
+
+/// Adds a condition.
+fn push_condition(text: &mut Text, task: &Task, cond: &GroundCond) -> Result<(), AllocError>
+    ensures { OnOk result (text.new ≡ text.old ++ condition_text task.now cond.now) }
+{
+    if cond.positive {
+        return push_atom(text, task, &cond.atom);
+    }
+    text.push(b"(not ")?;
+    push_atom(text, task, &cond.atom)?;
+    text.push(b")")
+}
+
+/// Adds conditions, each behind a space.
+fn push_conditions(text: &mut Text, task: &Task, conds: &[GroundCond]) -> Result<(), AllocError>
+    ensures { OnOk result (text.new ≡ text.old ++ conditions_text task.now conds.now) }
+{
+    for cond in conds {
+        text.push(b" ")?;
+        push_condition(text, task, cond)?;
+    }
+    Ok(())
+}
+
+/// Adds a step, as `(act a b)`.
+fn push_step(text: &mut Text, step: &StepView) -> Result<(), AllocError>
+    ensures { OnOk result (text.new ≡ text.old ++ step_text (step_shown step.now)) }
+{
+    text.push(b"(")?;
+    text.push(step.action())?;
+    push_arguments(text, step)?;
+    text.push(b")")
+}
+
+/// Adds the names of a step's arguments, each behind a space.
+fn push_arguments(text: &mut Text, step: &StepView) -> Result<(), AllocError>
+    ensures { OnOk result (text.new ≡ text.old ++ spaced (step_shown step.now).args) }
+{
+    for place in 0..step.arg_count() {
+        text.push(b" ")?;
+        text.push(step.arg(place))?;
+    }
+    Ok(())
+}
+
+/// Adds the name of an argument, counted from 1; a number that no argument has adds nothing.
+fn push_argument(text: &mut Text, step: &StepView, number: u32) -> Result<(), AllocError>
+    ensures { OnOk result (text.new ≡ text.old ++ name_at (step_shown step.now).args (number - 1)) }
+{
+    let place = number.saturating_sub(1) as usize;
+    if place < step.arg_count() {
+        return text.push(step.arg(place));
+    }
+    Ok(())
+}
+
+/// Adds what is wrong with a step.
+fn push_why(text: &mut Text, task: &Task, step: &StepView, why: &Why) -> Result<(), AllocError>
+    ensures { OnOk result (text.new ≡ text.old ++ why_text task.now (step_shown step.now) why.now) }
+{
+    match why {
+        Why::UnknownAction => text.push(b"unknown action"),
+        Why::WrongCount => text.push(b"wrong number of arguments"),
+        Why::UnknownObject { arg } => {
+            text.push(b"unknown object ")?;
+            push_argument(text, step, *arg)?;
+            Ok(())
+        }
+        Why::WrongType { arg } => {
+            push_argument(text, step, *arg)?;
+            text.push(b" has the wrong type")?;
+            Ok(())
+        }
+        Why::Missing(conds) => {
+            text.push(b"missing")?;
+            push_conditions(text, task, conds.as_slice())
+        }
+    }
+}
+
+/// Adds the failing step with a number, counted from 1, and what is wrong with it; a number that no step has adds nothing.
+fn push_failure(
+    text: &mut Text,
+    task: &Task,
+    steps: &StepList,
+    number: u32,
+    why: &Why,
+) -> Result<(), AllocError>
+    ensures { OnOk result (text.new ≡ text.old ++ failure_text task.now (slice_get steps.now (number - 1)) why.now) }
+{
+    let place = number.saturating_sub(1) as usize;
+    if place >= steps.len() {
+        return Ok(());
+    }
+    let step = steps.get(place);
+    text.push(b" ")?;
+    push_step(text, &step)?;
+    text.push(b": ")?;
+    push_why(text, task, &step, why)?;
+    Ok(())
+}
+
+/// Adds a verdict of a plan.
+pub(crate) fn push_verdict(
+    text: &mut Text,
+    task: &Task,
+    plan: &Plan,
+    verdict: &Verdict,
+) -> Result<(), AllocError>
+    ensures { OnOk result (text.new ≡ text.old ++ verdict_text task.now plan.now verdict.now) }
+{
+    match verdict {
+        Verdict::Valid { steps } => {
+            text.push(b"valid ")?;
+            text.push_number(*steps as usize)?;
+            Ok(())
+        }
+        Verdict::Fails { step, why } => {
+            text.push(b"fails at ")?;
+            text.push_number(*step as usize)?;
+            match plan {
+                Plan::Steps(steps) => push_failure(text, task, steps, *step, why),
+                Plan::Unreadable { line: _ } => Ok(()),
+            }
+        }
+        Verdict::Goal { missing } => {
+            text.push(b"goal missing")?;
+            push_conditions(text, task, missing.as_slice())?;
+            Ok(())
+        }
+        Verdict::Unreadable { line } => {
+            text.push(b"unreadable line ")?;
+            text.push_number(*line as usize)?;
+            Ok(())
+        }
+    }
+}

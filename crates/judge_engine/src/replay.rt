@@ -1,0 +1,111 @@
+//! The replay over texts: a domain, a problem and steps in, the lines of the answers out.
+//!
+//! [`replay_bytes`] reads the domain and the problem as [`judge_bytes`](crate::engine::judge_bytes) does, reads the steps, asks them of a new
+//! desk, and makes the lines of what it answered.
+ghost use Rattle.std.specs.Prelude.{◌≡◌, ◌≢◌, ◌≤◌, ◌⊎◌, length, IfNone, IfOk, IfErr, Some, None, Err};
+ghost use Rattle.steps_text.specs.StepsTexts.{steps_text};
+ghost use Rattle.steps_text.specs.Telling.{value_of};
+ghost use Rattle.judge_engine.specs.ReplayAnswer.{replay_answer, replay_of, replies_to, too_large_for_replay, ReplayCallsFor};
+ghost use Rattle.judge_engine.specs.ReplayText.{reply_lines};
+ghost use Rattle.judge_engine.specs.declared.fault.JudgeFault.TheVariants.{OutOfMemory, Steps};
+
+use crate::engine::read_task;
+use crate::fault::JudgeFault;
+use crate::inlet::FILE_LIMIT;
+use crate::replies::text_of;
+use crate::report::Report;
+use intake_core::{ReplayFault, replay};
+use std::alloc::{AllocError, Global};
+use steps_text::{StepsRefusal, StepsText, read_steps};
+use strips_task::Task;
+
+/// The lines that a new desk answers to the steps of a text, for the task of a domain text and a problem text.
+///
+/// All texts are read before a step is run, and all lines are made before anything is written. A replay without lines is refused for the
+/// first cause in the order of `JudgeFault`. Want of memory can come in place of any cause but that a text is too large.
+#[tactic(auto, using(crate::proofs::ReplayAnswers::too_large_text, crate::proofs::ReplayAnswers::no_task, crate::proofs::ReplayAnswers::of_task, crate::proofs::ReplayAnswers::faulty_steps))]
+pub fn replay_bytes(
+    alloc: Global,
+    domain: &[u8],
+    problem: &[u8],
+    steps: &[u8],
+) -> Result<Report, JudgeFault>
+    ensures answer { IfOk result (λ report. replay_answer domain.now problem.now steps.now ≡ Some report) }
+    ensures refusal { IfErr result (λ fault. fault ≢ OutOfMemory → replay_answer domain.now problem.now steps.now ≡ None) }
+    ensures cause { IfErr result (λ fault. fault ≢ OutOfMemory → ReplayCallsFor domain.now problem.now steps.now fault) }
+{
+    match too_large(domain, problem, steps) {
+        Some(place) => Err(JudgeFault::TooLarge(place)),
+        None => match read_task(alloc, domain, problem) {
+            Ok(task) => match replay_for(alloc, task, steps) {
+                Ok(report) => Ok(report),
+                Err(fault) => Err(fault),
+            },
+            Err(fault) => Err(fault),
+        },
+    }
+}
+
+/// The place of the first text that is over the limit of a file: 0 is the domain, 1 the problem, and 2 the steps.
+#[tactic(auto, unfolding(crate::specs::ReplayAnswer::too_large_for_replay))]
+fn too_large(domain: &[u8], problem: &[u8], steps: &[u8]) -> Option<usize>
+    ensures place { result ≡ too_large_for_replay domain.now problem.now steps.now }
+    ensures within { IfNone result (length steps.now ≤ 16777216) }
+{
+    if domain.len() > FILE_LIMIT {
+        return Some(0);
+    }
+    if problem.len() > FILE_LIMIT {
+        return Some(1);
+    }
+    if steps.len() > FILE_LIMIT {
+        return Some(2);
+    }
+    None
+}
+
+/// The lines that a new desk for a task answers to the steps of a text. The task is dropped.
+fn replay_for(alloc: Global, task: Task, steps: &[u8]) -> Result<Report, JudgeFault>
+    requires { length steps.now ≤ 16777216 }
+    ensures answer { IfOk result (λ report. replay_of task (steps_text steps.now) ≡ Some report) }
+    ensures fault { IfErr result (λ fault. (fault ≡ OutOfMemory) ⊎ ((e : _) × (fault ≡ Steps e) × (steps_text steps.now ≡ Err e))) }
+{
+    replay_text(alloc, &task, steps)
+}
+
+/// The lines that a new desk for a task answers to the steps of a text.
+fn replay_text(alloc: Global, task: &Task, steps: &[u8]) -> Result<Report, JudgeFault>
+    requires { length steps.now ≤ 16777216 }
+    ensures answer { IfOk result (λ report. replay_of task.now (steps_text steps.now) ≡ Some report) }
+    ensures fault { IfErr result (λ fault. (fault ≡ OutOfMemory) ⊎ ((e : _) × (fault ≡ Steps e) × (steps_text steps.now ≡ Err e))) }
+{
+    match read_steps(alloc, steps) {
+        Ok(read) => match run(alloc, task, read) {
+            Ok(report) => Ok(report),
+            Err(error) => Err(JudgeFault::from(error)),
+        },
+        Err(StepsRefusal::Fault(fault)) => Err(JudgeFault::Steps(fault)),
+        Err(StepsRefusal::OutOfMemory) => Err(JudgeFault::OutOfMemory),
+    }
+}
+
+/// The lines that a new desk for a task answers to steps.
+#[tactic(auto, using(crate::proofs::Replaying::same_history))]
+fn run(alloc: Global, task: &Task, read: StepsText) -> Result<Report, AllocError>
+    requires planners { read.planners ≤ 64 }
+    requires places { read.places ≤ 65536 }
+    ensures { IfOk result (λ report. report ≡ reply_lines task.now (replies_to task.now (value_of read))) }
+{
+    let StepsText {
+        planners,
+        places,
+        steps,
+    } = read;
+    match replay(alloc, task, planners, places, steps) {
+        Ok(replies) => {
+            let text = text_of(alloc, task, &replies)?;
+            Ok(Report::from_bytes(text.into_bytes()))
+        }
+        Err(ReplayFault::OutOfMemory { .. }) => Err(AllocError),
+    }
+}

@@ -1,0 +1,135 @@
+//! The lamp's domain and problem, files that are held in memory, and an outlet that stops when it is told to.
+
+ghost use Rattle.std.specs.Prelude.{◌≡◌, false};
+
+use judge_engine::inlet::{InFault, Sources};
+use judge_engine::outlet::{Failed, Outlet};
+use judge_engine::program::main_with;
+use std::alloc::{AllocError, Global};
+use std::sync::Wait;
+use std::thread::Threads;
+
+pub(crate) const LAMP: &[u8] = b"(define (domain lamp)
+  (:predicates (lit) (dark))
+  (:action light
+    :precondition (dark)
+    :effect (and (lit) (not (dark)))))
+";
+
+pub(crate) const LAMP_1: &[u8] =
+    b"(define (problem lamp-1) (:domain lamp) (:init (dark)) (:goal (lit)))
+";
+
+/// The words of a run over the files `domain`, `problem` and `plan`.
+pub(crate) const JUDGE: &str = "plan_judge judge --domain domain --problem problem plan";
+
+/// The report of that run.
+pub(crate) const REPORT: &[u8] =
+    b"domain lamp problem lamp-1\nplan 1 valid 1\nplan plans 1 valid 1 best 1\n";
+
+/// The files of that run. There are no others.
+#[derive(Drop)]
+pub(crate) struct Shelf {
+    pub(crate) alloc: Global,
+}
+
+impl Sources for Shelf {
+    ghost use Rattle.std.specs.Prelude.{⊤};
+
+    ghost may_hold = { λ _ _ _. ⊤ };
+
+    fn text(&self, name: &str) -> Result<Vec<u8>, InFault> {
+        let bytes: &[u8] = match name {
+            "domain" => LAMP,
+            "problem" => LAMP_1,
+            "plan" => b"(light)\n",
+            _ => return Err(InFault::Unreadable),
+        };
+        match bytes.to_vec(self.alloc) {
+            Ok(bytes) => Ok(bytes),
+            Err(AllocError) => Err(InFault::OutOfMemory),
+        }
+    }
+}
+
+/// An outlet that takes at most `piece` bytes at a time and `room` bytes in all. Then it fails, or takes none.
+#[derive(Drop)]
+pub(crate) struct Narrow {
+    pub(crate) taken: Vec<u8>,
+    piece: usize,
+    room: usize,
+    fails: bool,
+    failed: bool,
+}
+
+impl Narrow {
+    /// An outlet that has taken nothing yet.
+    pub(crate) fn new(alloc: Global, piece: usize, room: usize, fails: bool) -> Self
+        ensures { result.failed ≡ false }
+    {
+        Narrow {
+            taken: Vec::new(alloc),
+            piece,
+            room,
+            fails,
+            failed: false,
+        }
+    }
+
+    /// An outlet that takes a mebibyte.
+    pub(crate) fn wide(alloc: Global) -> Self
+        ensures { result.failed ≡ false }
+    {
+        Narrow::new(alloc, 1 << 20, 1 << 20, true)
+    }
+}
+
+impl Outlet for Narrow {
+    ghost use Rattle.std.specs.Prelude.{Some};
+
+    ghost taken = { λ n. Some n.taken.items };
+
+    ghost failed = { λ n. n.failed };
+
+    fn put(&mut self, bytes: &[u8]) -> Result<usize, Failed> {
+        let count = bytes.len().min(self.piece).min(self.room);
+        if count == 0 && !bytes.is_empty() {
+            self.failed = true;
+            return if self.fails { Err(Failed) } else { Ok(0) };
+        }
+        if self.taken.extend_from_slice(&bytes[..count]).is_err() {
+            self.failed = true;
+            return Err(Failed);
+        }
+        self.room -= count;
+        Ok(count)
+    }
+
+    fn has_failed(&self) -> bool {
+        self.failed
+    }
+}
+
+/// The words of a command line, one space apart.
+fn line(alloc: Global, words: &str) -> Result<Vec<String>, AllocError> {
+    let mut line = Vec::new(alloc);
+    for word in words.split(' ') {
+        line.push(String::from_str(alloc, word)?)?;
+    }
+    Ok(line)
+}
+
+/// The status of a run of these words over the shelf's files; 9 where memory ran out before it.
+pub(crate) fn run(
+    rt: &(impl AllocGlobal + Threads + Wait + Sync),
+    words: &str,
+    out: &mut Narrow,
+    err: &mut Narrow,
+) -> u8
+    requires { out.old.failed ≡ false }
+{
+    match line(rt.alloc(), words) {
+        Ok(words) => main_with(rt, words.as_slice(), &Shelf { alloc: rt.alloc() }, out, err),
+        Err(AllocError) => 9,
+    }
+}

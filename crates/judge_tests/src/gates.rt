@@ -1,0 +1,124 @@
+//! Runs with gates that hold jobs. That several threads really judge at once is shown by a gate where two jobs wait for each other.
+
+ghost use Rattle.std.specs.Prelude.{◌≡◌, ◌≤◌};
+
+use crate::fixtures::{LAMP, LAMP_1};
+use judge_bench::{Gate, Open};
+use judge_engine::bundle::Bundle;
+use judge_engine::engine::judge_bytes;
+use judge_engine::fault::JudgeFault;
+use judge_engine::report::Report;
+use std::alloc::{AllocError, Global};
+use std::sync::Wait;
+use std::sync::atomic::{AtomicBool, Ordering};
+use std::thread::Threads;
+
+/// The gate that may hold one job alone, and does.
+#[derive(Drop)]
+struct Holds {
+    job: u32,
+}
+
+impl Gate for Holds {
+    ghost use Rattle.std.specs.Prelude.{◌≡◌};
+
+    ghost may_hold = { λ gate job. job ≡ gate.job };
+
+    fn hold(&self, job: u32) -> bool {
+        job == self.job
+    }
+}
+
+/// The gate where jobs 0 and 1 wait for each other, and are held where that takes too long.
+#[derive(Drop)]
+struct Meeting {
+    asked_of_0: AtomicBool,
+    asked_of_1: AtomicBool,
+}
+
+impl Meeting {
+    /// The gate that was not asked yet.
+    fn new() -> Self {
+        Meeting {
+            asked_of_0: AtomicBool::new(false),
+            asked_of_1: AtomicBool::new(false),
+        }
+    }
+}
+
+impl Gate for Meeting {
+    ghost use Rattle.std.specs.Prelude.{⊤};
+
+    ghost may_hold = { λ _ _. ⊤ };
+
+    fn hold(&self, job: u32) -> bool {
+        match job {
+            0 => waits_in_vain(&self.asked_of_0, &self.asked_of_1),
+            1 => waits_in_vain(&self.asked_of_1, &self.asked_of_0),
+            _ => false,
+        }
+    }
+}
+
+/// Raises a flag and looks whether the other is raised, a hundred million times at most.
+fn waits_in_vain(mine: &AtomicBool, other: &AtomicBool) -> bool {
+    mine.store(true, Ordering::SeqCst);
+    for _ in 0..100_000_000u32 {
+        if other.load(Ordering::SeqCst) {
+            return false;
+        }
+    }
+    true
+}
+
+/// The file of a planner `p`.
+fn bundle(alloc: Global, bytes: &[u8]) -> Result<Bundle, AllocError> {
+    Ok(Bundle {
+        name: String::from_str(alloc, "p")?,
+        bytes: bytes.to_vec(alloc)?,
+    })
+}
+
+/// The report of a planner with two plans that light the lamp.
+fn two_plans<G: Gate + Sync>(
+    rt: &(impl AllocGlobal + Threads + Wait + Sync),
+    workers: u32,
+    gate: &G,
+) -> Result<Report, JudgeFault>
+    requires { (1 ≤ workers) × (workers ≤ 32) }
+{
+    let bundles = [bundle(rt.alloc(), b"(light)\n---\n(light)\n")?];
+    judge_bytes(rt, rt.alloc(), LAMP, LAMP_1, &bundles, workers, gate)
+}
+
+#[test]
+fn a_held_job_is_told(rt: HostRuntime) {
+    for workers in [1, 2, 32] {
+        let held = two_plans(&rt, workers, &Holds { job: 1 });
+        assert!(rt; held.is_err_and(|fault| fault == JudgeFault::Held(1)));
+        let passed = two_plans(&rt, workers, &Holds { job: 2 });
+        assert!(rt; passed.is_ok());
+    }
+}
+
+#[test]
+fn two_workers_judge_at_once(rt: HostRuntime) {
+    let met = two_plans(&rt, 2, &Meeting::new());
+    assert!(rt; met.is_ok(), "both jobs were asked for at once");
+    let alone = two_plans(&rt, 1, &Meeting::new());
+    assert!(rt; alone.is_err_and(|fault| fault == JudgeFault::Held(0)));
+}
+
+#[test]
+fn a_run_without_planners_has_the_first_line_alone(rt: HostRuntime) {
+    match judge_bytes(&rt, rt.alloc(), LAMP, LAMP_1, &[], 4, &Open) {
+        Ok(report) => assert!(rt; report.bytes() == b"domain lamp problem lamp-1\n".as_slice()),
+        Err(_) => assert!(rt; false, "memory was ample"),
+    }
+}
+
+#[test]
+fn causes_that_no_text_brings_have_status_3() {
+    prove!(JudgeFault::NoThread.status() == 3);
+    prove!(JudgeFault::Held(7).status() == 3);
+}

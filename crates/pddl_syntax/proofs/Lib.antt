@@ -1,0 +1,16 @@
+pub mod Depths
+pub mod LevelSteps
+pub mod ListSteps
+pub mod FormulaSteps
+pub mod ActionSteps
+pub mod ListsOf
+pub mod Guards
+pub mod TypedSteps
+pub mod WordSteps
+pub mod VariableSteps
+pub mod DomainSteps
+pub mod ProblemSteps
+pub mod TextSteps
+pub mod Spelling
+pub mod Sizes
+pub mod Balanced

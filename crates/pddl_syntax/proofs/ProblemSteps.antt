@@ -1,0 +1,272 @@
+-- The definitions of problems, one equation for each case.
+
+use Rattle.std.proofs.Common.{◌≡◌, ℕ, Bool, true, false, List, [], Option, Some, None, unwrap_or, refl}
+use Rattle.std.specs.Global.{Vec}
+use Rattle.std.specs.Option.{option_map, option_and_then}
+use Rattle.pddl_syntax.specs.declared.heads.Scope.TheVariants as scope
+use Rattle.pddl_syntax.specs.declared.heads.ProblemSection.{ProblemSection}
+use Rattle.pddl_syntax.specs.declared.heads.ProblemSection.TheVariants.{Domain, Requirements, Objects, Init, Goal, Metric, Length}
+use Rattle.pddl_syntax.specs.declared.syntax.LiteralSyntax.{LiteralSyntax}
+use Rattle.pddl_syntax.specs.declared.syntax.NameGroup as groups
+use Rattle.pddl_syntax.specs.declared.walk.NameWord.{NameWord}
+use Rattle.pddl_syntax.specs.Heads.{problem_section}
+use Rattle.pddl_syntax.specs.Keywords.{define_word, problem_word}
+use Rattle.pddl_syntax.specs.Optional.{guard}
+use Rattle.pddl_syntax.specs.Forms.{literal_forms, name_groups, problem_sections_form}
+use Rattle.pddl_syntax.specs.Trees.{Trees, none, word, list}
+use Rattle.pddl_syntax.specs.Syntax.{NameGroup, keywords_of, typed_names, with_problem_requirements, with_objects, with_metric, with_length, LiteralForm, ProblemForm, ProblemSections, ended, end_of, first_list, behind_word, lone_name, header_of, lists_of, literal_of, init_item_in, formula_in, goal_of, no_problem_sections, with_domain, with_init, with_goal, is_problem_section_given, problem_section_by, problem_section_headed, problem_section_in, problem_sections_of, problem_form, problem_by, problem_body, problem_in, problem_syntax}
+use Rattle.pddl_syntax.proofs.FormulaSteps.{no_literals, literal_forms-push}
+use Rattle.pddl_syntax.proofs.ListsOf.{lists_steps}
+
+pub init_item_none : init_item_in none ≡ None
+unfolding init_item_in
+init_item_none = refl
+
+pub init_item_list : (k f : Trees) → init_item_in (list k f) ≡ None
+unfolding init_item_in
+init_item_list k f = refl
+
+pub init_item_word : (w : List ℕ) (f : Trees) → init_item_in (word w f) ≡ literal_of scope.Problem w f
+unfolding init_item_in
+init_item_word w f = refl
+
+pub ruleset init_item_steps = (init_item_none, init_item_list, init_item_word)
+
+pub ruleset init_steps = (lists_steps, no_literals, literal_forms-push)
+
+pub goal_no_list : (f : Trees) → first_list f ≡ None → goal_of f ≡ None
+unfolding goal_of first_list
+goal_no_list none h = refl
+goal_no_list (word w f) h = refl
+goal_no_list (list k f) h = cc
+
+pub goal_refused : (k f : Trees) → formula_in scope.Problem k ≡ None → goal_of (list k f) ≡ None
+unfolding goal_of ended
+goal_refused k none h = h
+goal_refused k (word w f) h = refl
+goal_refused k (list j f) h = refl
+
+pub goal_more : (k f : Trees) → end_of f ≡ None → goal_of (list k f) ≡ None
+unfolding goal_of end_of ended
+goal_more k none h = cc
+goal_more k (word w f) h = refl
+goal_more k (list j f) h = refl
+
+pub goal_alone : (k f : Trees) → end_of f ≡ Some tt → goal_of (list k f) ≡ formula_in scope.Problem k
+unfolding goal_of end_of ended
+goal_alone k none h = refl
+goal_alone k (word w f) h = cc
+goal_alone k (list j f) h = cc
+
+pub ruleset goal_steps = (goal_no_list, goal_refused, goal_more, goal_alone)
+
+pub domain_body : (given : ProblemSections) (k : Trees) (value : List ℕ) → lone_name k ≡ Some value →
+    problem_section_by Domain given k ≡ Some (with_domain given value)
+unfolding problem_section_by
+domain_body given k value h = rw h refl
+
+pub no_domain_body : (given : ProblemSections) (k : Trees) → lone_name k ≡ None → problem_section_by Domain given k ≡ None
+unfolding problem_section_by
+no_domain_body given k h = rw h refl
+
+pub requirements_body : (given : ProblemSections) (k : Trees) → keywords_of k ≡ Some tt → problem_section_by Requirements given k ≡ Some (with_problem_requirements given)
+unfolding problem_section_by
+requirements_body given k h = rw h refl
+
+pub no_requirements_body : (given : ProblemSections) (k : Trees) → keywords_of k ≡ None → problem_section_by Requirements given k ≡ None
+unfolding problem_section_by
+no_requirements_body given k h = rw h refl
+
+pub objects_body : (given : ProblemSections) (k : Trees) (value : List NameGroup) → typed_names [] k ≡ Some value →
+    problem_section_by Objects given k ≡ Some (with_objects given value)
+unfolding problem_section_by
+objects_body given k value h = rw h refl
+
+pub no_objects_body : (given : ProblemSections) (k : Trees) → typed_names [] k ≡ None → problem_section_by Objects given k ≡ None
+unfolding problem_section_by
+no_objects_body given k h = rw h refl
+
+pub metric_body : (given : ProblemSections) (k : Trees) → problem_section_by Metric given k ≡ Some (with_metric given)
+unfolding problem_section_by
+metric_body given k = refl
+
+pub length_body : (given : ProblemSections) (k : Trees) → problem_section_by Length given k ≡ Some (with_length given)
+unfolding problem_section_by
+length_body given k = refl
+
+pub init_body : (given : ProblemSections) (k : Trees) (value : List LiteralForm) → lists_of init_item_in k ≡ Some value →
+    problem_section_by Init given k ≡ Some (with_init given value)
+unfolding problem_section_by
+init_body given k value h = rw h refl
+
+pub no_init_body : (given : ProblemSections) (k : Trees) → lists_of init_item_in k ≡ None → problem_section_by Init given k ≡ None
+unfolding problem_section_by
+no_init_body given k h = rw h refl
+
+pub goal_body : (given : ProblemSections) (k : Trees) (value : List LiteralForm) → goal_of k ≡ Some value →
+    problem_section_by Goal given k ≡ Some (with_goal given value)
+unfolding problem_section_by
+goal_body given k value h = rw h refl
+
+pub no_goal_body : (given : ProblemSections) (k : Trees) → goal_of k ≡ None → problem_section_by Goal given k ≡ None
+unfolding problem_section_by
+no_goal_body given k h = rw h refl
+
+pub ruleset body_steps = (requirements_body, no_requirements_body, objects_body, no_objects_body, metric_body, length_body, domain_body, no_domain_body, init_body, no_init_body, goal_body, no_goal_body)
+
+pub section_none : (given : ProblemSections) → problem_section_in given none ≡ None
+unfolding problem_section_in
+section_none given = refl
+
+pub section_list : (given : ProblemSections) (k f : Trees) → problem_section_in given (list k f) ≡ None
+unfolding problem_section_in
+section_list given k f = refl
+
+pub section_word : (given : ProblemSections) (w : List ℕ) (f : Trees) → problem_section_in given (word w f) ≡ problem_section_headed (problem_section w) given f
+unfolding problem_section_in
+section_word given w f = refl
+
+pub no_section_headed : (given : ProblemSections) (f : Trees) → problem_section_headed None given f ≡ None
+unfolding problem_section_headed
+no_section_headed given f = refl
+
+pub section_again : (headed : ProblemSection) (given : ProblemSections) (f : Trees) → is_problem_section_given headed given ≡ true →
+    problem_section_headed (Some headed) given f ≡ None
+unfolding problem_section_headed guard
+section_again headed given f h = rw h refl
+
+pub section_due : (headed : ProblemSection) (given : ProblemSections) (f : Trees) → is_problem_section_given headed given ≡ false →
+    problem_section_headed (Some headed) given f ≡ problem_section_by headed given f
+unfolding problem_section_headed guard
+section_due headed given f h = rw h refl
+
+pub ruleset section_steps = (section_none, section_list, section_word, no_section_headed, section_again, section_due)
+
+-- what is read behind a section
+unfoldable pub sections_behind : Option ProblemSections → Trees → Option ProblemSections
+sections_behind None others = None
+sections_behind (Some given) others = problem_sections_of given others
+
+sections_read : (given : Option ProblemSections) (f : Trees) → option_and_then (λ more. problem_sections_of more f) given ≡ sections_behind given f
+unfolding sections_behind
+sections_read None f = refl
+sections_read (Some given) f = refl
+
+pub sections_end : (given : ProblemSections) → problem_sections_of given none ≡ Some given
+unfolding problem_sections_of
+sections_end given = refl
+
+pub sections_word : (given : ProblemSections) (w : List ℕ) (f : Trees) → problem_sections_of given (word w f) ≡ None
+unfolding problem_sections_of
+sections_word given w f = refl
+
+pub sections_list : (given : ProblemSections) (k f : Trees) → problem_sections_of given (list k f) ≡ sections_behind (problem_section_in given k) f
+unfolding problem_sections_of
+sections_list given k f = sections_read (problem_section_in given k) f
+
+pub no_sections_behind : (f : Trees) → sections_behind None f ≡ None
+unfolding sections_behind
+no_sections_behind f = refl
+
+pub some_sections_behind : (given : ProblemSections) (f : Trees) → sections_behind (Some given) f ≡ problem_sections_of given f
+unfolding sections_behind
+some_sections_behind given f = refl
+
+pub no_sections_form : problem_sections_form (record { domain = None; requirements = false; objects = None; init = None; goal = None; metric = false; length = false }) ≡ no_problem_sections
+unfolding problem_sections_form no_problem_sections
+no_sections_form = refl
+
+pub ruleset sections_steps = (no_sections_form, sections_end, sections_word, sections_list, no_sections_behind, some_sections_behind)
+
+-- what is read behind `define`
+unfoldable pub body_behind : Option Trees → Option ProblemForm
+body_behind None = None
+body_behind (Some f) = problem_body f
+
+body_read : (f : Option Trees) → option_and_then problem_body f ≡ body_behind f
+unfolding body_behind
+body_read None = refl
+body_read (Some f) = refl
+
+pub problem_behind : (f : Trees) → problem_in f ≡ body_behind (behind_word define_word f)
+unfolding problem_in
+problem_behind f = body_read (behind_word define_word f)
+
+pub body_behind_none : body_behind None ≡ None
+unfolding body_behind
+body_behind_none = refl
+
+pub body_behind_some : (f : Trees) → body_behind (Some f) ≡ problem_body f
+unfolding body_behind
+body_behind_some f = refl
+
+pub no_body_list : (f : Trees) → first_list f ≡ None → problem_body f ≡ None
+unfolding problem_body first_list
+no_body_list none h = refl
+no_body_list (word w f) h = refl
+no_body_list (list k f) h = cc
+
+pub body_list : (k f : Trees) → problem_body (list k f) ≡ problem_by (header_of problem_word k) (problem_sections_of no_problem_sections f)
+unfolding problem_body
+body_list k f = refl
+
+pub by_no_name : (given : Option ProblemSections) → problem_by None given ≡ None
+unfolding problem_by
+by_no_name given = refl
+
+pub by_no_sections : (name : List ℕ) → problem_by (Some name) None ≡ None
+unfolding problem_by
+by_no_sections name = refl
+
+pub by_no_domain : (name : List ℕ) (r m l : Bool) (objects : Option (Vec groups.NameGroup)) (init goal : Option (Vec LiteralSyntax)) →
+    problem_by (Some name) (Some (problem_sections_form
+    (record { domain = None; requirements = r; objects = objects; init = init; goal = goal; metric = m; length = l }))) ≡ None
+unfolding problem_by problem_sections_form problem_form
+by_no_domain name r m l objects init goal = refl
+
+pub by_no_goal : (name : List ℕ) (r m l : Bool) (domain : NameWord) (objects : Option (Vec groups.NameGroup)) (init : Option (Vec LiteralSyntax)) →
+    problem_by (Some name) (Some (problem_sections_form
+    (record { domain = Some domain; requirements = r; objects = objects; init = init; goal = None; metric = m; length = l }))) ≡ None
+unfolding problem_by problem_sections_form problem_form
+by_no_goal name r m l domain objects init = refl
+
+pub by_all : (name : List ℕ) (r m l : Bool) (domain : NameWord) (objects : Option (Vec groups.NameGroup)) (init : Option (Vec LiteralSyntax)) (goal : Vec LiteralSyntax) →
+    problem_by (Some name) (Some (problem_sections_form
+    (record { domain = Some domain; requirements = r; objects = objects; init = init; goal = Some goal; metric = m; length = l })))
+    ≡ Some (record {
+      name = name;
+      domain = domain.text.now;
+      objects = unwrap_or (option_map (λ v. name_groups v.items) objects) [];
+      init = unwrap_or (option_map (λ v. literal_forms v.items) init) [];
+      goal = literal_forms goal.items;
+    })
+unfolding problem_by problem_sections_form problem_form
+by_all name r m l domain objects init goal = refl
+
+pub ruleset problem_steps = (problem_behind, body_behind_none, body_behind_some, no_body_list, body_list, by_no_name, by_no_sections, by_no_domain, by_no_goal, by_all)
+
+pub problem_no_list : (f : Trees) → first_list f ≡ None → problem_syntax f ≡ None
+unfolding problem_syntax first_list
+problem_no_list none h = refl
+problem_no_list (word w f) h = refl
+problem_no_list (list k f) h = cc
+
+pub problem_refused : (k f : Trees) → problem_in k ≡ None → problem_syntax (list k f) ≡ None
+unfolding problem_syntax ended
+problem_refused k none h = h
+problem_refused k (word w f) h = refl
+problem_refused k (list j f) h = refl
+
+pub problem_more : (k f : Trees) → end_of f ≡ None → problem_syntax (list k f) ≡ None
+unfolding problem_syntax end_of ended
+problem_more k none h = cc
+problem_more k (word w f) h = refl
+problem_more k (list j f) h = refl
+
+pub problem_alone : (k f : Trees) → end_of f ≡ Some tt → problem_syntax (list k f) ≡ problem_in k
+unfolding problem_syntax end_of ended
+problem_alone k none h = refl
+problem_alone k (word w f) h = cc
+problem_alone k (list j f) h = cc
+
+pub ruleset problem_text_steps = (problem_no_list, problem_refused, problem_more, problem_alone)

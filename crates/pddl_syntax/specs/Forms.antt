@@ -1,0 +1,104 @@
+-- The syntax that the reader keeps, as the definitions name it.
+
+use Rattle.std.specs.Prelude.{ℕ, List, [], map, Option, Some, None, unwrap_or}
+use Rattle.std.specs.Global.{Vec}
+use Rattle.std.specs.Option.{option_map}
+use Rattle.pddl_syntax.specs.declared.walk.Word.{Word}
+use Rattle.pddl_syntax.specs.declared.walk.NameWord.{NameWord}
+use Rattle.pddl_syntax.specs.declared.syntax.AtomSyntax.{AtomSyntax}
+use Rattle.pddl_syntax.specs.declared.syntax.LiteralSyntax.{LiteralSyntax}
+use Rattle.pddl_syntax.specs.declared.syntax.PredicateSyntax.{PredicateSyntax}
+use Rattle.pddl_syntax.specs.declared.syntax.NameGroup as groups
+use Rattle.pddl_syntax.specs.declared.syntax.VariableGroup as variables
+use Rattle.pddl_syntax.specs.declared.syntax.ActionParts as parts
+use Rattle.pddl_syntax.specs.declared.syntax.ActionSyntax.{ActionSyntax}
+use Rattle.pddl_syntax.specs.declared.syntax.DomainSections as domain
+use Rattle.pddl_syntax.specs.declared.syntax.DomainSyntax.{DomainSyntax}
+use Rattle.pddl_syntax.specs.declared.syntax.ProblemSections as problem
+use Rattle.pddl_syntax.specs.declared.syntax.ProblemSyntax.{ProblemSyntax}
+use Rattle.pddl_syntax.specs.Syntax.{NameGroup, VariableGroup, AtomForm, LiteralForm, PredicateForm, ActionForm, ActionParts, DomainForm, DomainSections, ProblemForm, ProblemSections, action_form, domain_form}
+
+-- the bytes of a word
+abbrev pub word_form : Word → List ℕ
+word_form w = w.text.now
+
+abbrev pub name_form : NameWord → List ℕ
+name_form w = w.text.now
+
+unfoldable pub name_forms : List NameWord → List (List ℕ)
+name_forms ws = map name_form ws
+
+abbrev pub name_group_form : groups.NameGroup → NameGroup
+name_group_form g = record { names = name_forms g.names.items; type = g.kind.text.now }
+
+unfoldable pub name_groups : List groups.NameGroup → List NameGroup
+name_groups gs = map name_group_form gs
+
+unfoldable pub word_forms : List Word → List (List ℕ)
+word_forms ws = map word_form ws
+
+abbrev pub variable_group_form : variables.VariableGroup → VariableGroup
+variable_group_form g = record { variables = word_forms g.variables.items; types = name_forms g.kinds.items }
+
+unfoldable pub variable_groups : List variables.VariableGroup → List VariableGroup
+variable_groups gs = map variable_group_form gs
+
+abbrev pub atom_form : AtomSyntax → AtomForm
+atom_form a = record { predicate = a.predicate.text.now; terms = word_forms a.terms.items }
+
+abbrev pub literal_form : LiteralSyntax → LiteralForm
+literal_form l = record { positive = l.positive; atom = atom_form l.atom }
+
+unfoldable pub literal_forms : List LiteralSyntax → List LiteralForm
+literal_forms ls = map literal_form ls
+
+abbrev pub predicate_form : PredicateSyntax → PredicateForm
+predicate_form p = record { name = p.name.text.now; variables = variable_groups p.variables.items }
+
+unfoldable pub predicate_forms : List PredicateSyntax → List PredicateForm
+predicate_forms ps = map predicate_form ps
+
+unfoldable pub parts_form : parts.ActionParts → ActionParts
+parts_form p = record {
+  parameters = option_map (λ v. variable_groups v.items) p.parameters;
+  precondition = option_map (λ v. literal_forms v.items) p.precondition;
+  effect = option_map (λ v. literal_forms v.items) p.effect;
+}
+
+abbrev pub action_syntax_form : ActionSyntax → ActionForm
+action_syntax_form a = action_form a.name.text.now (parts_form a.parts)
+
+unfoldable pub action_forms : List ActionSyntax → List ActionForm
+action_forms actions = map action_syntax_form actions
+
+unfoldable pub domain_sections_form : domain.DomainSections → DomainSections
+domain_sections_form s = record {
+  requirements = s.requirements;
+  types = option_map (λ v. name_groups v.items) s.types;
+  constants = option_map (λ v. name_groups v.items) s.constants;
+  predicates = option_map (λ v. predicate_forms v.items) s.predicates;
+  actions = action_forms s.actions.items;
+}
+
+abbrev pub domain_syntax_form : DomainSyntax → DomainForm
+domain_syntax_form d = domain_form d.name.text.now (domain_sections_form d.sections)
+
+unfoldable pub problem_sections_form : problem.ProblemSections → ProblemSections
+problem_sections_form s = record {
+  domain = option_map name_form s.domain;
+  requirements = s.requirements;
+  objects = option_map (λ v. name_groups v.items) s.objects;
+  init = option_map (λ v. literal_forms v.items) s.init;
+  goal = option_map (λ v. literal_forms v.items) s.goal;
+  metric = s.metric;
+  length = s.length;
+}
+
+abbrev pub problem_syntax_form : ProblemSyntax → ProblemForm
+problem_syntax_form p = record {
+  name = p.name.text.now;
+  domain = p.domain.text.now;
+  objects = unwrap_or (option_map (λ v. name_groups v.items) p.objects) [];
+  init = unwrap_or (option_map (λ v. literal_forms v.items) p.init) [];
+  goal = literal_forms p.goal.items;
+}

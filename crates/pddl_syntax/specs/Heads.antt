@@ -1,0 +1,98 @@
+-- What the first word of a list says of it.
+
+use Rattle.std.specs.Prelude.{ℕ, List, Bool, true, false, ◌||◌, Option, Some, None, if◌then◌else◌}
+use Rattle.pddl_words.specs.Words.{is_name}
+use Rattle.pddl_words.specs.declared.WordKind.{WordKind}
+use Rattle.pddl_words.specs.declared.WordKind.TheVariants.{Name, Variable, Keyword, Dash, Other}
+use Rattle.pddl_words.specs.Kinds.{is_same_word, kind_of_word}
+use Rattle.pddl_syntax.specs.declared.heads.Scope.{Scope}
+use Rattle.pddl_syntax.specs.declared.heads.Scope.TheVariants as scope
+use Rattle.pddl_syntax.specs.declared.heads.FormulaHead.{FormulaHead}
+use Rattle.pddl_syntax.specs.declared.heads.FormulaHead.TheVariants as formula
+use Rattle.pddl_syntax.specs.declared.heads.DomainSection.{DomainSection}
+use Rattle.pddl_syntax.specs.declared.heads.DomainSection.TheVariants as section
+use Rattle.pddl_syntax.specs.declared.heads.ActionPart.{ActionPart}
+use Rattle.pddl_syntax.specs.declared.heads.ActionPart.TheVariants as part
+use Rattle.pddl_syntax.specs.declared.heads.ProblemSection.{ProblemSection}
+use Rattle.pddl_syntax.specs.declared.heads.ProblemSection.TheVariants as problem
+use Rattle.pddl_syntax.specs.Keywords.{and_word, not_word, either_word, dash_word, is_other_reserved, requirements_keyword, types_keyword, constants_keyword, predicates_keyword, action_keyword, parameters_keyword, precondition_keyword, effect_keyword, domain_keyword, objects_keyword, init_keyword, goal_keyword, metric_keyword, length_keyword}
+
+-- whether a word heads a conjunction
+unfoldable pub is_and : List ℕ → Bool
+is_and w = is_same_word w and_word
+
+-- whether a word is the dash before a type
+unfoldable pub is_dash : List ℕ → Bool
+is_dash w = is_same_word w dash_word
+
+-- whether a word heads a choice of types
+unfoldable pub is_either : List ℕ → Bool
+is_either w = is_same_word w either_word
+
+-- whether a word of this kind is a keyword
+abbrev pub is_keyword_kind : WordKind → Bool
+is_keyword_kind Keyword = true
+is_keyword_kind Name = false
+is_keyword_kind Variable = false
+is_keyword_kind Dash = false
+is_keyword_kind Other = false
+
+-- whether a word is a keyword: `:` and a name
+unfoldable pub is_keyword : List ℕ → Bool
+is_keyword w = is_keyword_kind (kind_of_word w)
+
+-- whether a word of this kind is a variable
+abbrev pub is_variable_kind : WordKind → Bool
+is_variable_kind Variable = true
+is_variable_kind Name = false
+is_variable_kind Keyword = false
+is_variable_kind Dash = false
+is_variable_kind Other = false
+
+-- whether a word is a variable: `?` and a name
+unfoldable pub is_variable : List ℕ → Bool
+is_variable w = is_variable_kind (kind_of_word w)
+
+-- Term = N | V in actions, N in problems
+unfoldable pub is_term : Scope → List ℕ → Bool
+is_term scope.Action w = is_name w || is_variable w
+is_term scope.Problem w = is_name w
+
+-- what a word heads where a formula, an effect, an initial atom or the declaration of a predicate is due
+unfoldable pub formula_head : List ℕ → FormulaHead
+formula_head w =
+    if is_same_word w and_word then formula.And
+    else (if is_same_word w not_word then formula.Not
+    else (if is_other_reserved w then formula.Reserved
+    else (if is_name w then formula.Name
+    else formula.Other)))
+
+-- the section of a domain that a keyword heads, if any
+unfoldable pub domain_section : List ℕ → Option DomainSection
+domain_section w =
+    if is_same_word w requirements_keyword then Some section.Requirements
+    else (if is_same_word w types_keyword then Some section.Types
+    else (if is_same_word w constants_keyword then Some section.Constants
+    else (if is_same_word w predicates_keyword then Some section.Predicates
+    else (if is_same_word w action_keyword then Some section.Action
+    else None))))
+
+-- the part of an action that a keyword names, if any
+unfoldable pub action_part : List ℕ → Option ActionPart
+action_part w =
+    if is_same_word w parameters_keyword then Some part.Parameters
+    else (if is_same_word w precondition_keyword then Some part.Precondition
+    else (if is_same_word w effect_keyword then Some part.Effect
+    else None))
+
+-- the section of a problem that a keyword heads, if any
+unfoldable pub problem_section : List ℕ → Option ProblemSection
+problem_section w =
+    if is_same_word w domain_keyword then Some problem.Domain
+    else (if is_same_word w requirements_keyword then Some problem.Requirements
+    else (if is_same_word w objects_keyword then Some problem.Objects
+    else (if is_same_word w init_keyword then Some problem.Init
+    else (if is_same_word w goal_keyword then Some problem.Goal
+    else (if is_same_word w metric_keyword then Some problem.Metric
+    else (if is_same_word w length_keyword then Some problem.Length
+    else None))))))

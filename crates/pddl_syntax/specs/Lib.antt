@@ -1,0 +1,12 @@
+pub mod FaultKind
+pub mod ReadFault
+pub mod Trees
+pub mod Refusing
+pub mod Levels
+pub mod Walking
+pub mod Keywords
+pub mod Heads
+pub mod Optional
+pub mod Syntax
+pub mod Reading
+pub mod Forms

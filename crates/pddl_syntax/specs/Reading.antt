@@ -1,0 +1,94 @@
+-- What a reader's answer says of the trees that it walks over.
+
+use Rattle.std.specs.Prelude.{ℕ, Bool, true, false, ◌≡◌, ◌≢◌, List, [], ◌∷◌, Option, Some, None, is_some, Result, Ok, Err}
+use Rattle.pddl_syntax.specs.declared.fault.FaultKind.TheVariants.{OutOfMemory}
+use Rattle.pddl_syntax.specs.declared.fault.ReadFault.{ReadFault}
+use Rattle.pddl_words.specs.Words.{is_name}
+use Rattle.pddl_syntax.specs.declared.walk.NameWord.{NameWord}
+use Rattle.pddl_syntax.specs.Keywords.{object_word}
+use Rattle.pddl_syntax.specs.ReadFault.{out_of_memory}
+use Rattle.pddl_syntax.specs.Optional.{with_front}
+use Rattle.pddl_syntax.specs.Trees.{Trees, word, list}
+use Rattle.std.specs.Global.{Vec}
+use Rattle.pddl_syntax.specs.Forms.{name_forms}
+use Rattle.pddl_syntax.specs.Syntax.{leading_name, typing, typing_of}
+use Rattle.pddl_syntax.specs.Levels.{Levels, behind}
+
+-- a fault is want of memory, which has no place, or it says that the fact holds
+abbrev pub Refuses : ReadFault → Type 0 → Type 0
+Refuses e fact = (e.kind ≡ OutOfMemory → e ≡ out_of_memory) × (e.kind ≢ OutOfMemory → fact)
+
+-- the rest of the list in which the walk stands is read with its `)`
+abbrev pub ReadsList : {X Y : Type 0} → (X → Y) → Result X ReadFault → (Trees → Option Y) → Levels → Levels → Type 0
+ReadsList view (Ok x) read old new = (read old.top ≡ Some (view x)) × (new ≡ behind old.below)
+ReadsList view (Err e) read old new = Refuses e (read old.top ≡ None)
+
+-- as `ReadsList`, where the answer is put into `after`
+abbrev pub ReadsInto : {Y : Type 0} → Result (Unit {0}) ReadFault → (Trees → Option Y) → Levels → Levels → Y → Type 0
+ReadsInto (Ok _) read old new after = (read old.top ≡ Some after) × (new ≡ behind old.below)
+ReadsInto (Err e) read old new after = Refuses e (read old.top ≡ None)
+
+-- something at the front is read, and the walk goes on behind it
+abbrev pub ReadsFront : Result (Unit {0}) ReadFault → (Trees → Option Trees) → Levels → Levels → Type 0
+ReadsFront (Ok _) read old new = (read old.top ≡ Some new.top) × (new.below ≡ old.below)
+ReadsFront (Err e) read old new = Refuses e (read old.top ≡ None)
+
+-- the walk enters the list at the front
+abbrev pub Enters : Result (Unit {0}) ReadFault → (Trees → Option Trees) → Levels → Levels → Type 0
+Enters (Ok _) read old new = (old.top ≡ list new.top (behind new.below).top) × (old.below ≡ (behind new.below).below)
+Enters (Err e) read old new = Refuses e (read old.top ≡ None)
+
+-- the walk steps over the name at the front
+abbrev pub TakesName : Result NameWord ReadFault → Levels → Levels → Type 0
+TakesName (Ok name) old new = (old.top ≡ word name.text.now new.top) × (is_name name.text.now ≡ true) × (new.below ≡ old.below)
+TakesName (Err e) old new = Refuses e (leading_name old.top ≡ None)
+
+-- the walk steps over the types at the front
+abbrev pub TakesTypes : Result (Vec NameWord) ReadFault → Levels → Levels → Type 0
+TakesTypes (Ok types) old new = (typing_of old.top ≡ Some (typing new.top (name_forms types.items))) × (new.below ≡ old.below)
+TakesTypes (Err e) old new = Refuses e (typing_of old.top ≡ None)
+
+-- the type `object` alone, or memory ran out
+abbrev pub GivesObject : Result (Vec NameWord) ReadFault → Type 0
+GivesObject (Ok types) = name_forms types.items ≡ object_word ∷ []
+GivesObject (Err e) = e ≡ out_of_memory
+
+-- as `ReadsList`, where what is read is put behind `front`, which makes it `all`
+abbrev pub ReadsOnto : {Y : Type 0} → Result (Unit {0}) ReadFault → (Trees → Option (List Y)) → Levels → Levels → List Y → List Y → Type 0
+ReadsOnto (Ok _) read old new front all = (with_front front (read old.top) ≡ Some all) × (new ≡ behind old.below)
+ReadsOnto (Err e) read old new front all = Refuses e (with_front front (read old.top) ≡ None)
+
+-- the name is read, or memory ran out
+abbrev pub ReadsName : Result (List ℕ) ReadFault → List ℕ → Type 0
+ReadsName (Ok name) expected = name ≡ expected
+ReadsName (Err e) expected = e ≡ out_of_memory
+
+-- the test passes, or it is refused
+abbrev pub Allows : Result (Unit {0}) ReadFault → Bool → Type 0
+Allows (Ok _) test = test ≡ true
+Allows (Err e) test = Refuses e (test ≡ false)
+
+-- what is defined is given
+abbrev pub Gives : {X Y : Type 0} → (X → Y) → Result X ReadFault → Option Y → Type 0
+Gives view (Ok x) defined = defined ≡ Some (view x)
+Gives view (Err e) defined = Refuses e (defined ≡ None)
+
+-- as `Gives`, where what is defined is put into `after`
+abbrev pub Puts : {Y : Type 0} → Result (Unit {0}) ReadFault → Option Y → Y → Type 0
+Puts (Ok _) defined after = defined ≡ Some after
+Puts (Err e) defined after = Refuses e (defined ≡ None)
+
+-- what is defined, or that there is nothing, is answered, or memory ran out
+abbrev pub GivesOption : {X : Type 0} → Result (Option X) ReadFault → Option X → Type 0
+GivesOption (Ok x) defined = defined ≡ x
+GivesOption (Err e) defined = e ≡ out_of_memory
+
+-- one that passes a test is found, if there is one, or memory ran out
+abbrev pub FindsAny : {X : Type 0} → Result (Option X) ReadFault → Bool → Type 0
+FindsAny (Ok found) test = is_some found ≡ test
+FindsAny (Err e) test = e ≡ out_of_memory
+
+-- the test is answered, or memory ran out
+abbrev pub GivesTest : Result Bool ReadFault → Bool → Type 0
+GivesTest (Ok answer) test = answer ≡ test
+GivesTest (Err e) test = e ≡ out_of_memory

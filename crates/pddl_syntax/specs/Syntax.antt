@@ -1,0 +1,539 @@
+-- The grammar of domains and problems: which syntax a tree has (PDDL 2.1, Fox and Long 2003, appendix A; this validator's part
+-- of it is described in docs).
+
+use Rattle.std.specs.Prelude.{ℕ, List, [], ◌∷◌, ◌++◌, Bool, true, false, Option, Some, None, is_some, not, unwrap_or, if◌then◌else◌}
+use Rattle.std.specs.Option.{option_map, option_and_then}
+use Rattle.pddl_words.specs.Words.{is_name}
+use Rattle.pddl_words.specs.Kinds.{is_same_word}
+use Rattle.pddl_syntax.specs.declared.heads.FormulaHead.{FormulaHead}
+use Rattle.pddl_syntax.specs.declared.heads.FormulaHead.TheVariants as formula
+use Rattle.pddl_syntax.specs.declared.heads.DomainSection.{DomainSection}
+use Rattle.pddl_syntax.specs.declared.heads.DomainSection.TheVariants as section
+use Rattle.pddl_syntax.specs.declared.heads.ActionPart.{ActionPart}
+use Rattle.pddl_syntax.specs.declared.heads.ActionPart.TheVariants as part
+use Rattle.pddl_syntax.specs.declared.heads.ProblemSection.{ProblemSection}
+use Rattle.pddl_syntax.specs.declared.heads.ProblemSection.TheVariants as problem
+use Rattle.pddl_syntax.specs.Keywords.{define_word, domain_word, problem_word, either_word, object_word}
+use Rattle.pddl_syntax.specs.declared.heads.Scope.{Scope}
+use Rattle.pddl_syntax.specs.declared.heads.Scope.TheVariants as scope
+use Rattle.pddl_syntax.specs.Heads.{is_and, is_dash, is_keyword, is_term, is_variable, formula_head, domain_section, action_part, problem_section}
+use Rattle.pddl_syntax.specs.Optional.{guard, followed_by, joined}
+use Rattle.pddl_syntax.specs.Trees.{Trees, none, word, list}
+
+-- an atom as written: the words of its predicate and of its terms
+pub record AtomForm : Type 0 where
+  pub predicate : List ℕ
+  pub terms : List (List ℕ)
+
+-- an atom, or the negation of one
+pub record LiteralForm : Type 0 where
+  pub positive : Bool
+  pub atom : AtomForm
+
+-- a group of a list of typed variables: its variables, and the names of the types of which they may be
+pub record VariableGroup : Type 0 where
+  pub variables : List (List ℕ)
+  pub types : List (List ℕ)
+
+-- the declaration of a predicate
+pub record PredicateForm : Type 0 where
+  pub name : List ℕ
+  pub variables : List VariableGroup
+
+-- an action, with the literals of its precondition and of its effect in text order
+pub record ActionForm : Type 0 where
+  pub name : List ℕ
+  pub parameters : List VariableGroup
+  pub precondition : List LiteralForm
+  pub effect : List LiteralForm
+
+-- a group of a list of typed names: its names, and the name of their type
+pub record NameGroup : Type 0 where
+  pub names : List (List ℕ)
+  pub type : List ℕ
+
+-- a domain
+pub record DomainForm : Type 0 where
+  pub name : List ℕ
+  pub types : List NameGroup
+  pub constants : List NameGroup
+  pub predicates : List PredicateForm
+  pub actions : List ActionForm
+
+-- a problem
+pub record ProblemForm : Type 0 where
+  pub name : List ℕ
+  pub domain : List ℕ
+  pub objects : List NameGroup
+  pub init : List LiteralForm
+  pub goal : List LiteralForm
+
+-- the parts of an action that are given
+pub record ActionParts : Type 0 where
+  pub parameters : Option (List VariableGroup)
+  pub precondition : Option (List LiteralForm)
+  pub effect : Option (List LiteralForm)
+
+-- the sections of a domain that are given; of the requirements it only counts that they are
+pub record DomainSections : Type 0 where
+  pub requirements : Bool
+  pub types : Option (List NameGroup)
+  pub constants : Option (List NameGroup)
+  pub predicates : Option (List PredicateForm)
+  pub actions : List ActionForm
+
+-- the sections of a problem that are given; of the requirements, the metric and the length it only counts that they are
+pub record ProblemSections : Type 0 where
+  pub domain : Option (List ℕ)
+  pub requirements : Bool
+  pub objects : Option (List NameGroup)
+  pub init : Option (List LiteralForm)
+  pub goal : Option (List LiteralForm)
+  pub metric : Bool
+  pub length : Bool
+
+-- each tree is a list, and this is what they are read as
+unfoldable pub lists_of : {A : Type 0} → (Trees → Option A) → Trees → Option (List A)
+lists_of read none = Some []
+lists_of read (word w others) = None
+lists_of read (list inside others) = followed_by (read inside) (lists_of read others)
+
+-- the value, where no tree is left
+unfoldable pub ended : {A : Type 0} → Trees → Option A → Option A
+ended none value = value
+ended (word w others) value = None
+ended (list inside others) value = None
+
+-- nothing, where no tree is left
+unfoldable pub end_of : Trees → Option (Unit {0})
+end_of trees = ended trees (Some tt)
+
+-- what follows a given word at the front
+unfoldable pub behind_word : List ℕ → Trees → Option Trees
+behind_word expected none = None
+behind_word expected (word w others) = guard (is_same_word w expected) (Some others)
+behind_word expected (list inside others) = None
+
+-- what the list at the front holds
+unfoldable pub first_list : Trees → Option Trees
+first_list none = None
+first_list (word w others) = None
+first_list (list inside others) = Some inside
+
+-- the name that stands alone
+unfoldable pub lone_name : Trees → Option (List ℕ)
+lone_name none = None
+lone_name (word w others) = guard (is_name w) (ended others (Some w))
+lone_name (list inside others) = None
+
+-- K*
+unfoldable pub keywords_of : Trees → Option (Unit {0})
+keywords_of none = Some tt
+keywords_of (word w others) = guard (is_keyword w) (keywords_of others)
+keywords_of (list inside others) = None
+
+-- the last group of a list of typed names, if it has a name: its type is `object`
+unfoldable pub last_names : List (List ℕ) → List NameGroup
+last_names [] = []
+last_names (name ∷ names) = record { names = name ∷ names; type = object_word } ∷ []
+
+-- a group, which has a name at least
+unfoldable pub name_group : List (List ℕ) → List ℕ → Option NameGroup
+name_group [] type = None
+name_group (name ∷ names) type = Some (record { names = name ∷ names; type = type })
+
+-- Typed(N): groups `N+ - N`, and then possibly a last group `N+` of type `object`; behind the names of a group that has begun
+unfoldable mutual
+  pub typed_names : List (List ℕ) → Trees → Option (List NameGroup)
+  typed_names names none = Some (last_names names)
+  typed_names names (word w others) =
+      (if is_dash w then names_typed names others else guard (is_name w) (typed_names (names ++ w ∷ []) others))
+  typed_names names (list inside others) = None
+
+  -- the type behind the dash, and the groups behind it
+  pub names_typed : List (List ℕ) → Trees → Option (List NameGroup)
+  names_typed names none = None
+  names_typed names (word w others) = guard (is_name w) (followed_by (name_group names w) (typed_names [] others))
+  names_typed names (list inside others) = None
+
+-- the name at the front
+unfoldable pub leading_name : Trees → Option (List ℕ)
+leading_name none = None
+leading_name (word w others) = guard (is_name w) (Some w)
+leading_name (list inside others) = None
+
+-- each tree is a word that passes the test, and these are the words
+unfoldable pub words_of : (List ℕ → Bool) → Trees → Option (List (List ℕ))
+words_of test none = Some []
+words_of test (word w others) = followed_by (guard (test w) (Some w)) (words_of test others)
+words_of test (list inside others) = None
+
+-- the values, where there is one at least
+unfoldable pub some_of : Option (List (List ℕ)) → Option (List (List ℕ))
+some_of None = None
+some_of (Some []) = None
+some_of (Some (w ∷ ws)) = Some (w ∷ ws)
+
+-- N+
+unfoldable pub names_of : Trees → Option (List (List ℕ))
+names_of trees = some_of (words_of is_name trees)
+
+-- `either N+`
+unfoldable pub either_in : Trees → Option (List (List ℕ))
+either_in trees = option_and_then names_of (behind_word either_word trees)
+
+-- the last group of a list of typed variables, if it has a variable: its type is `object`
+unfoldable pub last_variables : List (List ℕ) → List VariableGroup
+last_variables [] = []
+last_variables (v ∷ vs) = record { variables = v ∷ vs; types = object_word ∷ [] } ∷ []
+
+-- a group, which has a variable at least, where it has types
+unfoldable pub variable_group : List (List ℕ) → Option (List (List ℕ)) → Option VariableGroup
+variable_group [] types = None
+variable_group (v ∷ vs) None = None
+variable_group (v ∷ vs) (Some types) = Some (record { variables = v ∷ vs; types = types })
+
+-- Typed(V): groups `V+ - N` or `V+ - (either N+)`, and then possibly a last group `V+` of type `object`; behind the variables of
+-- a group that has begun
+unfoldable mutual
+  pub typed_variables : List (List ℕ) → Trees → Option (List VariableGroup)
+  typed_variables variables none = Some (last_variables variables)
+  typed_variables variables (word w others) =
+      (if is_dash w then variables_typed variables others else guard (is_variable w) (typed_variables (variables ++ w ∷ []) others))
+  typed_variables variables (list inside others) = None
+
+  -- the types behind the dash, and the groups behind them
+  pub variables_typed : List (List ℕ) → Trees → Option (List VariableGroup)
+  variables_typed variables none = None
+  variables_typed variables (word w others) =
+      followed_by (variable_group variables (guard (is_name w) (Some (w ∷ [])))) (typed_variables [] others)
+  variables_typed variables (list inside others) = followed_by (variable_group variables (either_in inside)) (typed_variables [] others)
+
+-- the types at the front, and what follows them
+pub record Typing : Type 0 where
+  pub types : List (List ℕ)
+  pub others : Trees
+
+abbrev pub typing : Trees → List (List ℕ) → Typing
+typing others types = record { types = types; others = others }
+
+unfoldable pub typing_of : Trees → Option Typing
+typing_of none = None
+typing_of (word w others) = guard (is_name w) (Some (typing others (w ∷ [])))
+typing_of (list inside others) = option_map (typing others) (either_in inside)
+
+-- an atom of a predicate and terms
+abbrev pub atom_with : List ℕ → List (List ℕ) → AtomForm
+atom_with predicate terms = record { predicate = predicate; terms = terms }
+
+-- an atom: its predicate, and its terms
+unfoldable pub atom_of : Scope → List ℕ → Trees → Option AtomForm
+atom_of scope predicate terms = option_map (atom_with predicate) (words_of (is_term scope) terms)
+
+-- what a name that is no reserved word heads
+abbrev pub name_by : {A : Type 0} → FormulaHead → Option A → Option A
+name_by formula.Name value = value
+name_by formula.And value = None
+name_by formula.Not value = None
+name_by formula.Reserved value = None
+name_by formula.Other value = None
+
+-- Atom = `(N` Term*`)`, where N is no reserved word
+unfoldable pub atom_in : Scope → Trees → Option AtomForm
+atom_in scope none = None
+atom_in scope (word w terms) = name_by (formula_head w) (atom_of scope w terms)
+atom_in scope (list inside others) = None
+
+-- a literal with its sign
+abbrev pub literal : Bool → AtomForm → LiteralForm
+literal positive atom = record { positive = positive; atom = atom }
+
+-- what `not` negates: one atom
+unfoldable pub negated_of : Scope → Trees → Option LiteralForm
+negated_of scope none = None
+negated_of scope (word w others) = None
+negated_of scope (list inside others) = ended others (option_map (literal false) (atom_in scope inside))
+
+-- what a word heads where a literal may stand
+abbrev pub literal_by : FormulaHead → Option AtomForm → Option LiteralForm → Option LiteralForm
+literal_by formula.Name atom negated = option_map (literal true) atom
+literal_by formula.Not atom negated = negated
+literal_by formula.And atom negated = None
+literal_by formula.Reserved atom negated = None
+literal_by formula.Other atom negated = None
+
+-- Literal = Atom | `(not` Atom`)`, from its first word
+unfoldable pub literal_of : Scope → List ℕ → Trees → Option LiteralForm
+literal_of scope w others = literal_by (formula_head w) (atom_of scope w others) (negated_of scope others)
+
+-- InitItem = Literal
+unfoldable pub init_item_in : Trees → Option LiteralForm
+init_item_in none = None
+init_item_in (word w others) = literal_of scope.Problem w others
+init_item_in (list inside others) = None
+
+-- a literal as a conjunction
+abbrev pub alone : LiteralForm → List LiteralForm
+alone l = l ∷ []
+
+-- Formula = `()` | `(and` Formula*`)` | Literal, and an Effect is the same; nested `and` is flattened in text order
+unfoldable mutual
+  pub formula_in : Scope → Trees → Option (List LiteralForm)
+  formula_in scope none = Some []
+  formula_in scope (word w others) = (if is_and w then conjuncts_of scope others else option_map alone (literal_of scope w others))
+  formula_in scope (list inside others) = None
+
+  pub conjuncts_of : Scope → Trees → Option (List LiteralForm)
+  conjuncts_of scope none = Some []
+  conjuncts_of scope (word w others) = None
+  conjuncts_of scope (list inside others) = joined (formula_in scope inside) (conjuncts_of scope others)
+
+-- a predicate with its variables
+abbrev pub predicate_with : List ℕ → List VariableGroup → PredicateForm
+predicate_with name variables = record { name = name; variables = variables }
+
+-- a predicate: its name, and its variables
+unfoldable pub predicate_of : List ℕ → Trees → Option PredicateForm
+predicate_of w variables = option_map (predicate_with w) (typed_variables [] variables)
+
+-- `(N` Typed(V)`)`, where N is no reserved word
+unfoldable pub predicate_in : Trees → Option PredicateForm
+predicate_in none = None
+predicate_in (word w variables) = name_by (formula_head w) (predicate_of w variables)
+predicate_in (list inside others) = None
+
+-- an action of which no part is given
+unfoldable pub no_parts : ActionParts
+no_parts = record { parameters = None; precondition = None; effect = None }
+
+abbrev pub with_parameters : ActionParts → List VariableGroup → ActionParts
+with_parameters given value = record given { parameters = Some value }
+
+abbrev pub with_precondition : ActionParts → List LiteralForm → ActionParts
+with_precondition given value = record given { precondition = Some value }
+
+abbrev pub with_effect : ActionParts → List LiteralForm → ActionParts
+with_effect given value = record given { effect = Some value }
+
+-- whether a part is given already
+unfoldable pub is_part_given : ActionPart → ActionParts → Bool
+is_part_given part.Parameters given = is_some given.parameters
+is_part_given part.Precondition given = is_some given.precondition
+is_part_given part.Effect given = is_some given.effect
+
+-- the parts with this one, whose value is the list
+unfoldable pub part_by : ActionPart → ActionParts → Trees → Option ActionParts
+part_by part.Parameters given value = option_map (with_parameters given) (typed_variables [] value)
+part_by part.Precondition given value = option_map (with_precondition given) (formula_in scope.Action value)
+part_by part.Effect given value = option_map (with_effect given) (formula_in scope.Action value)
+
+-- the parts with the one that a word names, each at most once
+unfoldable pub part_named : Option ActionPart → ActionParts → Trees → Option ActionParts
+part_named None given value = None
+part_named (Some named) given value = guard (not (is_part_given named given)) (part_by named given value)
+
+-- ActPart = `:parameters (`Typed(V)`)` | `:precondition` Formula | `:effect` Effect, in any order
+unfoldable pub parts_of : ActionParts → Trees → Option ActionParts
+parts_of given none = Some given
+parts_of given (word w none) = None
+parts_of given (word w (word v others)) = None
+parts_of given (word w (list value others)) = option_and_then (λ more. parts_of more others) (part_named (action_part w) given value)
+parts_of given (list inside others) = None
+
+-- an action with its name; a part that is not given holds nothing
+unfoldable pub action_form : List ℕ → ActionParts → ActionForm
+action_form name parts = record {
+  name = name;
+  parameters = unwrap_or parts.parameters [];
+  precondition = unwrap_or parts.precondition [];
+  effect = unwrap_or parts.effect [];
+}
+
+-- `(:action N` ActPart*`)`, behind the keyword
+unfoldable pub action_of : Trees → Option ActionForm
+action_of none = None
+action_of (word name parts) = guard (is_name name) (option_map (action_form name) (parts_of no_parts parts))
+action_of (list inside others) = None
+
+-- a domain of which no section is given
+unfoldable pub no_domain_sections : DomainSections
+no_domain_sections = record { requirements = false; types = None; constants = None; predicates = None; actions = [] }
+
+abbrev pub with_requirements : DomainSections → DomainSections
+with_requirements given = record given { requirements = true }
+
+abbrev pub with_types : DomainSections → List NameGroup → DomainSections
+with_types given value = record given { types = Some value }
+
+abbrev pub with_constants : DomainSections → List NameGroup → DomainSections
+with_constants given value = record given { constants = Some value }
+
+abbrev pub with_predicates : DomainSections → List PredicateForm → DomainSections
+with_predicates given value = record given { predicates = Some value }
+
+abbrev pub with_action : DomainSections → ActionForm → DomainSections
+with_action given value = record given { actions = given.actions ++ value ∷ [] }
+
+-- whether a section is given already that may stand once
+unfoldable pub is_domain_section_given : DomainSection → DomainSections → Bool
+is_domain_section_given section.Requirements given = given.requirements
+is_domain_section_given section.Types given = is_some given.types
+is_domain_section_given section.Constants given = is_some given.constants
+is_domain_section_given section.Predicates given = is_some given.predicates
+is_domain_section_given section.Action given = false
+
+-- the sections with this one
+unfoldable pub domain_section_by : DomainSection → DomainSections → Trees → Option DomainSections
+domain_section_by section.Requirements given trees = option_map (λ _. with_requirements given) (keywords_of trees)
+domain_section_by section.Types given trees = option_map (with_types given) (typed_names [] trees)
+domain_section_by section.Constants given trees = option_map (with_constants given) (typed_names [] trees)
+domain_section_by section.Predicates given trees = option_map (with_predicates given) (lists_of predicate_in trees)
+domain_section_by section.Action given trees = option_map (with_action given) (action_of trees)
+
+-- the sections with the one that a word heads, each at most once but actions
+unfoldable pub domain_section_headed : Option DomainSection → DomainSections → Trees → Option DomainSections
+domain_section_headed None given trees = None
+domain_section_headed (Some headed) given trees = guard (not (is_domain_section_given headed given)) (domain_section_by headed given trees)
+
+-- DomSection = `(:requirements K*)` | `(:types Typed(N))` | `(:constants Typed(N))` | `(:predicates (N` Typed(V)`)*)` | `(:action N` ActPart*`)`
+unfoldable pub domain_section_in : DomainSections → Trees → Option DomainSections
+domain_section_in given none = None
+domain_section_in given (word w others) = domain_section_headed (domain_section w) given others
+domain_section_in given (list inside others) = None
+
+-- the sections in any order
+unfoldable pub domain_sections_of : DomainSections → Trees → Option DomainSections
+domain_sections_of given none = Some given
+domain_sections_of given (word w others) = None
+domain_sections_of given (list inside others) = option_and_then (λ more. domain_sections_of more others) (domain_section_in given inside)
+
+-- `(domain N)` or `(problem N)`, inside the parentheses
+unfoldable pub header_of : List ℕ → Trees → Option (List ℕ)
+header_of kind trees = option_and_then lone_name (behind_word kind trees)
+
+-- a domain with its name; a section that is not given holds nothing
+unfoldable pub domain_form : List ℕ → DomainSections → DomainForm
+domain_form name sections = record {
+  name = name;
+  types = unwrap_or sections.types [];
+  constants = unwrap_or sections.constants [];
+  predicates = unwrap_or sections.predicates [];
+  actions = sections.actions;
+}
+
+unfoldable pub domain_by : Option (List ℕ) → Option DomainSections → Option DomainForm
+domain_by None sections = None
+domain_by (Some name) sections = option_map (domain_form name) sections
+
+-- `(domain N)` DomSection*
+unfoldable pub domain_body : Trees → Option DomainForm
+domain_body none = None
+domain_body (word w others) = None
+domain_body (list head sections) = domain_by (header_of domain_word head) (domain_sections_of no_domain_sections sections)
+
+-- `define (domain N)` DomSection*
+unfoldable pub domain_in : Trees → Option DomainForm
+domain_in trees = option_and_then domain_body (behind_word define_word trees)
+
+-- Domain = `(define (domain N)` DomSection*`)`, and nothing else in the text
+unfoldable pub domain_syntax : Trees → Option DomainForm
+domain_syntax none = None
+domain_syntax (word w others) = None
+domain_syntax (list inside others) = ended others (domain_in inside)
+
+-- a problem of which no section is given
+unfoldable pub no_problem_sections : ProblemSections
+no_problem_sections = record { domain = None; requirements = false; objects = None; init = None; goal = None; metric = false; length = false }
+
+abbrev pub with_domain : ProblemSections → List ℕ → ProblemSections
+with_domain given value = record given { domain = Some value }
+
+abbrev pub with_problem_requirements : ProblemSections → ProblemSections
+with_problem_requirements given = record given { requirements = true }
+
+abbrev pub with_objects : ProblemSections → List NameGroup → ProblemSections
+with_objects given value = record given { objects = Some value }
+
+abbrev pub with_metric : ProblemSections → ProblemSections
+with_metric given = record given { metric = true }
+
+abbrev pub with_length : ProblemSections → ProblemSections
+with_length given = record given { length = true }
+
+abbrev pub with_init : ProblemSections → List LiteralForm → ProblemSections
+with_init given value = record given { init = Some value }
+
+abbrev pub with_goal : ProblemSections → List LiteralForm → ProblemSections
+with_goal given value = record given { goal = Some value }
+
+-- one formula
+unfoldable pub goal_of : Trees → Option (List LiteralForm)
+goal_of none = None
+goal_of (word w others) = None
+goal_of (list inside others) = ended others (formula_in scope.Problem inside)
+
+-- whether a section is given already
+unfoldable pub is_problem_section_given : ProblemSection → ProblemSections → Bool
+is_problem_section_given problem.Domain given = is_some given.domain
+is_problem_section_given problem.Requirements given = given.requirements
+is_problem_section_given problem.Objects given = is_some given.objects
+is_problem_section_given problem.Init given = is_some given.init
+is_problem_section_given problem.Goal given = is_some given.goal
+is_problem_section_given problem.Metric given = given.metric
+is_problem_section_given problem.Length given = given.length
+
+-- the sections with this one
+unfoldable pub problem_section_by : ProblemSection → ProblemSections → Trees → Option ProblemSections
+problem_section_by problem.Domain given trees = option_map (with_domain given) (lone_name trees)
+problem_section_by problem.Requirements given trees = option_map (λ _. with_problem_requirements given) (keywords_of trees)
+problem_section_by problem.Objects given trees = option_map (with_objects given) (typed_names [] trees)
+problem_section_by problem.Init given trees = option_map (with_init given) (lists_of init_item_in trees)
+problem_section_by problem.Goal given trees = option_map (with_goal given) (goal_of trees)
+problem_section_by problem.Metric given trees = Some (with_metric given)
+problem_section_by problem.Length given trees = Some (with_length given)
+
+-- the sections with the one that a word heads, each at most once
+unfoldable pub problem_section_headed : Option ProblemSection → ProblemSections → Trees → Option ProblemSections
+problem_section_headed None given trees = None
+problem_section_headed (Some headed) given trees = guard (not (is_problem_section_given headed given)) (problem_section_by headed given trees)
+
+-- ProbSection = `(:domain N)` | `(:requirements K*)` | `(:objects Typed(N))` | `(:init` InitItem*`)` | `(:goal` Formula`)` | `(:metric ..)` |
+-- `(:length ..)`; in the last two stands anything
+unfoldable pub problem_section_in : ProblemSections → Trees → Option ProblemSections
+problem_section_in given none = None
+problem_section_in given (word w others) = problem_section_headed (problem_section w) given others
+problem_section_in given (list inside others) = None
+
+-- the sections in any order
+unfoldable pub problem_sections_of : ProblemSections → Trees → Option ProblemSections
+problem_sections_of given none = Some given
+problem_sections_of given (word w others) = None
+problem_sections_of given (list inside others) = option_and_then (λ more. problem_sections_of more others) (problem_section_in given inside)
+
+-- a problem with its name; `:domain` and `:goal` must be given
+unfoldable pub problem_form : List ℕ → ProblemSections → Option (List ℕ) → Option (List LiteralForm) → Option ProblemForm
+problem_form name given None goal = None
+problem_form name given (Some domain) None = None
+problem_form name given (Some domain) (Some goal) =
+    Some (record { name = name; domain = domain; objects = unwrap_or given.objects []; init = unwrap_or given.init []; goal = goal })
+
+unfoldable pub problem_by : Option (List ℕ) → Option ProblemSections → Option ProblemForm
+problem_by None sections = None
+problem_by (Some name) None = None
+problem_by (Some name) (Some given) = problem_form name given given.domain given.goal
+
+-- `(problem N)` ProbSection*
+unfoldable pub problem_body : Trees → Option ProblemForm
+problem_body none = None
+problem_body (word w others) = None
+problem_body (list head sections) = problem_by (header_of problem_word head) (problem_sections_of no_problem_sections sections)
+
+-- `define (problem N)` ProbSection*
+unfoldable pub problem_in : Trees → Option ProblemForm
+problem_in trees = option_and_then problem_body (behind_word define_word trees)
+
+-- Problem = `(define (problem N)` ProbSection*`)`, and nothing else in the text
+unfoldable pub problem_syntax : Trees → Option ProblemForm
+problem_syntax none = None
+problem_syntax (word w others) = None
+problem_syntax (list inside others) = ended others (problem_in inside)

@@ -1,0 +1,13 @@
+-- One step of a walk over the trees of a text.
+
+use Rattle.std.specs.Prelude.{◌≡◌}
+use Rattle.pddl_syntax.specs.declared.walk.Item.{Item}
+use Rattle.pddl_syntax.specs.declared.walk.Item.TheVariants.{Open, Close, Text}
+use Rattle.pddl_syntax.specs.Trees.{none, word, list}
+use Rattle.pddl_syntax.specs.Levels.{Levels, behind}
+
+-- the walk steps over a word, into a list, or out of the list in which it stands
+abbrev pub Steps : Item → Levels → Levels → Type 0
+Steps (Text w) old new = (old.top ≡ word w.text.now new.top) × (new.below ≡ old.below)
+Steps (Open span) old new = (old.top ≡ list new.top (behind new.below).top) × (old.below ≡ (behind new.below).below)
+Steps (Close span) old new = (old.top ≡ none) × (new ≡ behind old.below)

@@ -1,0 +1,244 @@
+//! What the first word of a list says of it.
+
+ghost use Rattle.std.specs.Prelude.{◌≡◌};
+ghost use Rattle.pddl_words.specs.Words.{is_name};
+ghost use Rattle.pddl_syntax.specs.Keywords.{is_connective, is_quantifier, is_comparison, is_other_reserved};
+ghost use Rattle.pddl_syntax.specs.Heads.{is_and, is_dash, is_either, is_keyword, is_term, is_variable, formula_head, domain_section, action_part, problem_section};
+
+use pddl_tokens::{WordKind, same_folded, word_kind};
+
+/// What a word heads where a formula, an effect, an initial atom or the declaration of a predicate is due.
+#[derive(Clone, Copy, Debug)]
+pub(crate) enum FormulaHead {
+    And,
+    Not,
+    /// Another word that names no predicate.
+    Reserved,
+    Name,
+    Other,
+}
+
+/// Where an atom stands. Variables may be terms in actions alone.
+#[derive(Clone, Copy, Debug)]
+pub(crate) enum Scope {
+    Action,
+    Problem,
+}
+
+/// The sections of a domain.
+#[derive(Clone, Copy, Debug)]
+pub(crate) enum DomainSection {
+    Requirements,
+    Types,
+    Constants,
+    Predicates,
+    Action,
+}
+
+/// The parts of an action.
+#[derive(Clone, Copy, Debug)]
+pub(crate) enum ActionPart {
+    Parameters,
+    Precondition,
+    Effect,
+}
+
+/// The sections of a problem.
+#[derive(Clone, Copy, Debug)]
+pub(crate) enum ProblemSection {
+    Domain,
+    Requirements,
+    Objects,
+    Init,
+    Goal,
+    Metric,
+    Length,
+}
+
+/// Whether a word heads a conjunction.
+#[tactic(auto, unfolding(crate::specs::Heads::is_and))]
+pub(crate) fn is_and(word: &[u8]) -> bool
+    ensures { result ≡ is_and word.now }
+{
+    same_folded(word, b"and")
+}
+
+/// Whether the word is the dash before a type.
+#[tactic(auto, unfolding(crate::specs::Heads::is_dash))]
+pub(crate) fn is_dash(word: &[u8]) -> bool
+    ensures { result ≡ is_dash word.now }
+{
+    same_folded(word, b"-")
+}
+
+/// Whether the word heads a choice of types.
+#[tactic(auto, unfolding(crate::specs::Heads::is_either))]
+pub(crate) fn is_either(word: &[u8]) -> bool
+    ensures { result ≡ is_either word.now }
+{
+    same_folded(word, b"either")
+}
+
+/// Whether the word is a keyword: `:` and a name.
+#[tactic(auto, unfolding(crate::specs::Heads::is_keyword))]
+pub(crate) fn is_keyword(word: &[u8]) -> bool
+    ensures { result ≡ is_keyword word.now }
+{
+    match word_kind(word) {
+        WordKind::Keyword => true,
+        WordKind::Name => false,
+        WordKind::Variable => false,
+        WordKind::Dash => false,
+        WordKind::Other => false,
+    }
+}
+
+/// Whether the word is a variable: `?` and a name.
+#[tactic(auto, unfolding(crate::specs::Heads::is_variable))]
+pub fn is_variable(word: &[u8]) -> bool
+    ensures { result ≡ is_variable word.now }
+{
+    match word_kind(word) {
+        WordKind::Variable => true,
+        WordKind::Name => false,
+        WordKind::Keyword => false,
+        WordKind::Dash => false,
+        WordKind::Other => false,
+    }
+}
+
+/// Whether the word may be a term.
+#[tactic(auto, unfolding(crate::specs::Heads::is_term))]
+pub(crate) fn is_term(scope: Scope, word: &[u8]) -> bool
+    ensures { result ≡ is_term scope word.now }
+{
+    match scope {
+        Scope::Action => is_name(word) || is_variable(word),
+        Scope::Problem => is_name(word),
+    }
+}
+
+/// What the word heads.
+#[tactic(auto, unfolding(crate::specs::Heads::formula_head))]
+pub(crate) fn formula_head(word: &[u8]) -> FormulaHead
+    ensures { result ≡ formula_head word.now }
+{
+    if same_folded(word, b"and") {
+        FormulaHead::And
+    } else if same_folded(word, b"not") {
+        FormulaHead::Not
+    } else if is_other_reserved(word) {
+        FormulaHead::Reserved
+    } else if is_name(word) {
+        FormulaHead::Name
+    } else {
+        FormulaHead::Other
+    }
+}
+
+/// The section of a domain that the word heads, if any.
+#[tactic(auto, unfolding(crate::specs::Heads::domain_section))]
+pub(crate) fn domain_section(word: &[u8]) -> Option<DomainSection>
+    ensures { result ≡ domain_section word.now }
+{
+    if same_folded(word, b":requirements") {
+        Some(DomainSection::Requirements)
+    } else if same_folded(word, b":types") {
+        Some(DomainSection::Types)
+    } else if same_folded(word, b":constants") {
+        Some(DomainSection::Constants)
+    } else if same_folded(word, b":predicates") {
+        Some(DomainSection::Predicates)
+    } else if same_folded(word, b":action") {
+        Some(DomainSection::Action)
+    } else {
+        None
+    }
+}
+
+/// The part of an action that the word names, if any.
+#[tactic(auto, unfolding(crate::specs::Heads::action_part))]
+pub(crate) fn action_part(word: &[u8]) -> Option<ActionPart>
+    ensures { result ≡ action_part word.now }
+{
+    if same_folded(word, b":parameters") {
+        Some(ActionPart::Parameters)
+    } else if same_folded(word, b":precondition") {
+        Some(ActionPart::Precondition)
+    } else if same_folded(word, b":effect") {
+        Some(ActionPart::Effect)
+    } else {
+        None
+    }
+}
+
+/// The section of a problem that the word heads, if any.
+#[tactic(auto, unfolding(crate::specs::Heads::problem_section))]
+pub(crate) fn problem_section(word: &[u8]) -> Option<ProblemSection>
+    ensures { result ≡ problem_section word.now }
+{
+    if same_folded(word, b":domain") {
+        Some(ProblemSection::Domain)
+    } else if same_folded(word, b":requirements") {
+        Some(ProblemSection::Requirements)
+    } else if same_folded(word, b":objects") {
+        Some(ProblemSection::Objects)
+    } else if same_folded(word, b":init") {
+        Some(ProblemSection::Init)
+    } else if same_folded(word, b":goal") {
+        Some(ProblemSection::Goal)
+    } else if same_folded(word, b":metric") {
+        Some(ProblemSection::Metric)
+    } else if same_folded(word, b":length") {
+        Some(ProblemSection::Length)
+    } else {
+        None
+    }
+}
+
+/// Whether the word is a name. Upper and lower case are alike.
+#[tactic(auto, unfolding(pddl_words::specs::Kinds::kind_of_word))]
+pub(crate) fn is_name(word: &[u8]) -> bool
+    ensures { result ≡ is_name word.now }
+{
+    match word_kind(word) {
+        WordKind::Name => true,
+        _ => false,
+    }
+}
+
+/// Whether the word, besides `and` and `not`, names no predicate, since PDDL gives it a meaning that this reader refuses.
+#[tactic(auto, unfolding(crate::specs::Keywords::is_other_reserved))]
+fn is_other_reserved(word: &[u8]) -> bool
+    ensures { result ≡ is_other_reserved word.now }
+{
+    is_connective(word) || is_quantifier(word) || is_comparison(word)
+}
+
+#[tactic(auto, unfolding(crate::specs::Keywords::is_connective))]
+fn is_connective(word: &[u8]) -> bool
+    ensures { result ≡ is_connective word.now }
+{
+    same_folded(word, b"or")
+        || same_folded(word, b"imply")
+        || same_folded(word, b"when")
+        || same_folded(word, b"either")
+}
+
+#[tactic(auto, unfolding(crate::specs::Keywords::is_quantifier))]
+fn is_quantifier(word: &[u8]) -> bool
+    ensures { result ≡ is_quantifier word.now }
+{
+    same_folded(word, b"exists") || same_folded(word, b"forall")
+}
+
+#[tactic(auto, unfolding(crate::specs::Keywords::is_comparison))]
+fn is_comparison(word: &[u8]) -> bool
+    ensures { result ≡ is_comparison word.now }
+{
+    same_folded(word, b"=")
+        || same_folded(word, b"<")
+        || same_folded(word, b">")
+        || same_folded(word, b"<=")
+        || same_folded(word, b">=")
+}

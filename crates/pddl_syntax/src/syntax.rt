@@ -1,0 +1,108 @@
+//! The second layer: what the grammar allows, kept as slices of the text with their places.
+//!
+//! Each reader here stands inside a list, reads what is left of it, and leaves it behind its `)`. Lists stand at most 64 deep,
+//! since the first layer refuses deeper ones, and so deep goes the recursion.
+
+pub(crate) mod action;
+pub(crate) mod domain;
+pub(crate) mod formula;
+pub(crate) mod lists;
+pub(crate) mod problem;
+pub(crate) mod refusals;
+pub(crate) mod typed;
+pub(crate) mod variables;
+
+use crate::walk::{NameWord, Word};
+use smallvec::SmallVec;
+
+/// The words of an atom's terms. Most atoms have two at most, and these take no memory of their own.
+pub type Terms<'a> = SmallVec<Word<'a>, 2>;
+
+/// An atom as written.
+#[derive(Drop)]
+pub struct AtomSyntax<'a> {
+    pub predicate: NameWord<'a>,
+    pub terms: Terms<'a>,
+}
+
+/// An atom, or the negation of one.
+#[derive(Drop)]
+pub struct LiteralSyntax<'a> {
+    pub positive: bool,
+    pub atom: AtomSyntax<'a>,
+}
+
+/// A group of a list of typed variables, with the names of the types of which they may be.
+#[derive(Drop)]
+pub struct VariableGroup<'a> {
+    pub variables: Vec<Word<'a>>,
+    pub kinds: Vec<NameWord<'a>>,
+}
+
+/// The declaration of a predicate.
+#[derive(Drop)]
+pub struct PredicateSyntax<'a> {
+    pub name: NameWord<'a>,
+    pub variables: Vec<VariableGroup<'a>>,
+}
+
+/// The parts of an action that are given.
+#[derive(Drop)]
+pub struct ActionParts<'a> {
+    pub parameters: Option<Vec<VariableGroup<'a>>>,
+    pub precondition: Option<Vec<LiteralSyntax<'a>>>,
+    pub effect: Option<Vec<LiteralSyntax<'a>>>,
+}
+
+/// An action with its name.
+#[derive(Drop)]
+pub struct ActionSyntax<'a> {
+    pub name: NameWord<'a>,
+    pub parts: ActionParts<'a>,
+}
+
+/// A group of a list of typed names, with the name of their type.
+#[derive(Drop)]
+pub struct NameGroup<'a> {
+    pub names: Vec<NameWord<'a>>,
+    pub kind: NameWord<'a>,
+}
+
+/// The sections of a domain that are given.
+#[derive(Drop)]
+pub struct DomainSections<'a> {
+    pub requirements: bool,
+    pub types: Option<Vec<NameGroup<'a>>>,
+    pub constants: Option<Vec<NameGroup<'a>>>,
+    pub predicates: Option<Vec<PredicateSyntax<'a>>>,
+    pub actions: Vec<ActionSyntax<'a>>,
+}
+
+/// A domain with its name.
+#[derive(Drop)]
+pub struct DomainSyntax<'a> {
+    pub name: NameWord<'a>,
+    pub sections: DomainSections<'a>,
+}
+
+/// The sections of a problem that are given.
+#[derive(Drop)]
+pub struct ProblemSections<'a> {
+    pub domain: Option<NameWord<'a>>,
+    pub requirements: bool,
+    pub objects: Option<Vec<NameGroup<'a>>>,
+    pub init: Option<Vec<LiteralSyntax<'a>>>,
+    pub goal: Option<Vec<LiteralSyntax<'a>>>,
+    pub metric: bool,
+    pub length: bool,
+}
+
+/// A problem with its name, and the name that it gives for its domain.
+#[derive(Drop)]
+pub struct ProblemSyntax<'a> {
+    pub name: NameWord<'a>,
+    pub domain: NameWord<'a>,
+    pub objects: Option<Vec<NameGroup<'a>>>,
+    pub init: Option<Vec<LiteralSyntax<'a>>>,
+    pub goal: Vec<LiteralSyntax<'a>>,
+}

@@ -1,0 +1,115 @@
+//! Actions: a name, and parts in any order, each at most once.
+
+ghost use Rattle.std.specs.Prelude.{◌≡◌};
+ghost use Rattle.pddl_syntax.specs.Levels.{here};
+ghost use Rattle.pddl_syntax.specs.Reading.{ReadsInto, ReadsList};
+ghost use Rattle.pddl_syntax.specs.Forms.{action_syntax_form, literal_forms, parts_form};
+ghost use Rattle.pddl_syntax.specs.Syntax.{action_of, formula_in, is_part_given, no_parts, part_by, parts_of};
+
+use crate::fault::{FaultKind, ReadFault};
+use crate::heads::{ActionPart, Scope, action_part, is_name};
+use crate::syntax::formula::formula;
+use crate::syntax::lists::enter_list;
+use crate::syntax::refusals::keyword_fault;
+use crate::syntax::variables::typed_variables;
+use crate::syntax::{ActionParts, ActionSyntax, LiteralSyntax};
+use crate::walk::{Item, NameWord, Walk};
+use std::alloc::Global;
+
+/// Reads a formula or an effect as the list of its literals.
+#[tactic(auto, using(crate::proofs::FormulaSteps::no_literals, crate::proofs::FormulaSteps::no_front))]
+pub(crate) fn literals<'a>(
+    alloc: Global,
+    walk: &mut Walk<'a>,
+    scope: Scope,
+) -> Result<Vec<LiteralSyntax<'a>>, ReadFault>
+    ensures { ReadsList (λ v. literal_forms v.items) result (formula_in scope) (here walk.old.cursor) (here walk.new.cursor) }
+{
+    let mut literals = Vec::new(alloc);
+    formula(alloc, walk, scope, &mut literals)?;
+    Ok(literals)
+}
+
+/// Whether the part is given already.
+#[tactic(auto, unfolding(crate::specs::Syntax::is_part_given, crate::specs::Forms::parts_form), using(crate::proofs::ActionSteps::given_steps))]
+fn is_given(parts: &ActionParts<'_>, part: ActionPart) -> bool
+    ensures { result ≡ is_part_given part (parts_form parts.now) }
+{
+    match part {
+        ActionPart::Parameters => parts.parameters.is_some(),
+        ActionPart::Precondition => parts.precondition.is_some(),
+        ActionPart::Effect => parts.effect.is_some(),
+    }
+}
+
+/// Reads the value of a part.
+#[tactic(auto, using(crate::proofs::ActionSteps::part_steps), unfolding(crate::specs::Forms::parts_form))]
+fn part<'a>(
+    alloc: Global,
+    walk: &mut Walk<'a>,
+    part: ActionPart,
+    parts: &mut ActionParts<'a>,
+) -> Result<(), ReadFault>
+    ensures { ReadsInto result (part_by part (parts_form parts.old)) (here walk.old.cursor) (here walk.new.cursor)
+        (parts_form parts.new) }
+{
+    match part {
+        ActionPart::Parameters => parts.parameters = Some(typed_variables(alloc, walk)?),
+        ActionPart::Precondition => parts.precondition = Some(literals(
+            alloc,
+            walk,
+            Scope::Action,
+        )?),
+        ActionPart::Effect => parts.effect = Some(literals(alloc, walk, Scope::Action)?),
+    }
+    Ok(())
+}
+
+/// Reads the parts of an action.
+#[tactic(auto, using(crate::proofs::ActionSteps::parts_steps))]
+fn parts<'a>(alloc: Global, walk: &mut Walk<'a>) -> Result<ActionParts<'a>, ReadFault>
+    ensures { ReadsList parts_form result (parts_of no_parts) (here walk.old.cursor) (here walk.new.cursor) }
+{
+    let mut parts = ActionParts {
+        parameters: None,
+        precondition: None,
+        effect: None,
+    };
+    'parts: loop {
+        match walk.next() {
+            Item::Close(_) => return Ok(parts),
+            Item::Open(span) => return Err(ReadFault::new(FaultKind::Expected, span)),
+            Item::Text(word) => {
+                let Some(named) = action_part(word.text) else {
+                    return Err(keyword_fault(word));
+                };
+                if is_given(&parts, named) {
+                    return Err(ReadFault::new(FaultKind::Repeated, word.span));
+                }
+                enter_list(walk)?;
+                part(alloc, walk, named, &mut parts)?;
+            }
+        }
+    }
+}
+
+/// Reads an action behind its keyword.
+#[tactic(auto, using(crate::proofs::ActionSteps::action_steps))]
+pub(crate) fn action<'a>(alloc: Global, walk: &mut Walk<'a>) -> Result<ActionSyntax<'a>, ReadFault>
+    ensures { ReadsList action_syntax_form result action_of (here walk.old.cursor) (here walk.new.cursor) }
+{
+    match walk.next() {
+        Item::Text(name) => {
+            if !is_name(name.text) {
+                return Err(ReadFault::new(FaultKind::Expected, name.span));
+            }
+            let parts = parts(alloc, walk)?;
+            Ok(ActionSyntax {
+                name: NameWord::new(name),
+                parts,
+            })
+        }
+        Item::Open(span) => Err(ReadFault::new(FaultKind::Expected, span)),
+        Item::Close(span) => Err(ReadFault::new(FaultKind::Expected, span)),
+    }
+}

@@ -1,0 +1,207 @@
+//! Problems: a name, and sections in any order, each at most once; `:domain` and `:goal` must stand.
+
+ghost use Rattle.std.specs.Prelude.{◌≡◌, None};
+ghost use Rattle.pddl_syntax.specs.Levels.{here, trees};
+ghost use Rattle.pddl_syntax.specs.Trees.{text_fault};
+ghost use Rattle.pddl_syntax.specs.Reading.{Gives, ReadsInto, ReadsList};
+ghost use Rattle.pddl_syntax.specs.Forms.{literal_form, literal_forms, problem_sections_form, problem_syntax_form};
+ghost use Rattle.pddl_syntax.specs.Syntax.{goal_of, init_item_in, is_problem_section_given, lists_of, no_problem_sections, problem_in, problem_section_by, problem_section_in, problem_sections_of, problem_syntax};
+
+use crate::fault::{FaultKind, ReadFault};
+use crate::heads::{ProblemSection, Scope, problem_section};
+use crate::syntax::action::literals;
+use crate::syntax::formula::literal;
+use crate::syntax::lists::{enter_list, expect_word, header, leave_list, lone_name};
+use crate::syntax::refusals::keyword_fault;
+use crate::syntax::typed::{keywords, skip, typed_names};
+use crate::syntax::{LiteralSyntax, ProblemSections, ProblemSyntax};
+use crate::walk::{Item, Walk};
+use pddl_tokens::Span;
+use std::alloc::Global;
+
+/// Reads an initial atom, which may be negated.
+#[tactic(auto, using(crate::proofs::ProblemSteps::init_item_steps))]
+fn init_item<'a>(alloc: Global, walk: &mut Walk<'a>) -> Result<LiteralSyntax<'a>, ReadFault>
+    ensures { ReadsList literal_form result init_item_in (here walk.old.cursor) (here walk.new.cursor) }
+{
+    match walk.next() {
+        Item::Text(word) => literal(alloc, walk, Scope::Problem, word),
+        Item::Open(span) => Err(ReadFault::new(FaultKind::Expected, span)),
+        Item::Close(span) => Err(ReadFault::new(FaultKind::Expected, span)),
+    }
+}
+
+/// Reads the initial atoms.
+#[tactic(auto, using(crate::proofs::ProblemSteps::init_steps))]
+fn init<'a>(alloc: Global, walk: &mut Walk<'a>) -> Result<Vec<LiteralSyntax<'a>>, ReadFault>
+    ensures { ReadsList (λ v. literal_forms v.items) result (lists_of init_item_in) (here walk.old.cursor) (here walk.new.cursor) }
+{
+    let mut items = Vec::new(alloc);
+    'items: loop {
+        match walk.next() {
+            Item::Close(_) => return Ok(items),
+            Item::Text(word) => return Err(ReadFault::new(FaultKind::Expected, word.span)),
+            Item::Open(_) => items.push(init_item(alloc, walk)?)?,
+        }
+    }
+}
+
+/// Reads the goal.
+#[tactic(auto, using(crate::proofs::ProblemSteps::goal_steps))]
+fn goal<'a>(alloc: Global, walk: &mut Walk<'a>) -> Result<Vec<LiteralSyntax<'a>>, ReadFault>
+    ensures { ReadsList (λ v. literal_forms v.items) result goal_of (here walk.old.cursor) (here walk.new.cursor) }
+{
+    enter_list(walk)?;
+    let literals = literals(alloc, walk, Scope::Problem)?;
+    leave_list(walk)?;
+    Ok(literals)
+}
+
+/// Whether the section is given already.
+#[tactic(auto, unfolding(crate::specs::Syntax::is_problem_section_given, crate::specs::Forms::problem_sections_form), using(crate::proofs::ActionSteps::given_steps))]
+fn is_given(sections: &ProblemSections<'_>, section: ProblemSection) -> bool
+    ensures { result ≡ is_problem_section_given section (problem_sections_form sections.now) }
+{
+    match section {
+        ProblemSection::Domain => sections.domain.is_some(),
+        ProblemSection::Requirements => sections.requirements,
+        ProblemSection::Objects => sections.objects.is_some(),
+        ProblemSection::Init => sections.init.is_some(),
+        ProblemSection::Goal => sections.goal.is_some(),
+        ProblemSection::Metric => sections.metric,
+        ProblemSection::Length => sections.length,
+    }
+}
+
+/// Reads what a section holds.
+#[tactic(auto, using(crate::proofs::ProblemSteps::body_steps), unfolding(crate::specs::Forms::problem_sections_form))]
+fn section_body<'a>(
+    alloc: Global,
+    walk: &mut Walk<'a>,
+    section: ProblemSection,
+    sections: &mut ProblemSections<'a>,
+) -> Result<(), ReadFault>
+    ensures { ReadsInto result (problem_section_by section (problem_sections_form sections.old)) (here walk.old.cursor)
+        (here walk.new.cursor) (problem_sections_form sections.new) }
+{
+    match section {
+        ProblemSection::Domain => sections.domain = Some(lone_name(walk)?),
+        ProblemSection::Requirements => {
+            keywords(walk)?;
+            sections.requirements = true;
+        }
+        ProblemSection::Objects => sections.objects = Some(typed_names(alloc, walk)?),
+        ProblemSection::Init => sections.init = Some(init(alloc, walk)?),
+        ProblemSection::Goal => sections.goal = Some(goal(alloc, walk)?),
+        ProblemSection::Metric => {
+            skip(walk);
+            sections.metric = true;
+        }
+        ProblemSection::Length => {
+            skip(walk);
+            sections.length = true;
+        }
+    }
+    Ok(())
+}
+
+/// Reads a section behind its `(`.
+#[tactic(auto, using(crate::proofs::ProblemSteps::section_steps))]
+fn section<'a>(
+    alloc: Global,
+    walk: &mut Walk<'a>,
+    sections: &mut ProblemSections<'a>,
+) -> Result<(), ReadFault>
+    ensures { ReadsInto result (problem_section_in (problem_sections_form sections.old)) (here walk.old.cursor)
+        (here walk.new.cursor) (problem_sections_form sections.new) }
+{
+    match walk.next() {
+        Item::Text(word) => {
+            let Some(headed) = problem_section(word.text) else {
+                return Err(keyword_fault(word));
+            };
+            if is_given(sections, headed) {
+                return Err(ReadFault::new(FaultKind::Repeated, word.span));
+            }
+            section_body(alloc, walk, headed, sections)
+        }
+        Item::Open(span) => Err(ReadFault::new(FaultKind::Expected, span)),
+        Item::Close(span) => Err(ReadFault::new(FaultKind::Expected, span)),
+    }
+}
+
+/// Reads the sections of a problem, and the place of the `)` behind them.
+#[tactic(auto, using(crate::proofs::ProblemSteps::sections_steps))]
+fn sections<'a>(
+    alloc: Global,
+    walk: &mut Walk<'a>,
+) -> Result<(ProblemSections<'a>, Span), ReadFault>
+    ensures { ReadsList (λ read. problem_sections_form read.0) result (problem_sections_of no_problem_sections)
+        (here walk.old.cursor) (here walk.new.cursor) }
+{
+    let mut sections = ProblemSections {
+        domain: None,
+        requirements: false,
+        objects: None,
+        init: None,
+        goal: None,
+        metric: false,
+        length: false,
+    };
+    'sections: loop {
+        match walk.next() {
+            Item::Close(span) => return Ok((sections, span)),
+            Item::Text(word) => return Err(ReadFault::new(FaultKind::Expected, word.span)),
+            Item::Open(_) => section(alloc, walk, &mut sections)?,
+        }
+    }
+}
+
+/// Reads a problem behind the first `(` of its text.
+#[tactic(auto, using(crate::proofs::ProblemSteps::problem_steps))]
+pub(crate) fn problem<'a>(
+    alloc: Global,
+    walk: &mut Walk<'a>,
+) -> Result<ProblemSyntax<'a>, ReadFault>
+    ensures { ReadsList problem_syntax_form result problem_in (here walk.old.cursor) (here walk.new.cursor) }
+{
+    expect_word(walk, b"define")?;
+    enter_list(walk)?;
+    let name = header(walk, b"problem")?;
+    let (sections, end) = sections(alloc, walk)?;
+    let ProblemSections {
+        domain,
+        requirements: _,
+        objects,
+        init,
+        goal,
+        metric: _,
+        length: _,
+    } = sections;
+    let Some(domain) = domain else {
+        return Err(ReadFault::new(FaultKind::Expected, end));
+    };
+    let Some(goal) = goal else {
+        return Err(ReadFault::new(FaultKind::Expected, end));
+    };
+    Ok(ProblemSyntax {
+        name,
+        domain,
+        objects,
+        init,
+        goal,
+    })
+}
+
+/// Reads the problem that a text without a text fault holds.
+#[tactic(auto, using(crate::proofs::ProblemSteps::problem_text_steps, crate::proofs::TextSteps::trees_here))]
+pub fn problem_text<'a>(alloc: Global, text: &'a [u8]) -> Result<ProblemSyntax<'a>, ReadFault>
+    requires { text_fault text.now ≡ None }
+    ensures { Gives problem_syntax_form result (problem_syntax (trees text.now)) }
+{
+    let mut walk = Walk::new(text);
+    enter_list(&mut walk)?;
+    let problem = problem(alloc, &mut walk)?;
+    leave_list(&mut walk)?;
+    Ok(problem)
+}

@@ -1,0 +1,118 @@
+//! Lists of typed variables, which may have a choice of types.
+
+ghost use Rattle.std.specs.Prelude.{◌≡◌, []};
+ghost use Rattle.pddl_syntax.specs.Levels.{here};
+ghost use Rattle.pddl_syntax.specs.Reading.{GivesObject, ReadsList, TakesTypes};
+ghost use Rattle.pddl_syntax.specs.Forms.{name_forms, variable_groups};
+ghost use Rattle.pddl_syntax.specs.Syntax.{either_in, names_of, typed_variables};
+
+use crate::fault::{FaultKind, ReadFault};
+use crate::heads::{is_dash, is_name, is_variable};
+use crate::syntax::VariableGroup;
+use crate::syntax::lists::expect_word;
+use crate::syntax::typed::object;
+use crate::walk::{Item, NameWord, Walk};
+use std::alloc::Global;
+
+/// Reads the names of a choice of types, one at least.
+#[tactic(auto, using(crate::proofs::WordSteps::names_steps))]
+fn names<'a>(alloc: Global, walk: &mut Walk<'a>) -> Result<Vec<NameWord<'a>>, ReadFault>
+    ensures { ReadsList (λ v. name_forms v.items) result names_of (here walk.old.cursor) (here walk.new.cursor) }
+{
+    let mut names = Vec::new(alloc);
+    'names: loop {
+        match walk.next() {
+            Item::Close(span) => {
+                if names.is_empty() {
+                    return Err(ReadFault::new(FaultKind::Expected, span));
+                }
+                return Ok(names);
+            }
+            Item::Open(span) => return Err(ReadFault::new(FaultKind::Expected, span)),
+            Item::Text(word) => {
+                if !is_name(word.text) {
+                    return Err(ReadFault::new(FaultKind::Expected, word.span));
+                }
+                names.push(NameWord::new(word))?;
+            }
+        }
+    }
+}
+
+/// Reads a choice of types behind its `(`.
+#[tactic(auto, using(crate::proofs::WordSteps::either_steps))]
+fn either<'a>(alloc: Global, walk: &mut Walk<'a>) -> Result<Vec<NameWord<'a>>, ReadFault>
+    ensures { ReadsList (λ v. name_forms v.items) result either_in (here walk.old.cursor) (here walk.new.cursor) }
+{
+    expect_word(walk, b"either")?;
+    names(alloc, walk)
+}
+
+/// Steps over the types of variables that are due.
+#[tactic(auto, using(crate::proofs::VariableSteps::typing_steps))]
+fn alternatives<'a>(alloc: Global, walk: &mut Walk<'a>) -> Result<Vec<NameWord<'a>>, ReadFault>
+    ensures { TakesTypes result (here walk.old.cursor) (here walk.new.cursor) }
+{
+    match walk.next() {
+        Item::Text(word) => {
+            if !is_name(word.text) {
+                return Err(ReadFault::new(FaultKind::Expected, word.span));
+            }
+            let mut kinds = Vec::new(alloc);
+            kinds.push(NameWord::new(word))?;
+            Ok(kinds)
+        }
+        Item::Open(_) => either(alloc, walk),
+        Item::Close(span) => Err(ReadFault::new(FaultKind::Expected, span)),
+    }
+}
+
+/// The type `object` alone.
+#[tactic(auto, using(crate::proofs::TypedSteps::no_names, crate::proofs::TypedSteps::name_forms_pushed))]
+fn object_alone<'a>(alloc: Global) -> Result<Vec<NameWord<'a>>, ReadFault>
+    ensures { GivesObject result }
+{
+    let mut kinds = Vec::new(alloc);
+    kinds.push(object())?;
+    Ok(kinds)
+}
+
+/// Reads the groups of a list of typed variables.
+#[tactic(auto, using(crate::proofs::VariableSteps::typed_steps))]
+pub(crate) fn typed_variables<'a>(
+    alloc: Global,
+    walk: &mut Walk<'a>,
+) -> Result<Vec<VariableGroup<'a>>, ReadFault>
+    ensures { ReadsList (λ v. variable_groups v.items) result (typed_variables []) (here walk.old.cursor) (here walk.new.cursor) }
+{
+    let mut groups = Vec::new(alloc);
+    let mut variables = Vec::new(alloc);
+    'words: loop {
+        match walk.next() {
+            Item::Close(_) => {
+                if variables.is_empty() {
+                    return Ok(groups);
+                }
+                let kinds = object_alone(alloc)?;
+                groups.push(VariableGroup { variables, kinds })?;
+                return Ok(groups);
+            }
+            Item::Open(span) => return Err(ReadFault::new(FaultKind::Expected, span)),
+            Item::Text(word) => {
+                if !is_dash(word.text) {
+                    if !is_variable(word.text) {
+                        return Err(ReadFault::new(FaultKind::Expected, word.span));
+                    }
+                    variables.push(word)?;
+                    continue 'words;
+                }
+                if variables.is_empty() {
+                    return Err(ReadFault::new(FaultKind::Expected, word.span));
+                }
+                let kinds = alternatives(alloc, walk)?;
+                groups.push(VariableGroup { variables, kinds })?;
+                variables = Vec::new(alloc);
+            }
+        }
+    }
+}

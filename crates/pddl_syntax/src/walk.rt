@@ -1,0 +1,110 @@
+//! A walk over the trees of a text that passed the first layer: word by word, into each list and out of it.
+//!
+//! The walk builds no tree. Contracts see it as what is left of each open list, so that a reader's contract can speak of the
+//! trees that it reads.
+
+ghost use Rattle.std.specs.Prelude.{◌≡◌, IsSome, IsTrue, None};
+ghost use Rattle.pddl_words.specs.Words.{is_name};
+ghost use Rattle.pddl_tokens.specs.Tokens.{pieces};
+ghost use Rattle.pddl_syntax.specs.Trees.{text_fault};
+ghost use Rattle.pddl_syntax.specs.Levels.{levels};
+
+use pddl_tokens::{Cursor, Span, TextFault, TokenKind};
+
+/// A word of a text with its place.
+#[derive(Clone, Copy, Debug)]
+pub struct Word<'a> {
+    pub span: Span,
+    pub text: &'a [u8],
+}
+
+impl<'a> Default for Word<'a> {
+    fn default() -> Self {
+        Word {
+            span: Span { start: 0, end: 0 },
+            text: &[],
+        }
+    }
+}
+
+/// A word that is a name.
+#[derive(Clone, Copy, Debug)]
+pub struct NameWord<'a> {
+    pub span: Span,
+    pub text: &'a [u8],
+    ghost named: { IsTrue (is_name text.now) },
+}
+
+impl<'a> NameWord<'a> {
+    /// The word, which is a name.
+    pub fn new(word: Word<'a>) -> Self
+        requires { IsTrue (is_name word.text.now) }
+        ensures { result.text.now ≡ word.entry.text.now }
+    {
+        NameWord {
+            span: word.span,
+            text: word.text,
+        }
+    }
+}
+
+/// What a walk meets next.
+#[derive(Clone, Copy, Debug)]
+pub(crate) enum Item<'a> {
+    /// A word.
+    Text(Word<'a>),
+    /// The `(` of a list, which the walk enters.
+    Open(Span),
+    /// The `)` of the list that the walk leaves, or an empty span at the text's end.
+    Close(Span),
+}
+
+/// A place in a text.
+#[derive(Drop)]
+pub(crate) struct Walk<'a> {
+    pub(crate) cursor: Cursor<'a>,
+    end: u32,
+    ghost balanced: { IsSome (levels cursor) },
+}
+
+impl<'a> Walk<'a> {
+    ghost use Rattle.pddl_syntax.specs.Levels.{here};
+    ghost use Rattle.pddl_syntax.specs.Walking.{Steps};
+
+    /// The walk at the start of a text that passed the first layer.
+    #[tactic(auto, using(crate::proofs::Balanced::balanced_steps))]
+    pub(crate) fn new(text: &'a [u8]) -> Self
+        requires { text_fault text.now ≡ None }
+        ensures { result.cursor ≡ pieces text.now }
+    {
+        let Ok(cursor) = Cursor::new(text) else {
+            unreachable!()
+        };
+        Walk {
+            cursor,
+            end: text.len() as u32,
+        }
+    }
+
+    /// Steps over the next word, into the next list, or out of the list in which the walk stands.
+    #[tactic(auto, using(crate::proofs::LevelSteps::walk_steps))]
+    pub(crate) fn next(&mut self) -> Item<'a>
+        ensures { Steps result (here self.old.cursor) (here self.new.cursor) }
+    {
+        match self.cursor.next() {
+            Ok(Some(token)) => match token.kind {
+                TokenKind::Word => Item::Text(Word {
+                    span: token.span,
+                    text: token.text,
+                }),
+                TokenKind::Left => Item::Open(token.span),
+                TokenKind::Right => Item::Close(token.span),
+            },
+            Ok(None) => Item::Close(Span {
+                start: self.end,
+                end: self.end,
+            }),
+            Err(_) => unreachable!(),
+        }
+    }
+}

@@ -1,8 +1,0 @@
-use Rattle.std.proofs.Common.{◌≡◌, map, take}
-use Rattle.plan_judge.specs.Answer.{planner_of}
-use Rattle.plan_judge.specs.Report.{report}
-use Rattle.plan_judge.proofs.engine.report_of.Given as goal
-
--- The lines of the planners so far stand behind the first line.
-abbrev pub invariant-loop-planner : goal.invariant-loop-planner
-invariant-loop-planner l = l.text ≡ report l.task (map (planner_of l.task) (take l.planner l.bundles))

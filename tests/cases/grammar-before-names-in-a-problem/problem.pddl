@@ -1,0 +1,3 @@
+(define (problem evening)
+  (:domain lamp)
+  (:init (broken)))

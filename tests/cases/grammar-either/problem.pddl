@@ -1,0 +1,4 @@
+(define (problem garden)
+  (:domain paint)
+  (:objects brick - wall picket - fence iron - gate)
+  (:goal (painted picket)))

@@ -1,0 +1,2 @@
+(define (domain bare)
+  (:requirements) (:types) (:constants) (:predicates))

@@ -1,0 +1,1 @@
+(define (problem empty) (:domain bare) (:goal ()))

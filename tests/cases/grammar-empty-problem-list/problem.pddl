@@ -1,0 +1,4 @@
+(define ()
+  (:domain lamp)
+  (:init (dark))
+  (:goal (lit)))

@@ -1,0 +1,4 @@
+(define (domain lamp)
+  (:predicates (lit) (dark))
+  (:action light
+    :precondition :effect (and (lit) (not (dark)))))

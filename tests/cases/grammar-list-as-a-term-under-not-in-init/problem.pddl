@@ -1,0 +1,5 @@
+(define (problem hall)
+  (:domain doors)
+  (:objects brass - key back - door)
+  (:init (not (fits brass (door-of brass))))
+  (:goal (open front)))

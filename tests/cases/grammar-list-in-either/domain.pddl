@@ -1,0 +1,5 @@
+(define (domain lamp)
+  (:predicates (lit) (dark) (hot ?x - (either object (object))))
+  (:action light
+    :precondition (dark)
+    :effect (and (lit) (not (dark)))))

@@ -1,0 +1,5 @@
+(define (problem evening)
+  (:length) (:metric)
+  (:domain lamp)
+  (:init (dark))
+  (:goal (lit)))

@@ -1,0 +1,5 @@
+(define (problem evening)
+  (:domain lamp)
+  (:init (dark))
+  (:metric minimize (+ 1 (* ?x (total-cost :y))))
+  (:goal (lit)))

@@ -1,0 +1,4 @@
+(defined (problem evening)
+  (:domain lamp)
+  (:init (dark))
+  (:goal (lit)))

@@ -1,0 +1,5 @@
+(define (problem hall)
+  (:domain doors)
+  (:objects brass - key back - door)
+  (:init (fits brass front))
+  (:goal (not (open front) (open back))))

@@ -1,0 +1,4 @@
+(define (problem evening)
+  (:domain candle)
+  (:init (dark))
+  (:goal (lit)))

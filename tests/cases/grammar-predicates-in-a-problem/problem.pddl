@@ -1,0 +1,5 @@
+(define (problem evening)
+  (:domain lamp)
+  (:init (dark))
+  (:predicates (hot))
+  (:goal (lit)))

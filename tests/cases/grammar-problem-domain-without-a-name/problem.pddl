@@ -1,0 +1,4 @@
+(define (problem evening)
+  (:domain)
+  (:init (dark))
+  (:goal (lit)))

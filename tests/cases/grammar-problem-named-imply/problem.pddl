@@ -1,0 +1,1 @@
+(define (problem imply) (:domain bare) (:goal ()))

@@ -1,0 +1,6 @@
+(define (problem hall)
+  (:goal (open front))
+  (:init (fits brass front))
+  (:objects brass - key back - door)
+  (:requirements :strips)
+  (:domain doors))

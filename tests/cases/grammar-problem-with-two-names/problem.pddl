@@ -1,0 +1,4 @@
+(define (problem evening night)
+  (:domain lamp)
+  (:init (dark))
+  (:goal (lit)))

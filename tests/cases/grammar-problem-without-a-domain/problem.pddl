@@ -1,0 +1,3 @@
+(define (problem evening)
+  (:init (dark))
+  (:goal (lit)))

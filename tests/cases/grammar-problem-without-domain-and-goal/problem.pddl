@@ -1,0 +1,2 @@
+(define (problem evening) (:init (dark))
+)

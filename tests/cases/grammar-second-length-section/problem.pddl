@@ -1,0 +1,5 @@
+(define (problem evening)
+  (:domain lamp)
+  (:init (dark))
+  (:length (:serial 1)) (:length)
+  (:goal (lit)))

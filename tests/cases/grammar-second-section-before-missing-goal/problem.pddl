@@ -1,0 +1,4 @@
+(define (problem evening)
+  (:domain lamp)
+  (:init (dark))
+  (:init))

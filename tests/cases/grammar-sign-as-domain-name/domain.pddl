@@ -1,0 +1,5 @@
+(define (domain =)
+  (:predicates (lit) (dark))
+  (:action light
+    :precondition (dark)
+    :effect (and (lit) (not (dark)))))

@@ -1,0 +1,4 @@
+(define (problem =)
+  (:domain lamp)
+  (:init (dark))
+  (:goal (lit)))

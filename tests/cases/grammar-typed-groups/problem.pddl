@@ -1,0 +1,5 @@
+(define (problem hall)
+  (:domain doors)
+  (:objects brass iron - key back side - door lid)
+  (:init (fits brass front))
+  (:goal (open front)))

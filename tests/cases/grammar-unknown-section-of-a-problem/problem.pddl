@@ -1,0 +1,5 @@
+(define (problem evening)
+  (:domain lamp)
+  (:init (dark))
+  (:situation night)
+  (:goal (lit)))

@@ -1,0 +1,3 @@
+(define (domain lamps)
+  (:predicates (lit ?lamp))
+  (:action light :parameters (?lamp) :effect (lit ?lamp)))

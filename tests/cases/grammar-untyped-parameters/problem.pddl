@@ -1,0 +1,1 @@
+(define (problem hall) (:domain lamps) (:objects red green) (:goal (lit green)))

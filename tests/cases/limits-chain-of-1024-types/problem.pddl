@@ -1,0 +1,4 @@
+(define (problem many)
+  (:domain many)
+  (:objects a - t1 b)
+  (:goal (seen a)))

@@ -1,0 +1,4 @@
+(define (problem many)
+  (:domain many)
+  (:objects c1 lamp)
+  (:goal ()))

@@ -1,0 +1,5 @@
+(define (domain lamp)
+  (:predicates (lit) (dark))
+  (:action light
+    :precondition (dark)
+    :effect (and (lit) (and (and (and (and (and (and (and (and (and (and (and (and (and (and (and (and (and (and (and (and (and (and (and (and (and (and (and (and (and (and (and (and (and (and (and (and (and (and (and (and (and (and (and (and (and (and (and (and (and (and (and (and (and (and (and (and (and (and (and (and (not (dark)))))))))))))))))))))))))))))))))))))))))))))))))))))))))))))))))

@@ -1,0 +1,5 @@
+(define (problem many)
+  (:domain many)
+  (:objects a - t1 b - t32)
+  (:init (seen a) (seen b))
+  (:goal (and (seen a) (seen b))))

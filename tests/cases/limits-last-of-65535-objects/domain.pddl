@@ -1,0 +1,3 @@
+(define (domain many)
+  (:predicates (seen ?x))
+  (:action see :parameters (?x) :effect (seen ?x)))

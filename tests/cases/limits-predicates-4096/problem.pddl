@@ -1,0 +1,4 @@
+(define (problem many)
+  (:domain many)
+  (:init (p1))
+  (:goal (not (p4096))))

@@ -1,0 +1,3 @@
+(define (problem many)
+  (:domain many)
+  (:goal ()))

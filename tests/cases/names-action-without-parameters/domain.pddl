@@ -1,0 +1,7 @@
+(define (domain doors)
+  (:types door key)
+  (:constants front - door)
+  (:predicates (open ?d - door) (fits ?k - key ?d - door))
+  (:action unlock
+    :precondition (fits ?k ?d)
+    :effect (open ?d)))

@@ -1,0 +1,1 @@
+(define (domain doors) (:constants front - door))

@@ -1,0 +1,5 @@
+(define (problem hall)
+  (:domain doors)
+  (:objects brass - key back - door)
+  (:goal (closed front))
+  (:init (suits brass front)))

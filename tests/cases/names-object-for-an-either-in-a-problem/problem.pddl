@@ -1,0 +1,5 @@
+(define (problem garden)
+  (:domain paint)
+  (:objects brick - wall picket - fence iron - gate)
+  (:init (painted brick) (painted iron))
+  (:goal (painted picket)))

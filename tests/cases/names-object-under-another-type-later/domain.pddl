@@ -1,0 +1,7 @@
+(define (domain trucks)
+  (:types object - object van - truck truck - vehicle depot object - depot)
+  (:predicates (at ?v - vehicle ?d - depot))
+  (:action drive
+    :parameters (?v - truck ?from ?to - depot)
+    :precondition (at ?v ?from)
+    :effect (and (not (at ?v ?from)) (at ?v ?to))))

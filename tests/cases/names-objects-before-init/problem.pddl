@@ -1,0 +1,5 @@
+(define (problem hall)
+  (:domain doors)
+  (:init (suits brass front))
+  (:objects brass - key back - gate)
+  (:goal (open front)))

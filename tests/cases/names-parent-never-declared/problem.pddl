@@ -1,0 +1,5 @@
+(define (problem north)
+  (:domain trucks)
+  (:objects red - van cart - vehicle east west - depot)
+  (:init (at red east) (at cart west))
+  (:goal (and (at red west) (at cart west))))

@@ -1,0 +1,1 @@
+(define (problem lamp) (:domain lamp) (:objects lamp - lamp) (:goal (lamp lamp)))

@@ -1,0 +1,5 @@
+(define (problem north)
+  (:domain trucks)
+  (:objects red - van bus-1 - bus east west - depot)
+  (:init (at red east))
+  (:goal (at red west)))

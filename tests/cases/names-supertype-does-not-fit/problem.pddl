@@ -1,0 +1,5 @@
+(define (problem north)
+  (:domain trucks)
+  (:objects red - van cart - vehicle east west - depot)
+  (:init (at red east))
+  (:goal (at red west)))

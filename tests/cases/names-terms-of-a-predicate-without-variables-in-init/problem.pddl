@@ -1,0 +1,5 @@
+(define (problem hall)
+  (:domain doors)
+  (:objects brass - key back - door)
+  (:init (dark brass))
+  (:goal (open front)))

@@ -1,0 +1,5 @@
+(define (problem north)
+  (:domain trucks)
+  (:objects red - van east west - depot)
+  (:init (at red east))
+  (:goal (at red west)))

@@ -1,0 +1,5 @@
+(define (problem hall)
+  (:domain doors)
+  (:objects brass - KEY back - Door)
+  (:init (fits brass front))
+  (:goal (open front)))

@@ -1,0 +1,3 @@
+(define (domain doors)
+  (:action slam :effect (broken))
+  (:types door - thing door - object))

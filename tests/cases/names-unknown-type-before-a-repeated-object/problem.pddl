@@ -1,0 +1,5 @@
+(define (problem hall)
+  (:domain doors)
+  (:objects back - gate brass - key brass - door)
+  (:init (fits brass front))
+  (:goal (open front)))

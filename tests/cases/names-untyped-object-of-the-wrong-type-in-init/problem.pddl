@@ -1,0 +1,5 @@
+(define (problem hall)
+  (:domain doors)
+  (:objects brass - key back - door mat)
+  (:init (fits brass front) (open mat))
+  (:goal (open front)))

@@ -1,0 +1,7 @@
+(define
+(problem lamp-1)
+(:domain lamp)
+(:init
+(drak))
+(:goal
+(lit)))

@@ -1,0 +1,2 @@
+(define (problem lamp-1) (:domain lamp)
+  (:init (drak)) (:goal (lit)))

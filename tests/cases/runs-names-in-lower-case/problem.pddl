@@ -1,0 +1,1 @@
+(define (problem Lamp-1) (:domain lamp) (:init (dark)) (:goal (lit)))

@@ -1,0 +1,1 @@
+(define (problem lamp) (:domain lamp) (:init (dark)) (:goal (lit)))

@@ -1,0 +1,5 @@
+(define (problem evening)
+  (:domain lamp)
+  (:init (dark))
+  (:metric !"#$%&'*+,-./0123456789:<=>?@AZ[\]^_`az{|}~ ! ~)
+  (:goal (lit)))

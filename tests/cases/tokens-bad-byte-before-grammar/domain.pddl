@@ -1,0 +1,1 @@
+(defin (domain ?x) €)

@@ -1,0 +1,4 @@
+; one
+
+; three
+(define (domain bare) x)

@@ -1,0 +1,1 @@
+(define (domain lamp)  (:predicates (lit) (dark))  (:action :light    :precondition (dark)    :effect (and (lit) (not (dark)))))

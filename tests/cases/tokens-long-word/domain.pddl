@@ -1,0 +1,1 @@
+(define (domain bare) these-are-no-words-of-a-domain)

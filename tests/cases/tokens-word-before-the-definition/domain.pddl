@@ -1,0 +1,1 @@
+domain (define (domain bare))

@@ -1,0 +1,2 @@
+(define (domain 2;bare
+))

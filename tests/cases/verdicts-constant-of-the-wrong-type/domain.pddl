@@ -1,0 +1,5 @@
+(define (domain home)
+  (:types room)
+  (:constants home)
+  (:predicates (at ?place))
+  (:action go :parameters (?r - room) :effect (at ?r)))

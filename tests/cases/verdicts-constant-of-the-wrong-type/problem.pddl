@@ -1,0 +1,1 @@
+(define (problem home-1) (:domain home) (:goal (at home)))

@@ -1,0 +1,3 @@
+(define (domain switch)
+  (:predicates (on) (off) (hot))
+  (:action release :effect (and (not (on)) (off))))

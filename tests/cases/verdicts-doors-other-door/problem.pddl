@@ -1,0 +1,5 @@
+(define (problem doors-1) (:domain doors)
+  (:objects brass iron - key front back - door)
+  (:init (lies brass) (fits brass front) (locked front)
+    (lies iron) (fits iron back) (locked back))
+  (:goal (open front)))

@@ -1,0 +1,4 @@
+(define (domain paint)
+  (:types brush roller - tool spray)
+  (:predicates (painted))
+  (:action paint :parameters (?t - (either roller spray)) :effect (painted)))

@@ -1,0 +1,3 @@
+(define (problem paint-1) (:domain paint)
+  (:objects b - brush r - roller s - spray t - tool)
+  (:goal (painted)))

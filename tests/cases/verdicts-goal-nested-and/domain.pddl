@@ -1,0 +1,2 @@
+(define (domain switch)
+  (:predicates (on) (off) (hot)))

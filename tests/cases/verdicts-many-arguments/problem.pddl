@@ -1,0 +1,1 @@
+(define (problem rows-1) (:domain rows) (:objects a b c d e f g h i j k l) (:goal ()))

@@ -1,0 +1,1 @@
+(define (problem cards-1) (:domain cards) (:objects ace king) (:init (face-up king)) (:goal ()))

@@ -1,0 +1,1 @@
+(define (problem lamp-1) (:domain lamp) (:init (lit) (not (lit))) (:goal (lit)))

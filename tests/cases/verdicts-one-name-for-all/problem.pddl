@@ -1,0 +1,1 @@
+(define (problem door) (:domain door) (:objects door - door) (:goal (door door)))

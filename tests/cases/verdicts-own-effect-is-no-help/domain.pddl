@@ -1,0 +1,3 @@
+(define (domain switch)
+  (:predicates (on) (off) (hot))
+  (:action press :precondition (on) :effect (on)))

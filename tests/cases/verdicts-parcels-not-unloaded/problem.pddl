@@ -1,0 +1,5 @@
+(define (problem parcels-1) (:domain parcels)
+  (:objects red - truck box - parcel york leeds hull - town)
+  (:init (at red york) (at box leeds)
+    (road york leeds) (road leeds york) (road leeds hull))
+  (:goal (at box hull)))

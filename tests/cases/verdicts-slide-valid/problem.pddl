@@ -1,0 +1,6 @@
+(define (problem slide-1) (:domain slide)
+  (:objects one two three - tile nw ne sw se - cell)
+  (:init (on one nw) (on two ne) (on three sw) (free se)
+    (beside nw ne) (beside ne nw) (beside sw se) (beside se sw)
+    (beside nw sw) (beside sw nw) (beside ne se) (beside se ne))
+  (:goal (and (on three nw) (on one ne) (on two se))))

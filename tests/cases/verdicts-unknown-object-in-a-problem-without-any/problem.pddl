@@ -1,0 +1,1 @@
+(define (problem bells-1) (:domain bells) (:goal ()))
