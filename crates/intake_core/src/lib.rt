@@ -25,6 +25,3 @@ pub use desk::Desk;
 pub use intake_rules::{Finding, Job, Refusal, Reply, Stage};
 pub use refused::{FinishRefused, SubmitRefused};
 pub use replaying::{ReplayFault, ReplyList, Step, StepsToRun, replay};
-
-#[cfg(test)]
-mod tests;

@@ -25,6 +25,3 @@ pub use job::Job;
 pub use refusal::Refusal;
 pub use reply::Reply;
 pub use stage::Stage;
-
-#[cfg(test)]
-mod tests;

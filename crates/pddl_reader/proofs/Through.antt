@@ -1,8 +1,8 @@
 -- A state that is taken through a list, one equation for each case.
 
-use Rattle.std.proofs.Common.{◌≡◌, Bool, true, false, List, [], ◌∷◌, Option, Some, None, refl, subst}
+use Rattle.std.proofs.Common.{◌≡◌, List, [], ◌∷◌, Option, Some, None, refl, subst}
 use Rattle.std.specs.Option.{option_and_then}
-use Rattle.pddl_syntax.specs.Optional.{guard, through}
+use Rattle.pddl_syntax.specs.Optional.{through}
 use Rattle.pddl_reader.proofs.Items.{item_steps}
 
 -- what is left to do behind one step

@@ -1,6 +1,6 @@
 -- Guards that give a value.
 
-use Rattle.std.proofs.Common.{◌≡◌, Bool, true, false, Option, Some, None, refl}
+use Rattle.std.proofs.Common.{◌≡◌, Bool, true, false, Some, refl}
 use Rattle.pddl_syntax.specs.Optional.{guard}
 
 -- a guard that gives a value held

@@ -1,7 +1,6 @@
 -- The syntax that the reader keeps, as the definitions name it.
 
-use Rattle.std.specs.Prelude.{ℕ, List, [], map, Option, Some, None, unwrap_or}
-use Rattle.std.specs.Global.{Vec}
+use Rattle.std.specs.Prelude.{ℕ, List, [], map, unwrap_or}
 use Rattle.std.specs.Option.{option_map}
 use Rattle.pddl_syntax.specs.declared.walk.Word.{Word}
 use Rattle.pddl_syntax.specs.declared.walk.NameWord.{NameWord}

@@ -13,6 +13,3 @@
 mod set;
 
 pub use set::PlaceSet;
-
-#[cfg(test)]
-mod tests;

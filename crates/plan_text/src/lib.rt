@@ -35,6 +35,3 @@ mod want;
 pub use decimals::digits;
 pub use parts::{Parts, count_parts};
 pub use read::read_plan;
-
-#[cfg(test)]
-mod tests;

@@ -26,6 +26,3 @@ mod words;
 
 pub use fault::{StepsFault, StepsFaultKind};
 pub use read::{StepsRefusal, StepsText, read_steps};
-
-#[cfg(test)]
-mod tests;

@@ -22,6 +22,3 @@ pub use strips_task::{
     StepView, Task, TaskParts, Term, TypeList, Word, WordList,
 };
 pub use verdict::{Verdict, Why};
-
-#[cfg(test)]
-mod tests;
