@@ -69,6 +69,7 @@ pub struct ReadFault {
 impl ReadFault {
     ghost use Rattle.pddl_syntax.specs.ReadFault.{fault};
 
+    /// The fault of this kind at these bytes.
     pub fn new(kind: FaultKind, span: Span) -> Self
         ensures { result ≡ record { kind = kind; span = span } }
     {

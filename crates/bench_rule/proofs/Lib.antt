@@ -1,0 +1,16 @@
+pub mod Alone
+pub mod Bounds
+pub mod Carried
+pub mod Counts
+pub mod Emits
+pub mod Events
+pub mod Finishes
+pub mod Frames
+pub mod Meanings
+pub mod Posts
+pub mod Pulls
+pub mod Ranks
+pub mod Seats
+pub mod Stages
+pub mod Sums
+pub mod Takes

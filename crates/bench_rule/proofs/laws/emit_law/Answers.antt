@@ -1,0 +1,5 @@
+use Rattle.bench_rule.proofs.Events as lemmas
+use Rattle.bench_rule.proofs.laws.emit_law.Goals as goal
+
+pub returns : goal.returns
+returns c = lemmas.emit_law
