@@ -29,6 +29,7 @@ use Rattle.bench_rule.proofs.Finishes.{finish_moves, hand_back_moves, is_inside,
 use Rattle.bench_rule.proofs.Frames.{owner_book, looks, shut_else}
 use Rattle.bench_rule.proofs.Meanings.{accepted, in_book, within_slots}
 use Rattle.bench_rule.proofs.Posts.{lift_moves, post_moves}
+use Rattle.bench_rule.proofs.Ranks.{job_by_rank}
 use Rattle.bench_rule.proofs.Seats.{split_moves, join_moves, close_moves, shut_moves, note_moves}
 use Rattle.bench_rule.proofs.Stages.{Homes, showing, staged, owner_is, owner_set, view_shown, stage_shown, slot_shown, past_shown, stages_after, stages_more, first_word_shown, more_views, owner_else}
 use Rattle.bench_rule.proofs.Sums.{within}
@@ -63,18 +64,6 @@ finishes_job intake slots slot finding inside there his =
     let known : has_job intake slot ≡ true = lt-ltb slot (length intake.jobs) inside in let out = stage_from intake slot stage.Out there in
     let same : is_same_job (slice_get intake.jobs slot) finding.job ≡ true = ap (λ (job : Option AcceptedPlan). is_same_job job finding.job) his ∙ test_itself finding.job in
     sym (λ i. refused_or (first_that_applies ((not (known i), refusal.UnknownJob) ∷ (is_finished_stage (out i), refusal.AlreadyFinished) ∷ (not (is_out_stage (out i)), refusal.NotOut) ∷ (not (same i), refusal.OtherPlan) ∷ [])) reply.Finished)
-
--- the planner's job of this rank
-job_by_rank : (jobs : List AcceptedPlan) (slot planner : ℕ) (job : AcceptedPlan) → slice_get jobs slot ≡ Some job → job.planner ≡ planner → slice_get (jobs_of planner jobs) (rank jobs planner slot) ≡ Some job
-unfolding jobs_of
-job_by_rank [] slot planner job there his = cc
-job_by_rank (x ∷ xs) zero planner job there his = let is : x ≡ job = cc in let test : is_of planner x ≡ true = eq-eqb x.planner planner (ap (λ (z : AcceptedPlan). z.planner) is ∙ his) in
-    ap (λ b. slice_get (cond b (x ∷ filter (is_of planner) xs) (filter (is_of planner) xs)) 0) test ∙ there
-job_by_rank (x ∷ xs) (suc slot) planner job there his = by (is_of planner x) (job_by_rank xs slot planner job there his)
-  where
-    by : (test : Bool) → slice_get (filter (is_of planner) xs) (rank xs planner slot) ≡ Some job → slice_get (cond test (x ∷ filter (is_of planner) xs) (filter (is_of planner) xs)) (one_if test + rank xs planner slot) ≡ Some job
-    by true e = let next : 1 + rank xs planner slot ≡ suc (rank xs planner slot) = omega arith in ap (λ k. slice_get (x ∷ filter (is_of planner) xs) k) next ∙ e
-    by false e = let same : 0 + rank xs planner slot ≡ rank xs planner slot = omega arith in ap (λ k. slice_get (filter (is_of planner) xs) k) same ∙ e
 
 emits_job : (intake : Intake) (slots slot : ℕ) (job : AcceptedPlan) (finding : Finding) → job.planner < length intake.closed → slice_get intake.jobs slot ≡ Some job → rank intake.jobs job.planner slot ≡ get_or intake.emitted job.planner 0 → job.number ≡ slot
     → slice_get intake.stages slot ≡ Some (stage.Finished finding) → reply.Emitted finding ≡ reply_to slots intake (emit job.planner)

@@ -1,6 +1,8 @@
 -- How many of the first jobs are a planner's.
 
-use Rattle.std.proofs.Common.{◌≡◌, ◌≤◌, ℕ, zero, suc, ◌+◌, eqb, eq-eqb, List, [], ◌∷◌, ◌++◌, slice_get, Some, length, refl, ap, ◌∙◌, arith}
+use Rattle.std.proofs.Common.{◌≡◌, ◌≤◌, ℕ, zero, suc, ◌+◌, Bool, true, false, cond, eqb, eq-eqb, List, [], ◌∷◌, ◌++◌, slice_get, Some, length, refl, ap, ◌∙◌, arith}
+use Rattle.std.specs.List.{filter}
+use Rattle.intake_rules.specs.Intake.{is_of, jobs_of}
 use Rattle.intake_rules.specs.Jobs.{AcceptedPlan}
 use Rattle.bench_rule.specs.Views.{one_if, rank}
 
@@ -27,3 +29,15 @@ rank_once (x ∷ xs) zero zero planner one other e f mine too same = refl
 rank_once (x ∷ xs) zero (suc j) planner one other e f mine too same = let is : x ≡ one = cc in let here = ap one_if (eq-eqb x.planner planner (ap (λ (z : AcceptedPlan). z.planner) is ∙ mine)) in absurd (omega arith)
 rank_once (x ∷ xs) (suc i) zero planner one other e f mine too same = let is : x ≡ other = cc in let here = ap one_if (eq-eqb x.planner planner (ap (λ (z : AcceptedPlan). z.planner) is ∙ too)) in absurd (omega arith)
 rank_once (x ∷ xs) (suc i) (suc j) planner one other e f mine too same = ap suc (rank_once xs i j planner one other e f mine too (omega arith))
+
+-- the planner's job of this rank
+pub job_by_rank : (jobs : List AcceptedPlan) (slot planner : ℕ) (job : AcceptedPlan) → slice_get jobs slot ≡ Some job → job.planner ≡ planner → slice_get (jobs_of planner jobs) (rank jobs planner slot) ≡ Some job
+unfolding jobs_of
+job_by_rank [] slot planner job there his = cc
+job_by_rank (x ∷ xs) zero planner job there his = let is : x ≡ job = cc in let test : is_of planner x ≡ true = eq-eqb x.planner planner (ap (λ (z : AcceptedPlan). z.planner) is ∙ his) in
+    ap (λ b. slice_get (cond b (x ∷ filter (is_of planner) xs) (filter (is_of planner) xs)) 0) test ∙ there
+job_by_rank (x ∷ xs) (suc slot) planner job there his = by (is_of planner x) (job_by_rank xs slot planner job there his)
+  where
+    by : (test : Bool) → slice_get (filter (is_of planner) xs) (rank xs planner slot) ≡ Some job → slice_get (cond test (x ∷ filter (is_of planner) xs) (filter (is_of planner) xs)) (one_if test + rank xs planner slot) ≡ Some job
+    by true e = let next : 1 + rank xs planner slot ≡ suc (rank xs planner slot) = omega arith in ap (λ k. slice_get (x ∷ filter (is_of planner) xs) k) next ∙ e
+    by false e = let same : 0 + rank xs planner slot ≡ rank xs planner slot = omega arith in ap (λ k. slice_get (filter (is_of planner) xs) k) same ∙ e

@@ -3,6 +3,7 @@
 use Rattle.std.specs.Prelude.{◌≡◌, ◌⊎◌, ◌<◌, ℕ, zero, suc, ◌+◌, ◌-◌, Bool, true, false, nat_eq, cond, List, [], ◌∷◌, ◌++◌, length, map, replicate, slice_get, slice_index, slice_set, Option, Some, None}
 use Rattle.atomic_table.specs.Table.{State, Me}
 use Rattle.intake_rules.specs.Jobs.{AcceptedPlan}
+pub use Rattle.planner_lines.specs.Lines.{one_if, times_among}
 use Rattle.bench_rule.specs.declared.contents.Item.{Item}
 use Rattle.bench_rule.specs.declared.views.Held.{Held}
 use Rattle.bench_rule.specs.declared.views.Role.{Role}
@@ -77,9 +78,6 @@ spent_view = record {
   noted = false;
 }
 
-abbrev pub one_if : Bool → ℕ
-one_if test = cond test 1 0
-
 -- how often a list names a slot
 abbrev pub times : ℕ → List ℕ → ℕ
 times slot [] = 0
@@ -115,12 +113,6 @@ total f (x ∷ xs) = f x + total f xs
 -- whose job each is
 abbrev pub planners_of : List AcceptedPlan → List ℕ
 planners_of jobs = map (λ job. job.planner) jobs
-
--- how many of the first elements of a list are this number
-abbrev pub times_among : List ℕ → ℕ → ℕ → ℕ
-times_among [] number count = 0
-times_among (x ∷ xs) number zero = 0
-times_among (x ∷ xs) number (suc count) = one_if (nat_eq x number) + times_among xs number count
 
 -- how many of the first jobs are this planner's
 abbrev pub rank : List AcceptedPlan → ℕ → ℕ → ℕ

@@ -1,4 +1,3 @@
-pub mod Answers
 pub mod Faults
 pub mod Histories
 pub mod Replays

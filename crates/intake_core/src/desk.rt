@@ -5,7 +5,7 @@ ghost use Rattle.std.specs.Prelude.{◌≡◌, ◌≤◌, ◌<◌, ◌++◌, ◌
 ghost use Rattle.intake_rules.specs.Findings.{IsRight};
 ghost use Rattle.intake_rules.specs.Intake.{next_job, with_job, with_stage, with_closed, with_emitted, empty_intake};
 ghost use Rattle.intake_rules.specs.Rules.{Event, submit, close, take_job, hand_back, finish, emit, submit_refusal, close_refusal, hand_back_refusal, finish_refusal, emit_reply};
-ghost use Rattle.intake_core.specs.Answers.{submit_reply, close_reply, take_reply, hand_back_reply, finish_reply, emit_answer};
+ghost use Rattle.intake_rules.specs.Answers.{submit_reply, close_reply, take_reply, hand_back_reply, finish_reply, emit_answer};
 ghost use Rattle.intake_core.specs.Histories.{GoesOn, Leaves};
 ghost use Rattle.intake_core.specs.Rows.{jobs_in, stages_in, links_in, linked, rests_at, IsReady};
 ghost use Rattle.intake_core.specs.State.{DeskState, with_intake, desk_after, desk_reply};

@@ -18,10 +18,8 @@
 
 mod desk;
 mod place;
-mod refused;
 mod replaying;
 
 pub use desk::Desk;
-pub use intake_rules::{Finding, Job, Refusal, Reply, Stage};
-pub use refused::{FinishRefused, SubmitRefused};
+pub use intake_rules::{Finding, FinishRefused, Job, Refusal, Reply, Stage, SubmitRefused};
 pub use replaying::{ReplayFault, ReplyList, Step, StepsToRun, replay};

@@ -1,3 +1,4 @@
+pub mod Answers
 pub mod Findings
 pub mod History
 pub mod Intake

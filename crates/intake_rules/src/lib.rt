@@ -14,6 +14,7 @@
 #![tactic(auto)]
 
 mod finding;
+mod given_back;
 mod job;
 pub mod laws;
 mod refusal;
@@ -21,6 +22,7 @@ mod reply;
 mod stage;
 
 pub use finding::Finding;
+pub use given_back::{FinishRefused, SubmitRefused};
 pub use job::Job;
 pub use refusal::Refusal;
 pub use reply::Reply;

@@ -2,7 +2,7 @@ use Rattle.std.proofs.Common.{◌<◌, false, ap, sym, ◌∙◌, refl, length, 
 use Rattle.intake_rules.specs.declared.stage.Stage.TheVariants.{Out}
 use Rattle.intake_rules.specs.Rules.{taken, take_job}
 use Rattle.intake_rules.specs.Intake.{with_stage, least_waiting}
-use Rattle.intake_core.specs.Answers.{take_reply}
+use Rattle.intake_rules.specs.Answers.{take_reply}
 use Rattle.intake_core.specs.Rows.{intake_in, stages_in}
 use Rattle.intake_core.proofs.Keeping.{kept-waiting, kept-as, state-changes, same-intake, length-jobs}
 use Rattle.intake_core.proofs.Waiting.{least-same, least-lt}

@@ -1,12 +1,12 @@
--- The answers of a desk's calls as replies.
+-- The answers of calls as replies.
 
 use Rattle.std.specs.Prelude.{ℕ, Option, Some, None, Result, Ok, Err}
 use Rattle.intake_rules.specs.declared.finding.Finding.{Finding}
 use Rattle.intake_rules.specs.declared.refusal.Refusal.{Refusal}
 use Rattle.intake_rules.specs.declared.reply.Reply.{Reply}
 use Rattle.intake_rules.specs.declared.reply.Reply.TheVariants.{Accepted, ClosedNow, Taken, NoJob, Returned, Finished, Emitted, Refused}
-use Rattle.intake_core.specs.declared.refused.SubmitRefused.{SubmitRefused}
-use Rattle.intake_core.specs.declared.refused.FinishRefused.{FinishRefused}
+use Rattle.intake_rules.specs.declared.given_back.SubmitRefused.{SubmitRefused}
+use Rattle.intake_rules.specs.declared.given_back.FinishRefused.{FinishRefused}
 
 abbrev pub submit_reply : Result ℕ SubmitRefused → Reply
 submit_reply (Ok number) = Accepted number

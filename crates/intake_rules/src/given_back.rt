@@ -1,5 +1,5 @@
-//! What a desk gives back with a refusal.
-use intake_rules::{Finding, Refusal};
+//! What an intake gives back with a refusal.
+use crate::{Finding, Refusal};
 use std::sync::Arc;
 use strips_judge::Plan;
 
