@@ -10,6 +10,7 @@ pub mod Meanings
 pub mod Posts
 pub mod Pulls
 pub mod Ranks
+pub mod SameShown
 pub mod Seats
 pub mod Stages
 pub mod Sums

@@ -15,7 +15,7 @@ use Rattle.bench_rule.specs.declared.views.Setting.{Setting}
 use Rattle.bench_rule.specs.declared.views.View.{View}
 use Rattle.bench_rule.specs.After.{with_view, after_lift, after_post, after_take, after_finish, after_hand_back, after_emit, after_split, after_join, after_shut}
 use Rattle.bench_rule.specs.Shown.{owner_of, shown, Moves, Stays}
-use Rattle.bench_rule.specs.Sound.{HasView, Rests, word_of, shut_word, out_in, finished_in}
+use Rattle.bench_rule.specs.Sound.{HasView, Sound, Rests, word_of, shut_word, out_in, finished_in}
 use Rattle.bench_rule.specs.Views.{Bench, IsNext, HoldsJob, holding, times, times_held, with_close, with_miss, with_note}
 
 -- the seat of this number holds the slot
@@ -111,3 +111,7 @@ abbrev pub HistoryGoesOn : Setting → Bench → Bench → Type 0
 HistoryGoesOn setting before later = (history : History) (event : Event) (answer : Reply) → Moves setting before later event answer
     → IsLawful setting.planners setting.slots history → left_by setting.planners history ≡ shown before
     → IsLawful setting.planners setting.slots (history ++ (event, answer) ∷ []) × (left_by setting.planners (history ++ (event, answer) ∷ []) ≡ shown later)
+
+-- what a bench shows is told by its words and by what the owner knows, whatever rests in its slots
+abbrev pub ShownByWords : Setting → Bench → Bench → Type 0
+ShownByWords setting bench other = Sound setting other → other.words ≡ bench.words → owner_of other.views ≡ owner_of bench.views → shown other ≡ shown bench

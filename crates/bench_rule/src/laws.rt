@@ -3,7 +3,7 @@
 //! The first few are what the rule says of slots, seats and findings. Then there is one law for each kind of step: the step keeps the rule,
 //! and the intake that the bench shows moves by the event of that kind, or not at all. [`history_goes_on`] says the same of histories.
 ghost use Rattle.bench_rule.specs.declared.views.Setting.{Setting};
-ghost use Rattle.bench_rule.specs.Laws.{HeldByOne, OutIfHeld, JobsRest, RightFindingsRest, HeldWithAccepted, OwnerKnowsAll, LiftLaw, PostLaw, TakeLaw, FinishLaw, HandBackLaw, EmitLaw, CloseLaw, LoadLaw, MissLaw, SplitLaw, JoinLaw, ShutLaw, NoteLaw, HistoryGoesOn};
+ghost use Rattle.bench_rule.specs.Laws.{HeldByOne, OutIfHeld, JobsRest, RightFindingsRest, HeldWithAccepted, OwnerKnowsAll, LiftLaw, PostLaw, TakeLaw, FinishLaw, HandBackLaw, EmitLaw, CloseLaw, LoadLaw, MissLaw, SplitLaw, JoinLaw, ShutLaw, NoteLaw, HistoryGoesOn, ShownByWords};
 ghost use Rattle.bench_rule.specs.Sound.{Sound};
 ghost use Rattle.bench_rule.specs.Views.{Bench};
 
@@ -105,4 +105,10 @@ pub fn note_law()
 /// After a step that is an event, a lawful history goes on lawfully with that event and leaves what the bench shows then.
 pub fn history_goes_on()
     ensures { (setting : Setting) (before later : Bench) → HistoryGoesOn setting before later }
+{}
+
+/// What a bench shows is told by its words and by what the owner knows. So a step, whose contract says what the seat knows afterwards and whose body says which
+/// number it stores, moves the shown intake just as the law of its kind says, whatever rests in the slots.
+pub fn shown_by_words()
+    ensures { (setting : Setting) (bench other : Bench) → Sound setting bench → ShownByWords setting bench other }
 {}
