@@ -1,3 +1,12 @@
 pub mod ByPlanner
-pub mod Gathered
-pub mod InTurn
+pub mod Crews
+pub mod Emissions
+pub mod Holding
+pub mod JobsOf
+pub mod NextJobs
+pub mod OwnersRun
+pub mod Owning
+pub mod Results
+pub mod Rounds
+pub mod Seated
+pub mod WorkDone

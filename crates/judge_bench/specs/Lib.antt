@@ -1,4 +1,9 @@
 pub mod Findings
-pub mod Lists
-pub mod Outcomes
+pub mod Keeping
+pub mod Kept
+pub mod Runs
+pub mod Seats
 pub mod Submissions
+pub mod Turns
+pub mod Work
+pub mod Workers

@@ -1,29 +1,41 @@
 //! Judging on several threads, with the same findings for any number of them.
 //!
-//! [`run`] is handed the plans of all planners and answers [`Findings`]: for each planner, one finding of each of its plans, in the order in
-//! which they were handed in. Its contract says so by a definition that knows nothing of threads (`findings_of` in `specs/Findings.antt`).
+//! [`run`] takes the plans of all planners from an [`Intake`] and answers [`Findings`]: for each planner, one finding of each of its plans, in
+//! the order in which they came. Its contract says so by a definition that knows nothing of threads (`findings_of` in `specs/Findings.antt`).
 //!
 //! A run goes this way:
 //!
-//! 1. The plans become jobs, numbered in order.
-//! 2. The list of jobs is cut into stretches of consecutive jobs, at most one for each worker. A stretch ends where it has its share of the
-//!    steps that are left, so that one long plan does not make the others wait.
-//! 3. Each stretch is judged on a thread of its own, job after job. Before a job is judged, the [`Gate`] is asked whether it is held. What
-//!    came of each job goes into the list of its stretch, which no other thread sees.
-//! 4. When all threads are done, the lists are put together in the order of the stretches, and each finding goes to its planner.
+//! 1. The calling thread makes a [`Bench`], with a slot for each plan that may come. It is the [`Owner`].
+//! 2. It starts the workers, each on a thread of its own with a [`WorkerSeat`]. A worker does [`work`]: it takes a job, asks the [`Gate`] whether
+//!    it is held, judges it, finishes it, and goes on with the next.
+//! 3. The owner asks the intake for one plan after another and accepts each as a job. Meanwhile it keeps the findings that are there.
+//! 4. At the end of the intake it closes all planners and shuts the bench. Each worker ends once it has seen the shut and then finds no job.
+//! 5. The owner waits for all workers and takes their seats back. From then on it knows which jobs are finished. What they left, since memory ran
+//!    out for them, it judges itself, and it keeps the findings of each planner to the last.
 //!
-//! Threads share the task, the jobs and the gate, and write to none of them; so there is nothing to wait for but their ends.
+//! Nobody waits for a lock; the bench says by itself who may judge what. What it promises is told in the contracts of its seats.
 #![tactic(auto)]
 
+mod bench;
+mod crew;
 mod findings;
 mod gate;
-mod judging;
-mod outcome;
+mod intake;
+mod keeper;
+mod owner;
 mod running;
-mod stretch;
 mod submission;
+mod ticket;
+mod worker;
+mod working;
 
+pub use bench::Bench;
 pub use findings::Findings;
 pub use gate::{Gate, Open};
+pub use intake::{Intake, Listed};
+pub use owner::Owner;
 pub use running::{RunFault, run};
 pub use submission::Submission;
+pub use ticket::Ticket;
+pub use worker::WorkerSeat;
+pub use working::{Ended, WorkFault, work};

@@ -1,19 +1,19 @@
 //! A run: plans in, findings out.
-ghost use Rattle.std.specs.Prelude.{◌≡◌, ◌<◌, ◌≤◌, List, All, Contains, IfOk, IfErr, IfSome, ℕ, length, map};
-ghost use Rattle.intake_rules.specs.declared.finding.Finding.{Finding};
-ghost use Rattle.judge_bench.specs.declared.outcome.Outcome.TheVariants as outcome;
-ghost use Rattle.judge_bench.specs.Findings.{by_planner, findings_of};
-ghost use Rattle.judge_bench.specs.Outcomes.{Came, IsOfPlanners};
-ghost use Rattle.judge_bench.specs.Submissions.{jobs_from};
+ghost use Rattle.std.specs.Prelude.{◌≡◌, ◌≢◌, ◌<◌, ◌≤◌, [], All, IfOk, IfErr, OnOk, ℕ, length, vec_len, vec_capacity};
+ghost use Rattle.judge_bench.specs.Findings.{findings_of};
+ghost use Rattle.judge_bench.specs.Keeping.{KeptFindings};
+ghost use Rattle.judge_bench.specs.Runs.{AllAccepted, FoundOrHeld, IsReady, MayRun};
+ghost use Rattle.judge_bench.specs.Seats.{SitsAt};
+ghost use Rattle.judge_bench.specs.Workers.{AllWorkAt};
 ghost use Rattle.judge_bench.specs.declared.running.RunFault.TheVariants.{Held};
 
-use crate::judging::judge_all;
-use crate::outcome::Outcome;
-use crate::{Findings, Gate, Submission};
-use intake_rules::Job;
+use crate::crew::{Crew, NoThread, join_all, start_all};
+use crate::keeper::Keeper;
+use crate::{Bench, Findings, Gate, Intake};
 use std::alloc::{AllocError, Global};
 use std::sync::Wait;
-use std::thread::Threads;
+use std::thread;
+use std::thread::{Scope, Threads};
 use strips_judge::Task;
 
 /// Why a run gives no findings.
@@ -23,107 +23,172 @@ pub enum RunFault {
     OutOfMemory,
     /// A thread could not be started.
     NoThread,
-    /// The gate held the job with this number, and no job with a lesser number.
+    /// The gate held the job with this number. Where it held several, it is the one for which the first worker ended, in the order in which they were started.
     Held(u32),
 }
 
-/// Judges the plans of all planners, on so many threads at most, and answers one finding of each plan.
+impl From<AllocError> for RunFault {
+    ghost use Rattle.std.specs.Prelude.{◌≡◌};
+    ghost use Rattle.judge_bench.specs.declared.running.RunFault.TheVariants.{OutOfMemory};
+
+    ghost from_gives = { λ _ fault. fault ≡ OutOfMemory };
+
+    fn from(_: AllocError) -> RunFault {
+        RunFault::OutOfMemory
+    }
+}
+
+impl From<NoThread> for RunFault {
+    ghost use Rattle.std.specs.Prelude.{◌≡◌};
+    ghost use Rattle.judge_bench.specs.declared.running.RunFault.TheVariants as fault;
+
+    ghost from_gives = { λ _ given. given ≡ fault.NoThread };
+
+    fn from(_: NoThread) -> RunFault {
+        RunFault::NoThread
+    }
+}
+
+/// Judges the plans of all planners on so many threads, while the intake still gives plans, and answers one finding of each plan.
 ///
-/// The plans are jobs, numbered from 0 in the order in which they are handed in, and the gate is asked of each before it is judged. Where it
-/// held one, there are no findings. Waits until all its threads are done. The plans are dropped with the findings, or at a refusal.
+/// The plans are jobs, numbered from 0 in the order of the intake, and the gate is asked of each before a worker judges it. The workers and the
+/// calling thread meet at a [`Bench`]. What the workers leave, since memory ran out for them, the calling thread judges once they have ended. Waits
+/// until all its threads are done.
 ///
-/// Where several things go wrong, want of memory for the lists of the run is told first, then the least job that was held, and then want of
-/// memory while a job was judged or its finding kept.
-pub fn run<R: Threads + Wait + Sync, G: Gate + Sync>(
+/// First of all the memory of the bench and of the lists is taken. After that the order of faults is: a thread that can't be started, or memory
+/// that runs out for the intake or for what is kept while it lasts; a held job; memory that runs out afterwards.
+pub fn run<R: Threads + Wait + Sync, I: Intake, G: Gate + Sync>(
     rt: &R,
     alloc: Global,
     task: &Task,
     planners: u32,
-    plans: Vec<Submission>,
+    slots: u32,
+    intake: &mut I,
     workers: u32,
     gate: &G,
 ) -> Result<Findings, RunFault>
     requires workers { (1 ≤ workers) × (workers ≤ 32) }
-    requires plans { length plans.items ≤ 65536 }
     requires planners { planners ≤ 64 }
-    requires known { All (λ plan. plan.planner < planners) plans.items }
-    ensures findings { IfOk result (λ findings. findings ≡ findings_of task.now planners plans.items) }
+    requires slots { slots ≤ 65536 }
+    requires plans { length (I.to_come intake.old) ≤ slots }
+    requires known { All (λ plan. plan.planner < planners) (I.to_come intake.old) }
+    ensures findings { IfOk result (λ findings. findings ≡ findings_of task.now planners (I.to_come intake.old)) }
     ensures held { IfErr result (λ fault. (job : ℕ) → fault ≡ Held job → G.may_hold gate.now job) }
 {
-    match judge_plans(rt, alloc, task, plans, workers, gate) {
-        Ok(outcomes) => match first_held(outcomes.as_slice()) {
-            Some(job) => Err(RunFault::Held(job)),
-            None => gather(alloc, planners, outcomes),
-        },
-        Err(AllocError) => Err(RunFault::OutOfMemory),
-    }
+    let (bench, owner) = Bench::make(alloc, task, planners, slots)?;
+    let findings = Findings::new(alloc, planners)?;
+    let crew = Crew::with_capacity(alloc, workers as usize)?;
+    let keeper = Keeper { owner, findings };
+    run_at(
+        rt, alloc, &bench, keeper, crew, task, planners, intake, workers, gate,
+    )
 }
 
-/// What came of the job of each plan, in order.
-fn judge_plans<R: Threads + Sync, G: Gate + Sync>(
+/// A run at a bench that was made for it.
+fn run_at<R: Threads + Wait + Sync, I: Intake, G: Gate + Sync>(
     rt: &R,
     alloc: Global,
+    bench: &Bench,
+    keeper: Keeper,
+    crew: Crew<G>,
     task: &Task,
-    plans: Vec<Submission>,
+    planners: u32,
+    intake: &mut I,
     workers: u32,
     gate: &G,
-) -> Result<Vec<Outcome>, AllocError>
-    requires { length plans.items ≤ 65536 }
-    ensures { IfOk result (λ outcomes. Came task.now (G.may_hold gate.now) (jobs_from 0 plans.items) outcomes.items) }
+) -> Result<Findings, RunFault>
+    requires ready { IsReady bench.now task.now planners keeper.owner keeper.findings }
+    requires crew { (crew.items ≡ []) × (vec_len crew ≡ 0) × (workers ≤ vec_capacity crew) × (workers ≤ 32) }
+    requires plans { MayRun bench.now.setting.slots planners (I.to_come intake.old) }
+    ensures { FoundOrHeld task.now planners (I.to_come intake.old) (G.may_hold gate.now) result }
 {
-    let jobs = numbered(alloc, plans)?;
-    judge_all(rt, alloc, task, jobs.as_slice(), workers, gate)
+    thread::scope(
+        thread::scope_env(),
+        rt,
+        |scope| -> Result<Findings, RunFault>
+            requires { IsReady bench.now task.now planners keeper.owner keeper.findings × (crew.items ≡ []) × (vec_len crew ≡ 0) × (workers ≤ vec_capacity crew) × (workers ≤ 32) × MayRun bench.now.setting.slots planners (I.to_come intake.now) }
+            ensures { FoundOrHeld task.entry.now planners (I.to_come intake.entry.now) (G.may_hold gate.entry.now) result }
+        {
+            conduct(
+                scope, rt, alloc, bench, keeper, crew, task, planners, intake, workers, gate,
+            )
+        },
+    )
 }
 
-/// The plans as jobs, numbered in order.
-fn numbered(alloc: Global, plans: Vec<Submission>) -> Result<Vec<Job>, AllocError>
-    requires { length plans.items ≤ 65536 }
-    ensures { IfOk result (λ jobs. jobs.items ≡ jobs_from 0 plans.items) }
+/// The owner's part of a run.
+fn conduct<'s, E, R: Threads, I: Intake, G: Gate + Sync>(
+    scope: &Scope<'s, E>,
+    rt: &R,
+    alloc: Global,
+    bench: &'s Bench,
+    mut keeper: Keeper,
+    mut crew: Crew<G>,
+    task: &'s Task,
+    planners: u32,
+    intake: &mut I,
+    workers: u32,
+    gate: &'s G,
+) -> Result<Findings, RunFault>
+    requires ready { IsReady bench.now task.now planners keeper.owner keeper.findings }
+    requires crew { (crew.items ≡ []) × (vec_len crew ≡ 0) × (workers ≤ vec_capacity crew) × (workers ≤ 32) }
+    requires plans { MayRun bench.now.setting.slots planners (I.to_come intake.old) }
+    ensures { FoundOrHeld task.now planners (I.to_come intake.old) (G.may_hold gate.now) result }
 {
-    let mut jobs = Vec::with_capacity(alloc, plans.len())?;
-    let mut number = 0;
-    for submission in plans {
-        jobs.push(Job {
-            number,
-            planner: submission.planner,
-            plan: submission.plan,
-        })?;
-        number += 1;
+    let accepted = attend(
+        scope,
+        alloc,
+        bench,
+        &mut keeper,
+        &mut crew,
+        task,
+        planners,
+        intake,
+        workers,
+        gate,
+    );
+    keeper.owner.shut(bench);
+    let held = join_all(rt, crew, bench, &mut keeper.owner, gate);
+    accepted?;
+    match held {
+        Some(job) => Err(RunFault::Held(job)),
+        None => Ok(keeper.finish(alloc, bench, task, planners)?),
     }
-    Ok(jobs)
 }
 
-/// The number of the first job that was held.
-fn first_held(outcomes: &[Outcome]) -> Option<u32>
-    ensures { IfSome result (λ job. Contains outcomes.now (outcome.Held job)) }
+/// Starts the workers, accepts all plans, and closes all planners.
+fn attend<'s, E, I: Intake, G: Gate + Sync>(
+    scope: &Scope<'s, E>,
+    alloc: Global,
+    bench: &'s Bench,
+    keeper: &mut Keeper,
+    crew: &mut Crew<G>,
+    task: &'s Task,
+    planners: u32,
+    intake: &mut I,
+    workers: u32,
+    gate: &'s G,
+) -> Result<(), RunFault>
+    requires ready { IsReady bench.now task.now planners keeper.old.owner keeper.old.findings }
+    requires crew { (crew.old.items ≡ []) × (vec_len crew.old ≡ 0) × (workers ≤ vec_capacity crew.old) × (workers ≤ 32) }
+    requires plans { MayRun bench.now.setting.slots planners (I.to_come intake.old) }
+    ensures seat { SitsAt bench.now keeper.new.owner }
+    ensures crew { AllWorkAt bench.now gate.now crew.new.items }
+    ensures accepted { OnOk result (AllAccepted (I.to_come intake.old) (length crew.new.items) keeper.new.owner.view) }
+    ensures kept { OnOk result (KeptFindings task.now planners keeper.new.owner.view keeper.new.findings) }
+    ensures held { IfErr result (λ fault. (job : ℕ) → fault ≢ Held job) }
 {
-    for outcome in outcomes {
-        if let Outcome::Held(job) = outcome {
-            return Some(*job);
-        }
-    }
-    None
-}
-
-/// The findings of jobs that were all judged, planner by planner.
-fn gather(alloc: Global, planners: u32, outcomes: Vec<Outcome>) -> Result<Findings, RunFault>
-    requires { All (IsOfPlanners planners) outcomes.items }
-    ensures findings { IfOk result (λ findings. (all : List Finding) × (outcomes.items ≡ map outcome.Found all) × (findings ≡ by_planner planners all)) }
-    ensures held { IfErr result (λ fault. (job : ℕ) → fault ≡ Held job → Contains outcomes.items (outcome.Held job)) }
-{
-    let mut findings = match Findings::new(alloc, planners) {
-        Ok(findings) => findings,
-        Err(AllocError) => return Err(RunFault::OutOfMemory),
-    };
-    for outcome in outcomes {
-        match outcome {
-            Outcome::Found(finding) => match findings.push(finding) {
-                Ok(()) => {}
-                Err(AllocError) => return Err(RunFault::OutOfMemory),
-            },
-            Outcome::Held(job) => return Err(RunFault::Held(job)),
-            Outcome::OutOfMemory => return Err(RunFault::OutOfMemory),
-        }
-    }
-    Ok(findings)
+    start_all(
+        scope,
+        alloc,
+        crew,
+        bench,
+        &mut keeper.owner,
+        task,
+        workers,
+        gate,
+    )?;
+    keeper.accept_all(bench, intake)?;
+    keeper.close_all(bench, planners);
+    Ok(())
 }

@@ -3,6 +3,7 @@ pub mod Bundle
 pub mod Inlet
 pub mod Outlet
 pub mod Plans
+pub mod PlansLeft
 pub mod Refusal
 pub mod ReplayAnswer
 pub mod ReplayText

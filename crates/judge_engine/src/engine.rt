@@ -1,8 +1,8 @@
 //! The engine: texts in, report out.
 //!
-//! [`judge_bytes`] reads the domain and the problem and the plans of all planners, has the plans judged, and makes the whole report. Its
-//! contract says that the report is the stated function of the bytes that came in, for any number of threads.
-ghost use Rattle.std.specs.Prelude.{◌≡◌, ◌≢◌, ◌↔◌, ◌+◌, ◌<◌, ◌≤◌, ◌^◌, [], ℕ, List, length, map, IfOk, IfErr, Some, None, Err, MatchBool};
+//! [`judge_bytes`] reads the domain and the problem, has the plans of all planners judged while it reads the next ones, and makes the whole
+//! report. Its contract says that the report is the stated function of the bytes that came in, for any number of threads.
+ghost use Rattle.std.specs.Prelude.{◌≡◌, ◌≢◌, ◌↔◌, ◌+◌, ◌<◌, ◌≤◌, ◌^◌, [], ℕ, List, length, map, IfOk, IfErr, Some, None, Err, MatchOption};
 ghost use Rattle.judge_bench.specs.Findings.{findings_of};
 ghost use Rattle.pddl_syntax.specs.declared.fault.ReadFault as read_fault;
 ghost use Rattle.pddl_syntax.specs.Trees.{text_fault};
@@ -17,7 +17,7 @@ use crate::fault::JudgeFault;
 use crate::inlet::FILE_LIMIT;
 use crate::lines::push_header;
 use crate::planner::push_planner;
-use crate::plans::read_plans;
+use crate::plans::FilePlans;
 use crate::report::Report;
 use crate::text::Text;
 use judge_bench::{Findings, Gate, run};
@@ -37,8 +37,9 @@ pub const MOST_PLANS: usize = 65536;
 /// The report of a run over a domain text, a problem text and the files of planners, whose plans so many threads judge at most.
 ///
 /// A file holds one plan or more (`plan_text::Parts`). Their reading and judging never refuse: a text that is no plan is a verdict. The
-/// plans are jobs, numbered from 0 in the order of the files and of the parts of each, and the gate is asked of each before it is judged. The
-/// whole report is made before anything is written; without planners it is the first line alone. Waits until all threads are done.
+/// plans are jobs, numbered from 0 in the order of the files and of the parts of each. They are read one after another, while those that
+/// were read are judged, and the gate is asked of each before it is judged. The whole report is made before anything is written; without
+/// planners it is the first line alone. Waits until all threads are done.
 ///
 /// A run without a report is refused for the first cause in the order of `JudgeFault`. The plans are counted before any is read. Which kind
 /// of fault a text has, and where, once its bytes and parentheses are right, is the reader's to say. Want of memory can come in place of any
@@ -141,10 +142,10 @@ fn judge_planners<R: Threads + Wait + Sync, G: Gate + Sync>(
     ensures refusal { IfErr result (λ fault. IsOfTexts fault → (fault ≡ TooManyPlans) × (most_plans < plan_count bundles.now)) }
     ensures held { IfErr result (λ fault. (job : ℕ) → fault ≡ Held job → G.may_hold gate.now job) }
 {
-    if have_too_many_plans(bundles) {
+    let Some(plans) = count_plans(bundles) else {
         return Err(JudgeFault::TooManyPlans);
-    }
-    match judge_plans(rt, alloc, task, bundles, workers, gate) {
+    };
+    match judge_plans(rt, alloc, task, bundles, plans, workers, gate) {
         Ok(findings) => match report_of(alloc, task, bundles, &findings) {
             Ok(report) => Ok(report),
             Err(AllocError) => Err(JudgeFault::OutOfMemory),
@@ -153,44 +154,45 @@ fn judge_planners<R: Threads + Wait + Sync, G: Gate + Sync>(
     }
 }
 
-/// What is found of the plans of all files.
+/// What is found of the plans of all files, of which there are so many.
 fn judge_plans<R: Threads + Wait + Sync, G: Gate + Sync>(
     rt: &R,
     alloc: Global,
     task: &Task,
     bundles: &[Bundle],
+    plans: u32,
     workers: u32,
     gate: &G,
 ) -> Result<Findings, JudgeFault>
     requires planners { length bundles.now ≤ 64 }
-    requires plans { plan_count bundles.now ≤ most_plans }
+    requires count { plans ≡ plan_count bundles.now }
+    requires plans { plans ≤ most_plans }
     requires workers { (1 ≤ workers) × (workers ≤ 32) }
     ensures findings { IfOk result (λ findings. findings ≡ findings_of task.now (length bundles.now) (plans_of_files 0 bundles.now)) }
     ensures refusal { IfErr result (λ fault. IsOfTexts fault → ⊥) }
     ensures held { IfErr result (λ fault. (job : ℕ) → fault ≡ Held job → G.may_hold gate.now job) }
 {
-    match read_plans(alloc, bundles) {
-        Ok(plans) => match run(rt, alloc, task, bundles.len() as u32, plans, workers, gate) {
-            Ok(findings) => Ok(findings),
-            Err(fault) => Err(JudgeFault::from(fault)),
-        },
-        Err(AllocError) => Err(JudgeFault::OutOfMemory),
+    let planners = bundles.len() as u32;
+    let mut intake = FilePlans::new(alloc, bundles);
+    match run(rt, alloc, task, planners, plans, &mut intake, workers, gate) {
+        Ok(findings) => Ok(findings),
+        Err(fault) => Err(JudgeFault::from(fault)),
     }
 }
 
-/// Whether the planners' files hold too many plans. They are counted, and none is read.
-fn have_too_many_plans(bundles: &[Bundle]) -> bool
-    ensures { MatchBool result (most_plans < plan_count bundles.now) (plan_count bundles.now ≤ most_plans) }
+/// How many plans the planners' files hold, unless they hold too many. The plans are counted, and none is read.
+fn count_plans(bundles: &[Bundle]) -> Option<u32>
+    ensures { MatchOption result (most_plans < plan_count bundles.now) (λ plans. (plans ≡ plan_count bundles.now) × (plans ≤ most_plans)) }
 {
-    let mut room = MOST_PLANS;
+    let mut plans = 0;
     for bundle in bundles {
         let count = count_parts(bundle.bytes());
-        if count > room {
-            return true;
+        if count > MOST_PLANS - plans {
+            return None;
         }
-        room -= count;
+        plans += count;
     }
-    false
+    Some(plans as u32)
 }
 
 /// The report of a task's plans, of which this was found.

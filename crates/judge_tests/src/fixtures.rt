@@ -1,4 +1,4 @@
-//! The lamp's domain and problem, files that are held in memory, and an outlet that stops when it is told to.
+//! The lamp's domain and problem, files that are held in memory, an outlet that stops when it is told to, and flags that are waited for.
 
 ghost use Rattle.std.specs.Prelude.{◌≡◌, false};
 
@@ -7,6 +7,7 @@ use judge_engine::outlet::{Failed, Outlet};
 use judge_engine::program::main_with;
 use std::alloc::{AllocError, Global};
 use std::sync::Wait;
+use std::sync::atomic::{AtomicBool, Ordering};
 use std::thread::Threads;
 
 pub(crate) const LAMP: &[u8] = b"(define (domain lamp)
@@ -132,4 +133,14 @@ pub(crate) fn run(
         Ok(words) => main_with(rt, words.as_slice(), &Shelf { alloc: rt.alloc() }, out, err),
         Err(AllocError) => 9,
     }
+}
+
+/// Whether a flag is raised before it was looked at a hundred million times.
+pub(crate) fn is_raised_in_time(flag: &AtomicBool) -> bool {
+    for _ in 0..100_000_000u32 {
+        if flag.load(Ordering::SeqCst) {
+            return true;
+        }
+    }
+    false
 }

@@ -2,7 +2,7 @@
 
 ghost use Rattle.std.specs.Prelude.{◌≡◌, ◌≤◌};
 
-use crate::fixtures::{LAMP, LAMP_1};
+use crate::fixtures::{LAMP, LAMP_1, is_raised_in_time};
 use judge_bench::{Gate, Open};
 use judge_engine::bundle::Bundle;
 use judge_engine::engine::judge_bytes;
@@ -31,14 +31,14 @@ impl Gate for Holds {
 
 /// The gate where jobs 0 and 1 wait for each other, and are held where that takes too long.
 #[derive(Drop)]
-struct Meeting {
+pub(crate) struct Meeting {
     asked_of_0: AtomicBool,
     asked_of_1: AtomicBool,
 }
 
 impl Meeting {
     /// The gate that was not asked yet.
-    fn new() -> Self {
+    pub(crate) fn new() -> Self {
         Meeting {
             asked_of_0: AtomicBool::new(false),
             asked_of_1: AtomicBool::new(false),
@@ -60,15 +60,10 @@ impl Gate for Meeting {
     }
 }
 
-/// Raises a flag and looks whether the other is raised, a hundred million times at most.
+/// Raises a flag and waits for the other, in vain where that takes too long.
 fn waits_in_vain(mine: &AtomicBool, other: &AtomicBool) -> bool {
     mine.store(true, Ordering::SeqCst);
-    for _ in 0..100_000_000u32 {
-        if other.load(Ordering::SeqCst) {
-            return false;
-        }
-    }
-    true
+    !is_raised_in_time(other)
 }
 
 /// The file of a planner `p`.
@@ -103,10 +98,17 @@ fn a_held_job_is_told(rt: HostRuntime) {
 
 #[test]
 fn two_workers_judge_at_once(rt: HostRuntime) {
+    let expected: &[u8] =
+        b"domain lamp problem lamp-1\np 1 valid 1\np 2 valid 1\np plans 2 valid 2 best 1\n";
     let met = two_plans(&rt, 2, &Meeting::new());
-    assert!(rt; met.is_ok(), "both jobs were asked for at once");
+    assert!(rt;
+        met.is_ok_and(|report| report.bytes() == expected),
+        "both jobs were asked for at once"
+    );
     let alone = two_plans(&rt, 1, &Meeting::new());
-    assert!(rt; alone.is_err_and(|fault| fault == JudgeFault::Held(0)));
+    assert!(rt;
+        alone.is_err_and(|fault| { fault == JudgeFault::Held(0) || fault == JudgeFault::Held(1) })
+    );
 }
 
 #[test]

@@ -1,0 +1,62 @@
+-- The jobs of a planner among all jobs.
+
+use Rattle.std.proofs.Common.{◌≡◌, ℕ, ◌+◌, zero, suc, Bool, true, false, List, [], ◌∷◌, ◌++◌, Some, map, nat_eq, cond, refl, ap, sym, ◌∙◌, arith}
+use Rattle.std.specs.Prelude.{slice_get}
+use Rattle.std.proofs.lemmas.Bool.{eqb-true}
+use Rattle.std.proofs.lemmas.List.Elements.{filter-append}
+use Rattle.strips_task.specs.declared.tasks.TaskParts.{TaskParts}
+use Rattle.intake_rules.specs.declared.finding.Finding.{Finding}
+use Rattle.intake_rules.specs.Intake.{is_of, jobs_of}
+use Rattle.intake_rules.specs.Jobs.{AcceptedPlan}
+use Rattle.judge_bench.specs.Findings.{of_planner, right_finding}
+use Rattle.judge_bench.specs.Kept.{Numbered}
+use Rattle.judge_bench.specs.Submissions.{SubmittedPlan, jobs_from}
+
+pub jobs_of-append : (planner : ℕ) (jobs more : List AcceptedPlan) → jobs_of planner (jobs ++ more) ≡ jobs_of planner jobs ++ jobs_of planner more
+unfolding jobs_of
+jobs_of-append planner jobs more = filter-append (is_of planner) jobs more
+
+-- a job of a planner is the planner's, and one of all jobs
+abbrev IsAmong : ℕ → List AcceptedPlan → AcceptedPlan → Type 0
+IsAmong planner jobs job = (slot : ℕ) × (job.planner ≡ planner) × (slice_get jobs slot ≡ Some job)
+
+pub its_slot : (planner : ℕ) (jobs : List AcceptedPlan) (place : ℕ) (job : AcceptedPlan) → slice_get (jobs_of planner jobs) place ≡ Some job → IsAmong planner jobs job
+unfolding jobs_of
+its_slot planner [] place job at = cc
+its_slot planner (first ∷ jobs) place job at = by (its_slot planner jobs) (is_of planner first) refl place at
+  where
+    later : IsAmong planner jobs job → IsAmong planner (first ∷ jobs) job
+    later (slot, whose, is) = (suc slot, whose, is)
+
+    by : ((place : ℕ) (job : AcceptedPlan) → slice_get (jobs_of planner jobs) place ≡ Some job → IsAmong planner jobs job) → (b : Bool) → is_of planner first ≡ b → (place : ℕ)
+        → slice_get (cond b (first ∷ jobs_of planner jobs) (jobs_of planner jobs)) place ≡ Some job → IsAmong planner (first ∷ jobs) job
+    by rest true is zero at =
+        let same : first ≡ job = cc in
+        (zero, sym (ap (λ (x : AcceptedPlan). x.planner) same) ∙ eqb-true first.planner planner is, at)
+    by rest true is (suc place) at = later (rest place job at)
+    by rest false is place at = later (rest place job at)
+
+pub planner_of_next : (planner : ℕ) (jobs : List AcceptedPlan) (place : ℕ) (job : AcceptedPlan) → slice_get (jobs_of planner jobs) place ≡ Some job → job.planner ≡ planner
+planner_of_next planner jobs place job at = (its_slot planner jobs place job at).1
+
+-- the right findings of a planner's jobs are those of all jobs that are the planner's
+pub found_of : (parts : TaskParts) (planner : ℕ) (jobs : List AcceptedPlan) → of_planner (map (right_finding parts) jobs) planner ≡ map (right_finding parts) (jobs_of planner jobs)
+unfolding jobs_of
+found_of parts planner [] = refl
+found_of parts planner (job ∷ jobs) = by (nat_eq job.planner planner) (of_planner (map (right_finding parts) jobs) planner) (jobs_of planner jobs) (found_of parts planner jobs)
+  where
+    by : (b : Bool) (found : List Finding) (of_it : List AcceptedPlan) → found ≡ map (right_finding parts) of_it
+        → cond b (right_finding parts job ∷ found) found ≡ map (right_finding parts) (cond b (job ∷ of_it) of_it)
+    by true found of_it is = ap (λ l. right_finding parts job ∷ l) is
+    by false found of_it is = is
+
+-- plans as jobs are numbered by their slots
+numbers_from : (number : ℕ) (plans : List SubmittedPlan) (slot : ℕ) (job : AcceptedPlan) → slice_get (jobs_from number plans) slot ≡ Some job → job.number ≡ number + slot
+numbers_from number [] slot job at = cc
+numbers_from number (plan ∷ plans) zero job at =
+    let same : record { number = number; planner = plan.planner; plan = plan.plan } ≡ job = cc in
+    sym (ap (λ (x : AcceptedPlan). x.number) same) ∙ (let e : number ≡ number + 0 = omega arith in e)
+numbers_from number (plan ∷ plans) (suc slot) job at = let rest = numbers_from (suc number) plans slot job at in omega arith
+
+pub numbered_from_zero : (plans : List SubmittedPlan) → Numbered (jobs_from 0 plans)
+numbered_from_zero plans slot job at = let e = numbers_from 0 plans slot job at in omega arith

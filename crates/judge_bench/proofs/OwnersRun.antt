@@ -1,0 +1,146 @@
+-- What the owner's view comes to in a run.
+
+use Rattle.std.proofs.Common.{◌≡◌, ◌<◌, ◌≤◌, ℕ, ◌+◌, ◌-◌, zero, suc, Bool, true, false, List, [], ◌∷◌, ◌++◌, Option, Some, None, length, All, refl, ap, sym, ◌∙◌, subst, arith, append_assoc, add-one}
+use Rattle.std.specs.Prelude.{replicate, slice_get, slice_index, slice_set}
+use Rattle.std.proofs.lemmas.List.{length_push}
+use Rattle.std.proofs.lemmas.List.Elements.{All-tail}
+use Rattle.std.proofs.lemmas.Option.{slice_get_within}
+use Rattle.intake_rules.specs.Intake.{jobs_of}
+use Rattle.intake_rules.specs.Jobs.{AcceptedPlan}
+use Rattle.bench_rule.specs.declared.views.View.{View}
+use Rattle.bench_rule.specs.Views.{with_close, with_joined, with_posted, with_seat_out, times, times_held}
+use Rattle.judge_bench.specs.Keeping.{AllKnown, KeptNext, NextIsUnknown, NoneWaits, OnlyAccepts, with_all_joined, with_all_out}
+use Rattle.judge_bench.specs.Kept.{Numbered}
+use Rattle.judge_bench.specs.Submissions.{SubmittedPlan, job_of, jobs_from}
+use Rattle.judge_bench.proofs.JobsOf.{its_slot}
+
+-- a place with nothing is past the end
+none_past : {A : Type 0} (xs : List A) (place : ℕ) → slice_get xs place ≡ None → length xs ≤ place
+none_past [] place at = omega arith
+none_past (x ∷ xs) zero at = cc
+none_past (x ∷ xs) (suc place) at = let rest = none_past xs place at in omega arith
+
+-- so far the plans before those that are left were accepted
+pub record AcceptedSoFar (slots planners : ℕ) (before view : View) (plans left : List SubmittedPlan) : Type 0 where
+  pub others : OnlyAccepts before view
+  pub jobs : view.jobs ++ jobs_from (length view.jobs) left ≡ before.jobs ++ jobs_from (length before.jobs) plans
+  pub room : length view.jobs + length left ≤ slots
+  pub known : All (λ plan. plan.planner < planners) left
+
+-- an emit that may have kept something changes nothing else
+pub record SameButEmissions (before later : View) : Type 0 where
+  pub jobs : later.jobs ≡ before.jobs
+  pub others : OnlyAccepts before later
+
+pub only_emits : (planner : ℕ) (found : Bool) (before later : View) → KeptNext planner found before later → SameButEmissions before later
+only_emits planner true before later is = record {
+  jobs = ap (λ (v : View). v.jobs) is;
+  others = record {
+    closed = ap (λ (v : View). v.closed) is;
+    seats_out = ap (λ (v : View). v.seats_out) is;
+    held = ap (λ (v : View). v.held) is;
+    finished = ap (λ (v : View). v.finished) is;
+  };
+}
+only_emits planner false before later ((missed, is), unknown) = record {
+  jobs = ap (λ (v : View). v.jobs) is;
+  others = record {
+    closed = ap (λ (v : View). v.closed) is;
+    seats_out = ap (λ (v : View). v.seats_out) is;
+    held = ap (λ (v : View). v.held) is;
+    finished = ap (λ (v : View). v.finished) is;
+  };
+}
+
+-- one plan more was accepted
+pub one_accepted : (slots planners : ℕ) (before view : View) (plans left : List SubmittedPlan) → AcceptedSoFar slots planners before view plans left
+    → (plan : SubmittedPlan) (rest : List SubmittedPlan) → left ≡ plan ∷ rest
+    → (posted later : View) → posted ≡ with_posted view (job_of (length view.jobs) plan) → SameButEmissions posted later
+    → AcceptedSoFar slots planners before later plans rest
+one_accepted slots planners before view plans left so_far plan rest at posted later is same =
+    let jobs = same.jobs ∙ ap (λ (v : View). v.jobs) is in
+    let old = so_far.others in
+    let others = same.others in
+    let count = ap length jobs ∙ length_push view.jobs (job_of (length view.jobs) plan) in
+    let long = ap length at in
+    let h = so_far.room in record {
+      others = record {
+        closed = others.closed ∙ ap (λ (v : View). v.closed) is ∙ old.closed;
+        seats_out = others.seats_out ∙ ap (λ (v : View). v.seats_out) is ∙ old.seats_out;
+        held = others.held ∙ ap (λ (v : View). v.held) is ∙ old.held;
+        finished = others.finished ∙ ap (λ (v : View). v.finished) is ∙ old.finished;
+      };
+      jobs = ap (λ l. l ++ jobs_from (length later.jobs) rest) jobs
+          ∙ ap (λ n. (view.jobs ++ job_of (length view.jobs) plan ∷ []) ++ jobs_from n rest) (count ∙ add-one (length view.jobs))
+          ∙ append_assoc view.jobs (job_of (length view.jobs) plan ∷ []) (jobs_from (suc (length view.jobs)) rest)
+          ∙ ap (λ l. view.jobs ++ jobs_from (length view.jobs) l) (sym at)
+          ∙ so_far.jobs;
+      room = omega arith;
+      known = All-tail (λ (p : SubmittedPlan). p.planner < planners) plan rest (subst (All (λ (p : SubmittedPlan). p.planner < planners)) at so_far.known);
+    }
+
+-- the first planners are closed, and so many others are open
+abbrev pub with_first_closed : View → ℕ → ℕ → View
+with_first_closed view count others = record view { closed = replicate count true ++ replicate others false }
+
+set_next : (count others : ℕ) → slice_set (replicate count true ++ replicate (suc others) false) count true ≡ replicate (suc count) true ++ replicate others false
+set_next zero others = refl
+set_next (suc count) others = ap (λ l. true ∷ l) (set_next count others)
+
+-- one planner more is closed
+pub one_closed : (before view later : View) (count planners : ℕ) → count < planners → view ≡ with_first_closed before count (planners - count) → later ≡ with_close view count
+    → later ≡ with_first_closed before (count + 1) (planners - (count + 1))
+one_closed before view later count planners within was is =
+    let left : planners - count ≡ suc (planners - (count + 1)) = omega arith in
+    let closed = ap (λ n. slice_set (replicate count true ++ replicate n false) count true) left ∙ set_next count (planners - (count + 1)) ∙ ap (λ n. replicate n true ++ replicate (planners - (count + 1)) false) (sym (add-one count)) in
+    is ∙ ap (λ (v : View). with_close v count) was ∙ (λ i. record before { closed = closed i })
+
+-- a seat more that was handed in
+pub one_joined : (before view later joined : View) (count : ℕ) (more : List ℕ) → view ≡ with_all_joined before count more → later ≡ with_joined view joined
+    → later ≡ with_all_joined before (count + 1) (more ++ joined.finished)
+one_joined before view later joined count more was is =
+    let left : before.seats_out - count - 1 ≡ before.seats_out - (count + 1) = omega arith in
+    is ∙ ap (λ (v : View). with_joined v joined) was
+    ∙ (λ i. record before { seats_out = left i; finished = append_assoc before.finished more joined.finished i })
+
+-- where nothing waits and the owner holds nothing, it knows each job to be finished
+pub all_known : (view : View) → NoneWaits view → view.held ≡ [] → Numbered view.jobs → AllKnown view
+all_known view none held numbered planner place job at =
+    let (slot, whose, is) = its_slot planner view.jobs place job at in
+    let number : job.number ≡ slot = numbered slot job is in
+    let within : slot < length view.jobs = slice_get_within view.jobs slot job is in
+    let known : times slot view.finished ≡ 0 → ⊥ = λ e. none slot (within, ap (times_held slot) held, e) in
+    let same = ap (λ n. times n view.finished) number in
+    omega arith
+
+-- so where none is emitted any more, all were
+pub no_next : (planner : ℕ) (view : View) → AllKnown view → NextIsUnknown planner view → slice_index view.emitted planner ≤ length (jobs_of planner view.jobs)
+    → slice_index view.emitted planner ≡ length (jobs_of planner view.jobs)
+no_next planner view known unknown within = by (slice_get (jobs_of planner view.jobs) place) refl
+  where
+    place : ℕ
+    place = slice_index view.emitted planner
+
+    by : (next : Option AcceptedPlan) → slice_get (jobs_of planner view.jobs) place ≡ next → place ≡ length (jobs_of planner view.jobs)
+    by None at = let past = none_past (jobs_of planner view.jobs) place at in omega arith
+    by (Some job) at = let one = known planner place job at in let none = unknown job at in absurd (omega arith)
+
+-- what is known stays known while jobs and finished slots are the same
+pub still_known : (before later : View) → later.jobs ≡ before.jobs → later.finished ≡ before.finished → AllKnown before → AllKnown later
+still_known before later jobs finished known planner place job at =
+    subst (λ l. 0 < times job.number l) (sym finished) (known planner place job (subst (λ l. slice_get (jobs_of planner l) place ≡ Some job) jobs at))
+
+-- an emit that found none was the last of its planner
+pub last_emitted : (planner : ℕ) (view later : View) (found : Bool) → found ≡ false → KeptNext planner found view later → AllKnown view → slice_index view.emitted planner ≤ length (jobs_of planner view.jobs)
+    → slice_index later.emitted planner ≡ length (jobs_of planner later.jobs)
+last_emitted planner view later true none kept known within = cc
+last_emitted planner view later false none ((missed, is), unknown) known within =
+    ap (λ (v : View). slice_index v.emitted planner) is
+    ∙ no_next planner view known unknown within
+    ∙ ap (λ (v : View). length (jobs_of planner v.jobs)) (sym is)
+
+-- one seat more is out
+pub one_out : (before view later : View) (count : ℕ) → view ≡ with_all_out before count → later ≡ with_seat_out view → later ≡ with_all_out before (count + 1)
+one_out before view later count was is =
+    let more : before.seats_out + count + 1 ≡ before.seats_out + (count + 1) = omega arith in
+    is ∙ ap with_seat_out was ∙ (λ i. record before { seats_out = more i })

@@ -1,0 +1,36 @@
+-- What a run begins with, and what it comes to.
+
+use Rattle.std.specs.Prelude.{◌≡◌, ◌<◌, ◌≤◌, ℕ, List, [], All, Result, IfOk, IfErr, length}
+use Rattle.strips_task.specs.declared.tasks.TaskParts.{TaskParts}
+use Rattle.intake_rules.specs.declared.finding.Finding.{Finding}
+use Rattle.bench_rule.specs.declared.views.View.{View}
+use Rattle.bench_rule.specs.Views.{first_view}
+use Rattle.judge_bench.specs.declared.running.RunFault.{RunFault}
+use Rattle.judge_bench.specs.declared.running.RunFault.TheVariants.{Held}
+use Rattle.judge_bench.specs.Findings.{findings_of, nothing_kept}
+use Rattle.judge_bench.specs.Seats.{BenchFacts, SeatFacts}
+use Rattle.judge_bench.specs.Submissions.{SubmittedPlan, jobs_from}
+
+-- a bench that was made for a task and so many planners, its owner, who did nothing yet, and no finding
+pub record IsReady (bench : BenchFacts) (parts : TaskParts) (planners : ℕ) (owner : SeatFacts) (findings : List (List Finding)) : Type 0 where
+  pub task : bench.setting.task.value ≡ parts
+  pub planners_are : bench.setting.planners ≡ planners
+  pub table : owner.table ≡ bench.table
+  pub view : owner.view ≡ first_view bench.setting
+  pub findings_are : findings ≡ nothing_kept planners
+
+-- so many slots suffice for the plans, and each is of one of so many planners
+pub record MayRun (slots planners : ℕ) (plans : List SubmittedPlan) : Type 0 where
+  pub room : length plans ≤ slots
+  pub known : All (λ plan. plan.planner < planners) plans
+
+-- all plans were accepted as jobs, so many seats are out, and the owner holds nothing
+pub record AllAccepted (plans : List SubmittedPlan) (workers : ℕ) (view : View) : Type 0 where
+  pub jobs : view.jobs ≡ jobs_from 0 plans
+  pub seats_out : view.seats_out ≡ workers
+  pub held : view.held ≡ []
+
+-- a run finds the right findings of all plans, or refuses; and a job that it says was held is one that may be held
+pub record FoundOrHeld (parts : TaskParts) (planners : ℕ) (plans : List SubmittedPlan) (MayHold : ℕ → Type 0) (result : Result (List (List Finding)) RunFault) : Type 0 where
+  pub findings : IfOk result (λ found. found ≡ findings_of parts planners plans)
+  pub held : IfErr result (λ fault. (job : ℕ) → fault ≡ Held job → MayHold job)

@@ -1,0 +1,27 @@
+-- What is known of the workers of a run.
+
+use Rattle.std.specs.Prelude.{◌≡◌, ℕ, List, [], ◌∷◌, Option, Some, None}
+use Rattle.std.specs.declared.thread.PromisedHandle.{PromisedHandle}
+use Rattle.judge_bench.specs.declared.crew.WorksAt.{WorksAt}
+use Rattle.judge_bench.specs.declared.working.Ended.{Ended}
+use Rattle.judge_bench.specs.declared.working.WorkFault.{WorkFault}
+use Rattle.judge_bench.specs.declared.working.WorkFault.TheVariants.{Held}
+use Rattle.judge_bench.specs.Seats.{BenchFacts, SitsAt}
+
+-- a worker's seat came back with nothing held; and where a job was held by the gate, it may be
+pub record CameBack (bench : BenchFacts) (MayHold : ℕ → Type 0) (ended : Ended) : Type 0 where
+  pub seat : SitsAt bench ended.seat
+  pub nothing_held : ended.seat.view.held ≡ []
+  pub may_hold : (job : ℕ) → ended.refused ≡ Some (Held job) → MayHold job
+
+-- the job that was held first: the one that is known, or else the one for which a worker ended
+abbrev pub first_held : Option ℕ → Option WorkFault → Option ℕ
+first_held (Some job) refused = Some job
+first_held None (Some (Held job)) = Some job
+first_held None refused = None
+
+-- all these workers are at this bench and ask this gate
+module _ {G : Type 0} where
+  abbrev pub AllWorkAt : BenchFacts → G → List (PromisedHandle Ended (WorksAt G)) → Type 0
+  AllWorkAt bench gate [] = Unit {0}
+  AllWorkAt bench gate (child ∷ others) = (child.promise.bench.value ≡ bench) × (child.promise.gate.value ≡ gate) × AllWorkAt bench gate others

@@ -1,0 +1,126 @@
+//! The workers of a run, each on a thread of its own.
+ghost use Rattle.std.specs.Prelude.{◌≡◌, ◌≤◌, ◌+◌, ℕ, [], Some, IfSome, OnOk, IfErr, List, length, vec_len, vec_capacity};
+ghost use Rattle.bench_rule.specs.Views.{worker_view};
+ghost use Rattle.judge_bench.specs.Keeping.{with_all_joined, with_all_out};
+ghost use Rattle.judge_bench.specs.Seats.{SitsAt};
+ghost use Rattle.judge_bench.specs.Workers.{AllWorkAt, CameBack, first_held};
+
+use crate::{Bench, Ended, Gate, Owner, WorkFault, WorkerSeat, work};
+use std::alloc::Global;
+use std::snapshot::Snapshot;
+use std::thread::{Promise, PromisedHandle, Scope, Threads};
+use strips_judge::Task;
+
+/// After how many rounds without a job a worker ends: some hours.
+const IDLE_ROUNDS: u32 = 1_000_000_000;
+
+/// No thread could be started.
+#[derive(Drop)]
+pub(crate) struct NoThread;
+
+/// The promise of a worker: its seat comes back to its bench with nothing held, and a job that it says was held is one that its gate may hold.
+pub(crate) struct WorksAt<G> {
+    bench: Snapshot<Bench>,
+    gate: Snapshot<G>,
+}
+
+impl<G> Drop for WorksAt<G> {
+    fn drop(self) {
+        let Self { bench: _, gate: _ } = self;
+    }
+}
+
+impl<G: Gate> Promise<Ended> for WorksAt<G> {
+    ghost use Rattle.judge_bench.specs.Workers.{CameBack};
+
+    ghost kept_by = { λ promise ended. CameBack promise.bench.value (G.may_hold promise.gate.value) ended };
+}
+
+/// The workers that were started and not joined.
+pub(crate) type Crew<G> = Vec<PromisedHandle<Ended, WorksAt<G>>>;
+
+/// Starts so many workers. Where a thread can't be started, its seat is lost, and those that were started before are in the list.
+pub(crate) fn start_all<'s, E, G: Gate + Sync>(
+    scope: &Scope<'s, E>,
+    alloc: Global,
+    crew: &mut Crew<G>,
+    bench: &'s Bench,
+    owner: &mut Owner,
+    task: &'s Task,
+    workers: u32,
+    gate: &'s G,
+) -> Result<(), NoThread>
+    requires seat { SitsAt bench.now owner.old }
+    requires task { bench.now.setting.task.value ≡ task.now }
+    requires few { owner.old.view.seats_out + workers ≤ 1024 }
+    requires crew { (crew.old.items ≡ []) × (vec_len crew.old ≡ 0) × (workers ≤ vec_capacity crew.old) }
+    ensures seat { SitsAt bench.now owner.new }
+    ensures crew { AllWorkAt bench.now gate.now crew.new.items }
+    ensures count { OnOk result (length crew.new.items ≡ workers) }
+    ensures view { OnOk result (owner.new.view ≡ with_all_out owner.old.view workers) }
+{
+    for _ in 0..workers {
+        let seat = owner.seat(bench);
+        let promise = WorksAt {
+            bench: Snapshot::of(bench),
+            gate: Snapshot::of(gate),
+        };
+        let Ok(child) = scope.spawn_with(
+            promise,
+            move || whole_work(alloc, bench, seat, task, gate),
+        ) else {
+            return Err(NoThread);
+        };
+        crew.push_reserved(child);
+    }
+    Ok(())
+}
+
+/// A worker's turn at a bench from its first job on.
+fn whole_work<G: Gate>(
+    alloc: Global,
+    bench: &Bench,
+    seat: WorkerSeat,
+    task: &Task,
+    gate: &G,
+) -> Ended
+    requires seat { SitsAt bench.now seat × (seat.view ≡ worker_view (Some bench.now.setting)) }
+    requires task { bench.now.setting.task.value ≡ task.now }
+    ensures { CameBack bench.now (G.may_hold gate.now) result }
+{
+    work(alloc, bench, seat, task, gate, IDLE_ROUNDS)
+}
+
+/// Waits for all workers and hands their seats in. Answers the job for which the first of them ended that found one held.
+pub(crate) fn join_all<R: Threads, G: Gate>(
+    rt: &R,
+    crew: Crew<G>,
+    bench: &Bench,
+    owner: &mut Owner,
+    gate: &G,
+) -> Option<u32>
+    requires seat { SitsAt bench.now owner.old }
+    requires crew { AllWorkAt bench.now gate.now crew.items }
+    ensures seat { SitsAt bench.now owner.new }
+    ensures view { (more : List ℕ) × (owner.new.view ≡ with_all_joined owner.old.view (length crew.items) more) }
+    ensures held { IfSome result (G.may_hold gate.now) }
+{
+    let mut held = None;
+    for child in crew {
+        let Ended { seat, refused } = child.join(rt);
+        held = first_held(held, refused);
+        owner.hand_in(bench, seat);
+    }
+    held
+}
+
+/// The job that was held first, where one is known or this worker ended for one.
+fn first_held(known: Option<u32>, refused: Option<WorkFault>) -> Option<u32>
+    ensures { result ≡ first_held known refused }
+{
+    match (known, refused) {
+        (Some(job), _) => Some(job),
+        (None, Some(WorkFault::Held(job))) => Some(job),
+        (None, _) => None,
+    }
+}

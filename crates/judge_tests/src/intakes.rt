@@ -1,0 +1,147 @@
+//! Runs over intakes. That plans are judged while others still come in is shown by an intake that waits until the first plan is asked for.
+
+ghost use Rattle.std.specs.Prelude.{◌≡◌, ◌<◌, ◌≤◌, All, IfOk, length};
+
+use crate::fixtures::{LAMP, LAMP_1, is_raised_in_time};
+use crate::gates::Meeting;
+use judge_bench::{Findings, Gate, Intake, Listed, RunFault, Submission, run};
+use pddl_reader::{ReadFault, read_domain, read_problem};
+use plan_text::read_plan;
+use std::alloc::{AllocError, Global};
+use std::sync::atomic::{AtomicBool, Ordering};
+use std::sync::{Arc, Wait};
+use std::test::Fail;
+use std::thread::Threads;
+use strips_judge::{Task, Verdict};
+
+/// The gate that holds no job, and raises a flag when it is asked of job 0.
+#[derive(Drop)]
+struct Watched {
+    asked_of_0: AtomicBool,
+}
+
+impl Gate for Watched {
+    ghost may_hold = { λ _ _. ⊥ };
+
+    fn hold(&self, job: u32) -> bool {
+        if job == 0 {
+            self.asked_of_0.store(true, Ordering::SeqCst);
+        }
+        false
+    }
+}
+
+/// The intake of two plans. It gives the second when the flag is raised, or where that takes too long.
+#[derive(Drop)]
+struct Late<'a> {
+    first: Option<Submission>,
+    second: Option<Submission>,
+    asked_of_0: &'a AtomicBool,
+    /// Whether the flag was raised before the second plan was given.
+    was_asked: bool,
+}
+
+impl Intake for Late<'_> {
+    ghost use Rattle.std.specs.Prelude.{◌++◌};
+    ghost use Rattle.std.specs.Option.{option_to_list};
+
+    ghost to_come = { λ it. option_to_list it.first ++ option_to_list it.second };
+
+    fn next(&mut self) -> Result<Option<Submission>, AllocError> {
+        if let Some(first) = self.first.take() {
+            return Ok(Some(first));
+        }
+        if self.second.is_some() {
+            self.was_asked = is_raised_in_time(self.asked_of_0);
+        }
+        Ok(self.second.take())
+    }
+}
+
+/// The task of the lamp that is dark.
+pub(crate) fn lamp_1(alloc: Global) -> Result<Task, ReadFault> {
+    read_problem(alloc, read_domain(alloc, LAMP)?, LAMP_1)
+}
+
+/// The plan of the first planner that lights the lamp.
+pub(crate) fn light(alloc: Global) -> Result<Submission, AllocError>
+    ensures { IfOk result (λ plan. plan.planner ≡ 0) }
+{
+    let plan = read_plan(alloc, b"(light)\n")?;
+    Ok(Submission {
+        planner: 0,
+        plan: Arc::new(alloc, plan)?,
+    })
+}
+
+/// That plan twice.
+fn two_lights(alloc: Global) -> Result<Vec<Submission>, AllocError>
+    ensures { IfOk result (λ plans. (length plans.items ≡ 2) × All (λ plan. plan.planner < 1) plans.items) }
+{
+    let mut plans = Vec::new(alloc);
+    plans.push(light(alloc)?)?;
+    plans.push(light(alloc)?)?;
+    Ok(plans)
+}
+
+/// Whether there are two findings of one planner, and each says that the plan is valid and has one step.
+fn are_both_valid(findings: &Findings) -> bool {
+    if findings.planners() != 1 || findings.plans(0) != 2 {
+        return false;
+    }
+    for plan in 0..2 {
+        if !matches!(findings.get(0, plan).verdict, Verdict::Valid { steps: 1 }) {
+            return false;
+        }
+    }
+    true
+}
+
+#[test]
+fn judges_while_the_intake_goes_on(rt: HostRuntime) -> Result<(), Fail> {
+    let task = lamp_1(rt.alloc())?;
+    let gate = Watched {
+        asked_of_0: AtomicBool::new(false),
+    };
+    let mut intake = Late {
+        first: Some(light(rt.alloc())?),
+        second: Some(light(rt.alloc())?),
+        asked_of_0: &gate.asked_of_0,
+        was_asked: false,
+    };
+    let findings = run(&rt, rt.alloc(), &task, 1, 2, &mut intake, 2, &gate)?;
+    assert!(rt; are_both_valid(&findings));
+    assert!(rt;
+        intake.was_asked,
+        "job 0 was taken before the second plan came"
+    );
+    Ok(())
+}
+
+/// What comes of two plans of one planner, with a gate where the two jobs wait for each other.
+fn run_meeting(
+    rt: &(impl AllocGlobal + Threads + Wait + Sync),
+    task: &Task,
+    plans: Vec<Submission>,
+    workers: u32,
+) -> Result<Findings, RunFault>
+    requires plans { (length plans.items ≡ 2) × All (λ plan. plan.planner < 1) plans.items }
+    requires workers { (1 ≤ workers) × (workers ≤ 32) }
+{
+    let mut intake = Listed::new(plans);
+    let gate = Meeting::new();
+    run(rt, rt.alloc(), task, 1, 2, &mut intake, workers, &gate)
+}
+
+#[test]
+fn two_workers_are_at_work_at_once(rt: HostRuntime) -> Result<(), Fail> {
+    let task = lamp_1(rt.alloc())?;
+    let met = run_meeting(&rt, &task, two_lights(rt.alloc())?, 2);
+    assert!(rt;
+        met.is_ok_and(|findings| are_both_valid(&findings)),
+        "both jobs were asked for at once"
+    );
+    let alone = run_meeting(&rt, &task, two_lights(rt.alloc())?, 1);
+    assert!(rt; alone.is_err_and(|fault| fault == RunFault::Held(0) || fault == RunFault::Held(1)));
+    Ok(())
+}
