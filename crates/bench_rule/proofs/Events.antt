@@ -1,6 +1,6 @@
 -- What each kind of step does to the shown intake.
 
-use Rattle.std.proofs.Common.{get_or-set_same, ◌≡◌, ◌≢◌, ◌<◌, ℕ, zero, suc, ◌+◌, Bool, true, false, not, nat_eq, List, [], ◌∷◌, ◌++◌, Option, Some, slice_get, get_or, set, filter, length, refl, ap, sym, ◌∙◌, subst, arith, inr, cond, if◌then◌else◌, eq-eqb, ne_eqb}
+use Rattle.std.proofs.Common.{get_or-set_same, ◌≡◌, ◌≢◌, ◌<◌, ℕ, ◌+◌, true, false, not, nat_eq, List, [], ◌∷◌, ◌++◌, Option, Some, slice_get, get_or, set, length, refl, ap, sym, ◌∙◌, subst, arith, inr, if◌then◌else◌, ne_eqb}
 use Rattle.std.proofs.lemmas.Bool.{lt-ltb}
 use Rattle.std.proofs.lemmas.Option.{slice_get_within, get_or_from_slice_get}
 use mathlib.Core.Option.{some, none}
@@ -10,7 +10,7 @@ use Rattle.intake_rules.specs.declared.refusal.Refusal.TheVariants as refusal
 use Rattle.intake_rules.specs.declared.reply.Reply.TheVariants as reply
 use Rattle.intake_rules.specs.declared.stage.Stage.{Stage}
 use Rattle.intake_rules.specs.declared.stage.Stage.TheVariants as stage
-use Rattle.intake_rules.specs.Intake.{Intake, has_planner, has_job, is_closed_in, is_of, is_out_stage, is_finished_stage, stage_of, jobs_of, next_job, with_job, with_closed, with_emitted}
+use Rattle.intake_rules.specs.Intake.{Intake, has_planner, has_job, is_closed_in, is_out_stage, is_finished_stage, stage_of, jobs_of, next_job, with_job, with_closed, with_emitted}
 use Rattle.intake_rules.specs.Jobs.{AcceptedPlan}
 use Rattle.intake_rules.specs.Rules.{submit, close, hand_back, finish, emit, Allows, after, first_that_applies, refused_or, is_same_job, finding_at, emit_reply_of, reply_to}
 use Rattle.intake_rules.proofs.Lawful.{one_more}
@@ -22,7 +22,7 @@ use Rattle.bench_rule.specs.declared.views.View.{View}
 use Rattle.bench_rule.specs.Laws.{LiftLaw, PostLaw, TakeLaw, FinishLaw, HandBackLaw, EmitLaw, CloseLaw, LoadLaw, MissLaw, SplitLaw, JoinLaw, ShutLaw, NoteLaw, HistoryGoesOn}
 use Rattle.bench_rule.specs.Shown.{owner_of, shown, stages, Stays}
 use Rattle.bench_rule.specs.Sound.{Sound, FitsRole, HasView, Home, Book}
-use Rattle.bench_rule.specs.Views.{Bench, IsNext, one_if, rank, spent_view, with_close, with_emission, with_finished, with_handed_back, with_joined, with_lifted, with_miss, with_note, with_posted, with_seat_out, with_shut, with_taken, worker_view}
+use Rattle.bench_rule.specs.Views.{Bench, IsNext, rank, spent_view, with_close, with_emission, with_finished, with_handed_back, with_joined, with_lifted, with_miss, with_note, with_posted, with_seat_out, with_shut, with_taken, worker_view}
 use Rattle.bench_rule.proofs.Counts.{held_often, held_job}
 use Rattle.bench_rule.proofs.Emits.{emit_moves}
 use Rattle.bench_rule.proofs.Finishes.{finish_moves, hand_back_moves, is_inside, is_out}

@@ -17,7 +17,7 @@ use Rattle.bench_rule.specs.declared.views.Setting.{Setting}
 use Rattle.bench_rule.specs.declared.views.View.{View}
 use Rattle.bench_rule.specs.Laws.{ShownByWords}
 use Rattle.bench_rule.specs.Shown.{finished_stage, owner_of, slot_words, stage_at, stages}
-use Rattle.bench_rule.specs.Sound.{Sound, Rests, word_of}
+use Rattle.bench_rule.specs.Sound.{Sound, word_of}
 use Rattle.bench_rule.specs.Views.{Bench, Content}
 use Rattle.bench_rule.proofs.Meanings.{accepted, jobs_are}
 use Rattle.bench_rule.proofs.Stages.{Homes, showing, slot_word, staged}

@@ -5,7 +5,7 @@ use mathlib.Core.Logic.{dite}
 use native.Mathlib.Decide.{ℕ_discrete}
 use Rattle.intake_rules.specs.Jobs.{AcceptedPlan}
 use Rattle.bench_rule.specs.declared.views.Held.{Held}
-use Rattle.bench_rule.specs.Views.{HoldsJob, one_if, times_held, without_held}
+use Rattle.bench_rule.specs.Views.{HoldsJob, times_held, without_held}
 use Rattle.bench_rule.proofs.Counts.{one_else}
 use Rattle.judge_bench.specs.Kept.{HeldWithin}
 

@@ -1,6 +1,6 @@
 -- What the owner keeps beside its seat, after each kind of step.
 
-use Rattle.std.proofs.Common.{◌≡◌, ◌≢◌, ◌<◌, ◌≤◌, ℕ, zero, suc, ◌+◌, ◌-◌, Bool, false, true, List, [], ◌∷◌, ◌++◌, length, map, slice_get, slice_index, slice_set, replicate, Some, refl, sym, ap, ◌∙◌, subst, ⊎_elim, arith, eqb, append_assoc}
+use Rattle.std.proofs.Common.{◌≡◌, ◌≢◌, ◌<◌, ◌≤◌, ℕ, zero, suc, ◌+◌, ◌-◌, Bool, false, true, List, [], ◌∷◌, ◌++◌, length, slice_get, slice_index, slice_set, replicate, Some, refl, sym, ap, ◌∙◌, subst, ⊎_elim, arith, eqb, append_assoc}
 use Rattle.std.specs.Prelude.{None, min}
 use Rattle.std.proofs.lemmas.List.{length-append, length-set, map-append}
 use mathlib.Core.Logic.{dite}
@@ -8,11 +8,9 @@ use native.Mathlib.Decide.{ℕ_discrete}
 use Rattle.atomic_table.specs.Seated.{TableId}
 use Rattle.intake_rules.specs.Jobs.{AcceptedPlan}
 use Rattle.intake_rules.proofs.Pushes.{slice_get_cases}
-use Rattle.bench_rule.specs.declared.views.Held.{Held}
 use Rattle.bench_rule.specs.declared.views.Setting.{Setting}
 use Rattle.bench_rule.specs.declared.views.View.{View}
-use Rattle.bench_rule.specs.Plays.{SeemsWaiting}
-use Rattle.bench_rule.specs.Views.{Carried, Sitting, HoldsJob, first_view, planners_of, slots_of, one_if, times_held, with_close, with_emission, with_finished, with_handed_back, with_joined, with_miss, with_posted, with_seat_out, with_shut, with_taken, without_held, without_slot}
+use Rattle.bench_rule.specs.Views.{Carried, Sitting, HoldsJob, first_view, slots_of, one_if, times_held, with_close, with_emission, with_finished, with_handed_back, with_joined, with_miss, with_posted, with_seat_out, with_shut, with_taken, without_held, without_slot}
 use Rattle.bench_rule.proofs.Counts.{carries_without, held_often, one_at, times-push, without_else}
 use Rattle.planner_lines.specs.Lines.{LinesValue}
 use Rattle.judge_bench.specs.Kept.{OwnerKept, NoneWaitsBefore, Numbered}

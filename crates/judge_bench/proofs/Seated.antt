@@ -1,11 +1,9 @@
 -- What a worker keeps beside its seat, after each kind of step.
 
-use Rattle.std.proofs.Common.{◌≡◌, ◌<◌, ◌≤◌, ℕ, ◌+◌, ◌-◌, List, [], ◌∷◌, ◌++◌, length, refl, sym, ap, ◌∙◌, subst, arith}
+use Rattle.std.proofs.Common.{◌≡◌, ◌<◌, ◌≤◌, ℕ, ◌+◌, ◌-◌, List, [], ◌∷◌, ◌++◌, length, sym, ap, ◌∙◌, subst, arith}
 use Rattle.std.specs.Prelude.{None}
 use Rattle.atomic_table.specs.Seated.{TableId}
 use Rattle.intake_rules.specs.Jobs.{AcceptedPlan}
-use Rattle.bench_rule.specs.declared.views.Held.{Held}
-use Rattle.bench_rule.specs.declared.views.View.{View}
 use Rattle.bench_rule.specs.Views.{Carried, Sitting, HoldsJob, slots_of, with_finished, with_handed_back, with_note, with_taken, without_held, without_slot}
 use Rattle.bench_rule.proofs.Counts.{carries_without, held_often}
 use Rattle.judge_bench.specs.Kept.{WorkerKept}

@@ -154,7 +154,7 @@ fn judge_planners<R: Threads + Wait + Sync, G: Gate + Sync>(
     }
 }
 
-/// What is found of the plans of all files, of which there are so many.
+/// What is found of the plans of all files, of which there are so many. No more threads judge than there are plans.
 fn judge_plans<R: Threads + Wait + Sync, G: Gate + Sync>(
     rt: &R,
     alloc: Global,
@@ -174,6 +174,7 @@ fn judge_plans<R: Threads + Wait + Sync, G: Gate + Sync>(
 {
     let planners = bundles.len() as u32;
     let mut intake = FilePlans::new(alloc, bundles);
+    let workers = workers.min(plans).max(1);
     match run(rt, alloc, task, planners, plans, &mut intake, workers, gate) {
         Ok(findings) => Ok(findings),
         Err(fault) => Err(JudgeFault::from(fault)),

@@ -1,6 +1,6 @@
 //! Calls at a bench: all seats in one thread, and seats in threads of their own.
 
-ghost use Rattle.std.specs.Prelude.{◌≡◌, ◌<◌, ◌≤◌};
+ghost use Rattle.std.specs.Prelude.{◌≡◌, ◌<◌, ◌≤◌, IfSome};
 ghost use Rattle.bench_rule.specs.Views.{HoldsJob};
 ghost use Rattle.judge_bench.specs.Seats.{SitsAt};
 
@@ -91,37 +91,89 @@ fn hand_in(bench: &Bench, owner: &mut Owner, seat: WorkerSeat)
     }
 }
 
-#[test]
-fn one_thread_has_every_seat(rt: HostRuntime) -> Result<(), Fail> {
-    let alloc = rt.alloc();
-    let task = lamp_1(alloc)?;
-    let (bench, mut owner) = Bench::make(alloc, &task, 1, 2)?;
-    assert!(rt; submit(alloc, &bench, &mut owner)?.is_ok_and(|number| number == 0));
-    assert!(rt; submit(alloc, &bench, &mut owner)?.is_ok_and(|number| number == 1));
-    assert!(rt; submit(alloc, &bench, &mut owner)?.is_err_and(|why| why == Refusal::Full));
-    let mut one = owner.seat(&bench);
-    let mut other = owner.seat(&bench);
-    assert!(rt; owner.seats_out() == 2);
-    let Some(first) = one.take(&bench) else {
-        assert!(rt; false, "two jobs wait");
-        return Ok(());
+/// Seats for two workers, if none is out yet.
+fn two_seats(bench: &Bench, owner: &mut Owner) -> Option<(WorkerSeat, WorkerSeat)>
+    requires { SitsAt bench.now owner.old }
+    ensures owner { SitsAt bench.now owner.new }
+    ensures seats { IfSome result (λ seats. SitsAt bench.now seats.0 × SitsAt bench.now seats.1) }
+{
+    if owner.seats_out() != 0 {
+        return None;
+    }
+    let one = owner.seat(bench);
+    let other = owner.seat(bench);
+    Some((one, other))
+}
+
+/// Submits two plans to a bench with two slots, and one more. Whether the third finds it full.
+fn fills(alloc: Global, bench: &Bench, owner: &mut Owner) -> Result<bool, AllocError>
+    requires { SitsAt bench.now owner.old }
+    ensures { SitsAt bench.now owner.new }
+{
+    let first = submit(alloc, bench, owner)?.is_ok_and(|number| number == 0);
+    let second = submit(alloc, bench, owner)?.is_ok_and(|number| number == 1);
+    let third = submit(alloc, bench, owner)?.is_err_and(|why| why == Refusal::Full);
+    Ok(first && second && third)
+}
+
+/// One seat takes job 0 and hands it back, after another finished job 1; the other then finishes job 0 too. Whether it goes so.
+fn judge_in_turn(
+    alloc: Global,
+    bench: &Bench,
+    owner: &mut Owner,
+    one: &mut WorkerSeat,
+    other: &mut WorkerSeat,
+    task: &Task,
+) -> Result<bool, AllocError>
+    requires seats { SitsAt bench.now owner.old × SitsAt bench.now one.old × SitsAt bench.now other.old }
+    requires task { bench.now.setting.task.value ≡ task.now }
+    ensures { SitsAt bench.now owner.new × SitsAt bench.now one.new × SitsAt bench.now other.new }
+{
+    let Some(first) = one.take(bench) else {
+        return Ok(false);
     };
-    assert!(rt; first.job().number == 0 && one.holds() == 1);
-    assert!(rt; judge_next(alloc, &bench, &mut other, &task)? == Some(1));
-    assert!(rt; emit(&bench, &mut owner, 0).is_err_and(|why| why == Refusal::NotReady(0)));
-    one.hand_back(&bench, first);
-    assert!(rt; judge_next(alloc, &bench, &mut other, &task)? == Some(0));
-    assert!(rt; emit(&bench, &mut owner, 0).is_ok_and(|number| number == 0));
-    assert!(rt; emit(&bench, &mut owner, 0).is_ok_and(|number| number == 1));
-    assert!(rt; emit(&bench, &mut owner, 0).is_err_and(|why| why == Refusal::NothingYet));
-    assert!(rt; owner.close(&bench, 0).is_ok());
-    assert!(rt; submit(alloc, &bench, &mut owner)?.is_err_and(|why| why == Refusal::Closed));
-    assert!(rt; emit(&bench, &mut owner, 0).is_err_and(|why| why == Refusal::Complete));
-    assert!(rt; emit(&bench, &mut owner, 1).is_err_and(|why| why == Refusal::NoPlanner));
+    let taken = first.job().number == 0 && one.holds() == 1;
+    let second = judge_next(alloc, bench, other, task)? == Some(1);
+    let early = emit(bench, owner, 0).is_err_and(|why| why == Refusal::NotReady(0));
+    one.hand_back(bench, first);
+    let again = judge_next(alloc, bench, other, task)? == Some(0);
+    Ok(taken && second && early && again)
+}
+
+/// Emits the findings of jobs 0 and 1, and closes the planner. Whether the owner then refuses as it should.
+fn tells_all(alloc: Global, bench: &Bench, owner: &mut Owner) -> Result<bool, AllocError>
+    requires { SitsAt bench.now owner.old }
+    ensures { SitsAt bench.now owner.new }
+{
+    let both = emit_all(bench, owner, 2);
+    let nothing = emit(bench, owner, 0).is_err_and(|why| why == Refusal::NothingYet);
+    let closed = owner.close(bench, 0).is_ok();
+    let late = submit(alloc, bench, owner)?.is_err_and(|why| why == Refusal::Closed);
+    let complete = emit(bench, owner, 0).is_err_and(|why| why == Refusal::Complete);
+    let nobody = emit(bench, owner, 1).is_err_and(|why| why == Refusal::NoPlanner);
+    Ok(both && nothing && closed && late && complete && nobody)
+}
+
+/// What one thread with all seats sees at a bench with two slots. Whether it is right.
+fn one_thread_judges(alloc: Global, task: &Task) -> Result<bool, AllocError> {
+    let (bench, mut owner) = Bench::make(alloc, task, 1, 2)?;
+    let filled = fills(alloc, &bench, &mut owner)?;
+    let Some((mut one, mut other)) = two_seats(&bench, &mut owner) else {
+        return Ok(false);
+    };
+    let out = owner.seats_out() == 2;
+    let judged = judge_in_turn(alloc, &bench, &mut owner, &mut one, &mut other, task)?;
+    let told = tells_all(alloc, &bench, &mut owner)?;
     hand_in(&bench, &mut owner, one);
     hand_in(&bench, &mut owner, other);
-    assert!(rt; owner.seats_out() == 0);
-    assert!(rt; owner.take_own(&bench).is_none());
+    let back = owner.seats_out() == 0 && owner.take_own(&bench).is_none();
+    Ok(filled && out && judged && told && back)
+}
+
+#[test]
+fn one_thread_has_every_seat(rt: HostRuntime) -> Result<(), Fail> {
+    let task = lamp_1(rt.alloc())?;
+    assert!(rt; one_thread_judges(rt.alloc(), &task)?);
     Ok(())
 }
 
@@ -157,7 +209,38 @@ fn work_by_two<G: Gate + Sync>(
     well
 }
 
-/// Submits so many plans, shuts the bench, lets two threads work and emits all findings. Whether each was there, in order.
+/// Submits so many plans. Whether they got the numbers from 0 on.
+fn submit_all(
+    alloc: Global,
+    bench: &Bench,
+    owner: &mut Owner,
+    plans: u32,
+) -> Result<bool, AllocError>
+    requires { SitsAt bench.now owner.old }
+    ensures { SitsAt bench.now owner.new }
+{
+    for number in 0..plans {
+        if !submit(alloc, bench, owner)?.is_ok_and(|job| job == number) {
+            return Ok(false);
+        }
+    }
+    Ok(true)
+}
+
+/// Emits so many findings. Whether they are those of the jobs from 0 on, in order, and each plan is valid.
+fn emit_all(bench: &Bench, owner: &mut Owner, plans: u32) -> bool
+    requires { SitsAt bench.now owner.old }
+    ensures { SitsAt bench.now owner.new }
+{
+    for number in 0..plans {
+        if !emit(bench, owner, 0).is_ok_and(|job| job == number) {
+            return false;
+        }
+    }
+    true
+}
+
+/// Submits so many plans to a bench that is then shut, lets two threads work and emits all findings. Whether each was there, in order.
 fn judges_all<G: Gate + Sync>(
     rt: &(impl AllocGlobal + Threads + Sync),
     task: &Task,
@@ -167,19 +250,13 @@ fn judges_all<G: Gate + Sync>(
     requires { plans ≤ 100 }
 {
     let (bench, mut owner) = Bench::make(rt.alloc(), task, 1, plans)?;
-    let mut well = true;
-    for number in 0..plans {
-        well = submit(rt.alloc(), &bench, &mut owner)?.is_ok_and(|job| job == number) && well;
-    }
+    let submitted = submit_all(rt.alloc(), &bench, &mut owner, plans)?;
     owner.shut(&bench);
     if owner.seats_out() != 0 {
         return Ok(false);
     }
-    well = work_by_two(rt, &bench, &mut owner, task, gate) && well;
-    for number in 0..plans {
-        well = emit(&bench, &mut owner, 0).is_ok_and(|job| job == number) && well;
-    }
-    Ok(well)
+    let worked = work_by_two(rt, &bench, &mut owner, task, gate);
+    Ok(submitted && worked && emit_all(&bench, &mut owner, plans))
 }
 
 #[test]

@@ -1,6 +1,8 @@
 //! Runs over intakes. That plans are judged while others still come in is shown by an intake that waits until the first plan is asked for.
 
-ghost use Rattle.std.specs.Prelude.{◌≡◌, ◌<◌, ◌≤◌, All, IfOk, length};
+ghost use Rattle.std.specs.Option.{option_to_list};
+ghost use Rattle.std.specs.Prelude.{◌≡◌, ◌<◌, ◌≤◌, ◌++◌, All, IfOk, length};
+ghost use Rattle.judge_tests.specs.Plans.{AreOfFirstPlanner};
 
 use crate::fixtures::{LAMP, LAMP_1, is_raised_in_time};
 use crate::gates::Meeting;
@@ -97,19 +99,38 @@ fn are_both_valid(findings: &Findings) -> bool {
     true
 }
 
+/// The intake of two plans that light the lamp, the second of which waits for the flag.
+fn two_with_a_pause(alloc: Global, asked_of_0: &AtomicBool) -> Result<Late<'_>, AllocError>
+    ensures { IfOk result (λ intake. AreOfFirstPlanner 2 (option_to_list intake.first ++ option_to_list intake.second)) }
+{
+    Ok(Late {
+        first: Some(light(alloc)?),
+        second: Some(light(alloc)?),
+        asked_of_0,
+        was_asked: false,
+    })
+}
+
+/// What comes of the plans of such an intake, with two workers.
+fn run_late(
+    rt: &(impl AllocGlobal + Threads + Wait + Sync),
+    task: &Task,
+    intake: &mut Late<'_>,
+    gate: &Watched,
+) -> Result<Findings, RunFault>
+    requires { AreOfFirstPlanner 2 (option_to_list intake.old.first ++ option_to_list intake.old.second) }
+{
+    run(rt, rt.alloc(), task, 1, 2, intake, 2, gate)
+}
+
 #[test]
 fn judges_while_the_intake_goes_on(rt: HostRuntime) -> Result<(), Fail> {
     let task = lamp_1(rt.alloc())?;
     let gate = Watched {
         asked_of_0: AtomicBool::new(false),
     };
-    let mut intake = Late {
-        first: Some(light(rt.alloc())?),
-        second: Some(light(rt.alloc())?),
-        asked_of_0: &gate.asked_of_0,
-        was_asked: false,
-    };
-    let findings = run(&rt, rt.alloc(), &task, 1, 2, &mut intake, 2, &gate)?;
+    let mut intake = two_with_a_pause(rt.alloc(), &gate.asked_of_0)?;
+    let findings = run_late(&rt, &task, &mut intake, &gate)?;
     assert!(rt; are_both_valid(&findings));
     assert!(rt;
         intake.was_asked,

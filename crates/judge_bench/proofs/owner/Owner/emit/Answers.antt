@@ -1,4 +1,4 @@
-use Rattle.std.proofs.Common.{rules, ◌≡◌, ◌<◌, length, ap, sym, ◌∙◌, arith}
+use Rattle.std.proofs.Common.{rules, ◌<◌, length, ap, sym, ◌∙◌, arith}
 use Rattle.intake_rules.specs.declared.reply.Reply.TheVariants.{Refused}
 use Rattle.judge_bench.proofs.NextJobs.{next_is, not_ready_reply}
 use Rattle.judge_bench.proofs.Results.{if_err_more, if_ok_more}

@@ -1,4 +1,4 @@
-use Rattle.std.proofs.Common.{rules, ◌≡◌, ◌<◌, Some, length, subst, arith}
+use Rattle.std.proofs.Common.{rules, ◌≡◌, ◌<◌, length, subst, arith}
 use Rattle.std.specs.Prelude.{MatchOption, None}
 use Rattle.intake_rules.specs.Intake.{next_job}
 use Rattle.intake_rules.specs.Jobs.{AcceptedPlan}

@@ -1,4 +1,4 @@
-use Rattle.std.proofs.Common.{rules, ◌≡◌, ◌≤◌, arith}
+use Rattle.std.proofs.Common.{rules, ◌≡◌, ◌≤◌}
 use Rattle.judge_bench.proofs.Rounds.{second_part, took_first}
 use Rattle.judge_bench.proofs.worker.WorkerSeat.take.Goals as goal
 
