@@ -26,7 +26,7 @@ use plan_text::count_parts;
 use std::alloc::{AllocError, Global};
 use std::sync::Wait;
 use std::thread::Threads;
-use strips_task::Task;
+use strips_task::{Seed, Task};
 
 /// The most planners of a run.
 pub const MOST_PLANNERS: usize = 64;
@@ -39,7 +39,8 @@ pub const MOST_PLANS: usize = 65536;
 /// A file holds one plan or more (`plan_text::Parts`). Their reading and judging never refuse: a text that is no plan is a verdict. The
 /// plans are jobs, numbered from 0 in the order of the files and of the parts of each. They are read one after another, while those that
 /// were read are judged, and the gate is asked of each before it is judged. The whole report is made before anything is written; without
-/// planners it is the first line alone. Waits until all threads are done.
+/// planners it is the first line alone. Tables of names and atoms hash with the seed; the report is the same with any. Waits until all
+/// threads are done.
 ///
 /// A run without a report is refused for the first cause in the order of `JudgeFault`. The plans are counted before any is read. Which kind
 /// of fault a text has, and where, once its bytes and parentheses are right, is the reader's to say. Want of memory can come in place of any
@@ -48,6 +49,7 @@ pub const MOST_PLANS: usize = 65536;
 pub fn judge_bytes<R: Threads + Wait + Sync, G: Gate + Sync>(
     rt: &R,
     alloc: Global,
+    seed: Seed,
     domain: &[u8],
     problem: &[u8],
     bundles: &[Bundle],
@@ -72,7 +74,7 @@ pub fn judge_bytes<R: Threads + Wait + Sync, G: Gate + Sync>(
             if bundles.len() > MOST_PLANNERS {
                 return Err(JudgeFault::TooManyPlanners);
             }
-            match read_task(alloc, domain, problem) {
+            match read_task(alloc, seed, domain, problem) {
                 Ok(task) => judge_planners(rt, alloc, &task, bundles, workers, gate),
                 Err(fault) => Err(fault),
             }
@@ -98,15 +100,20 @@ fn too_large(domain: &[u8], problem: &[u8], bundles: &[Bundle]) -> Option<usize>
     None
 }
 
-/// The task of a domain text and a problem text.
-pub(crate) fn read_task(alloc: Global, domain: &[u8], problem: &[u8]) -> Result<Task, JudgeFault>
+/// The task of a domain text and a problem text, which hashes with a seed.
+pub(crate) fn read_task(
+    alloc: Global,
+    seed: Seed,
+    domain: &[u8],
+    problem: &[u8],
+) -> Result<Task, JudgeFault>
     ensures task { IfOk result (λ task. task_of domain.now problem.now ≡ Some task) }
     ensures refusal { IfErr result (λ fault. fault ≢ OutOfMemory → task_of domain.now problem.now ≡ None) }
     ensures cause { IfErr result (λ fault. fault ≢ OutOfMemory → ReadingCallsFor domain.now problem.now fault) }
     ensures domain_text { (e : read_fault.ReadFault) → text_fault domain.now ≡ Some e → result ≡ Err (Domain e) }
     ensures reader { IfErr result (λ fault. (place : ℕ) → fault ≢ TooLarge place) }
 {
-    let domain = match read_domain(alloc, domain) {
+    let domain = match read_domain(alloc, seed, domain) {
         Ok(domain) => domain,
         Err(fault) => return Err(refusal(fault, JudgeFault::Domain(fault))),
     };

@@ -2,7 +2,8 @@
 //!
 //! ```text
 //! let bundles = [Bundle { name, bytes }];    // the file of a planner
-//! let report = judge_bytes(rt, alloc, domain, problem, &bundles, 4, &Open)?;
+//! let seed = Seed::new(&RandomState::new(rt)?);    // the hash of this run, which shows in no report
+//! let report = judge_bytes(rt, alloc, seed, domain, problem, &bundles, 4, &Open)?;
 //! write_report(&report, &mut Sink::new(rt.stdout()))?;
 //! ```
 //!
@@ -25,3 +26,5 @@ pub mod replay;
 mod replies;
 pub mod report;
 mod text;
+
+pub use strips_task::Seed;

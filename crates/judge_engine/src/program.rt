@@ -6,6 +6,7 @@ ghost use Rattle.std.specs.Io.KnownBytes.{Appends};
 ghost use Rattle.judge_engine.specs.Outlet.{AppendsFront};
 ghost use Rattle.judge_engine.specs.Run.{IsReportOver, WritesReport, CutsReport, IsReplayOver, WritesReplay, CutsReplay, IsFile, AreFiles};
 
+use crate::Seed;
 use crate::bundle::Bundle;
 use crate::command::{JudgeRequest, ReplayRequest, Request, parse};
 use crate::engine::judge_bytes;
@@ -50,9 +51,11 @@ impl<T: Drop> From<AllocFailed<T>> for Stop {
 /// be started, and 4 where
 /// the report or help could not be written.
 ///
-/// A report goes to `out` whole or, where `out` fails, from its front. What else is told goes to `err`, whose faults are ignored.
+/// A report goes to `out` whole or, where `out` fails, from its front. What else is told goes to `err`, whose faults are ignored. Tables of
+/// names and atoms hash with the seed, which shows in nothing that is written.
 pub fn main_with<R: AllocGlobal + Threads + Wait + Sync, S: Sources, O: Outlet, E: Outlet>(
     rt: &R,
+    seed: Seed,
     words: &[String],
     sources: &S,
     out: &mut O,
@@ -64,8 +67,8 @@ pub fn main_with<R: AllocGlobal + Threads + Wait + Sync, S: Sources, O: Outlet, 
     ensures untouched { 0 < result → result < 4 → out.new ≡ out.old }
 {
     match parse(rt.alloc(), words) {
-        Ok(Request::Judge(files)) => judge_with(rt, &files, sources, out, err),
-        Ok(Request::Replay(files)) => replay_with(rt.alloc(), &files, sources, out, err),
+        Ok(Request::Judge(files)) => judge_with(rt, seed, &files, sources, out, err),
+        Ok(Request::Replay(files)) => replay_with(rt.alloc(), seed, &files, sources, out, err),
         Ok(Request::Show(text)) => write_out(&Report::from_bytes(text.into_bytes()), out, err),
         Ok(Request::Refused(text)) => {
             tell(err, text.as_bytes());
@@ -78,6 +81,7 @@ pub fn main_with<R: AllocGlobal + Threads + Wait + Sync, S: Sources, O: Outlet, 
 /// Judges the plans of files, one for each planner, and answers the exit status, as `main_with` does for a command line that names these files.
 pub fn judge_with<R: AllocGlobal + Threads + Wait + Sync, S: Sources, O: Outlet, E: Outlet>(
     rt: &R,
+    seed: Seed,
     files: &JudgeRequest<'_>,
     sources: &S,
     out: &mut O,
@@ -92,7 +96,7 @@ pub fn judge_with<R: AllocGlobal + Threads + Wait + Sync, S: Sources, O: Outlet,
     ensures unwritten { (result ≡ 4) ↔ (O.failed out.new ≡ true) }
     ensures untouched { 0 < result → result < 4 → out.new ≡ out.old }
 {
-    match judge_files(rt, files, sources) {
+    match judge_files(rt, seed, files, sources) {
         Ok(report) => write_out(&report, out, err),
         Err(stop) => stopped(stop, err),
     }
@@ -101,6 +105,7 @@ pub fn judge_with<R: AllocGlobal + Threads + Wait + Sync, S: Sources, O: Outlet,
 /// Replays the steps of a file, and answers the exit status, as `main_with` does for a command line that names these files.
 pub fn replay_with<S: Sources, O: Outlet, E: Outlet>(
     alloc: Global,
+    seed: Seed,
     files: &ReplayRequest<'_>,
     sources: &S,
     out: &mut O,
@@ -115,7 +120,7 @@ pub fn replay_with<S: Sources, O: Outlet, E: Outlet>(
     ensures unwritten { (result ≡ 4) ↔ (O.failed out.new ≡ true) }
     ensures untouched { 0 < result → result < 4 → out.new ≡ out.old }
 {
-    match replay_files(alloc, files, sources) {
+    match replay_files(alloc, seed, files, sources) {
         Ok(report) => write_out(&report, out, err),
         Err(stop) => stopped(stop, err),
     }
@@ -173,6 +178,7 @@ fn tell<E: Outlet>(err: &mut E, bytes: &[u8]) {
 /// The report of a run over files. They are read in the order of domain, problem and plans.
 fn judge_files<R: AllocGlobal + Threads + Wait + Sync, S: Sources>(
     rt: &R,
+    seed: Seed,
     files: &JudgeRequest<'_>,
     sources: &S,
 ) -> Result<Report, Stop>
@@ -185,6 +191,7 @@ fn judge_files<R: AllocGlobal + Threads + Wait + Sync, S: Sources>(
     match judge_bytes(
         rt,
         alloc,
+        seed,
         domain.as_slice(),
         problem.as_slice(),
         bundles.as_slice(),
@@ -202,6 +209,7 @@ fn judge_files<R: AllocGlobal + Threads + Wait + Sync, S: Sources>(
 /// The lines of a replay over files. They are read in the order of domain, problem and steps.
 fn replay_files<S: Sources>(
     alloc: Global,
+    seed: Seed,
     files: &ReplayRequest<'_>,
     sources: &S,
 ) -> Result<Report, Stop>
@@ -212,6 +220,7 @@ fn replay_files<S: Sources>(
     let steps = read(alloc, sources, files.steps)?;
     match replay_bytes(
         alloc,
+        seed,
         domain.as_slice(),
         problem.as_slice(),
         steps.as_slice(),

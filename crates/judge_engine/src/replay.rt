@@ -17,15 +17,17 @@ use crate::report::Report;
 use intake_core::{ReplayFault, replay};
 use std::alloc::{AllocError, Global};
 use steps_text::{StepsRefusal, StepsText, read_steps};
-use strips_task::Task;
+use strips_task::{Seed, Task};
 
 /// The lines that a new desk answers to the steps of a text, for the task of a domain text and a problem text.
 ///
-/// All texts are read before a step is run, and all lines are made before anything is written. A replay without lines is refused for the
+/// All texts are read before a step is run, and all lines are made before anything is written. Tables of names and atoms hash with the
+/// seed; the lines are the same with any. A replay without lines is refused for the
 /// first cause in the order of `JudgeFault`. Want of memory can come in place of any cause but that a text is too large.
 #[tactic(auto, using(crate::proofs::ReplayAnswers::too_large_text, crate::proofs::ReplayAnswers::no_task, crate::proofs::ReplayAnswers::of_task, crate::proofs::ReplayAnswers::faulty_steps))]
 pub fn replay_bytes(
     alloc: Global,
+    seed: Seed,
     domain: &[u8],
     problem: &[u8],
     steps: &[u8],
@@ -36,7 +38,7 @@ pub fn replay_bytes(
 {
     match too_large(domain, problem, steps) {
         Some(place) => Err(JudgeFault::TooLarge(place)),
-        None => match read_task(alloc, domain, problem) {
+        None => match read_task(alloc, seed, domain, problem) {
             Ok(task) => match replay_for(alloc, task, steps) {
                 Ok(report) => Ok(report),
                 Err(fault) => Err(fault),

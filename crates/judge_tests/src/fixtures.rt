@@ -2,6 +2,7 @@
 
 ghost use Rattle.std.specs.Prelude.{◌≡◌, false};
 
+use judge_engine::Seed;
 use judge_engine::inlet::{InFault, Sources};
 use judge_engine::outlet::{Failed, Outlet};
 use judge_engine::program::main_with;
@@ -21,12 +22,19 @@ pub(crate) const LAMP_1: &[u8] =
     b"(define (problem lamp-1) (:domain lamp) (:init (dark)) (:goal (lit)))
 ";
 
-/// The words of a run over the files `domain`, `problem` and `plan`.
-pub(crate) const JUDGE: &str = "plan_judge judge --domain domain --problem problem plan";
+/// The words of a run over the files `domain` and `problem` and those of three planners.
+pub(crate) const JUDGE: &str = "plan_judge judge --domain domain --problem problem p q r";
 
 /// The report of that run.
-pub(crate) const REPORT: &[u8] =
-    b"domain lamp problem lamp-1\nplan 1 valid 1\nplan plans 1 valid 1 best 1\n";
+pub(crate) const REPORT: &[u8] = b"domain lamp problem lamp-1
+p 1 valid 1
+p plans 1 valid 1 best 1
+q 1 valid 1
+q 2 fails at 2 (light): missing (dark)
+q plans 2 valid 1 best 1
+r 1 fails at 1 (fly): unknown action
+r plans 1 valid 0 best -
+";
 
 /// The files of that run. There are no others.
 #[derive(Drop)]
@@ -43,7 +51,9 @@ impl Sources for Shelf {
         let bytes: &[u8] = match name {
             "domain" => LAMP,
             "problem" => LAMP_1,
-            "plan" => b"(light)\n",
+            "p" => b"(light)\n",
+            "q" => b"(light)\n---\n(light) (light)\n",
+            "r" => b"(fly)\n",
             _ => return Err(InFault::Unreadable),
         };
         match bytes.to_vec(self.alloc) {
@@ -130,7 +140,14 @@ pub(crate) fn run(
     requires { out.old.failed ≡ false }
 {
     match line(rt.alloc(), words) {
-        Ok(words) => main_with(rt, words.as_slice(), &Shelf { alloc: rt.alloc() }, out, err),
+        Ok(words) => main_with(
+            rt,
+            Seed::fixed(),
+            words.as_slice(),
+            &Shelf { alloc: rt.alloc() },
+            out,
+            err,
+        ),
         Err(AllocError) => 9,
     }
 }

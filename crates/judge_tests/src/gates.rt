@@ -4,6 +4,7 @@ ghost use Rattle.std.specs.Prelude.{◌≡◌, ◌≤◌};
 
 use crate::fixtures::{LAMP, LAMP_1, is_raised_in_time};
 use judge_bench::{Gate, Open};
+use judge_engine::Seed;
 use judge_engine::bundle::Bundle;
 use judge_engine::engine::judge_bytes;
 use judge_engine::fault::JudgeFault;
@@ -13,19 +14,20 @@ use std::sync::Wait;
 use std::sync::atomic::{AtomicBool, Ordering};
 use std::thread::Threads;
 
-/// The gate that may hold one job alone, and does.
+/// The gate that may hold the jobs from one to another, and holds them all.
 #[derive(Drop)]
 struct Holds {
-    job: u32,
+    first: u32,
+    last: u32,
 }
 
 impl Gate for Holds {
-    ghost use Rattle.std.specs.Prelude.{◌≡◌};
+    ghost use Rattle.std.specs.Prelude.{◌≤◌};
 
-    ghost may_hold = { λ gate job. job ≡ gate.job };
+    ghost may_hold = { λ gate job. (gate.first ≤ job) × (job ≤ gate.last) };
 
     fn hold(&self, job: u32) -> bool {
-        job == self.job
+        self.first <= job && job <= self.last
     }
 }
 
@@ -74,25 +76,54 @@ fn bundle(alloc: Global, bytes: &[u8]) -> Result<Bundle, AllocError> {
     })
 }
 
-/// The report of a planner with two plans that light the lamp.
-fn two_plans<G: Gate + Sync>(
+/// The file of a planner with two plans that light the lamp, and of one with three.
+const TWO: &[u8] = b"(light)\n---\n(light)\n";
+
+const THREE: &[u8] = b"(light)\n---\n(light)\n---\n(light)\n";
+
+/// The report of a planner's file.
+fn judged<G: Gate + Sync>(
     rt: &(impl AllocGlobal + Threads + Wait + Sync),
+    plans: &[u8],
     workers: u32,
     gate: &G,
 ) -> Result<Report, JudgeFault>
     requires { (1 ≤ workers) × (workers ≤ 32) }
 {
-    let bundles = [bundle(rt.alloc(), b"(light)\n---\n(light)\n")?];
-    judge_bytes(rt, rt.alloc(), LAMP, LAMP_1, &bundles, workers, gate)
+    let bundles = [bundle(rt.alloc(), plans)?];
+    judge_bytes(
+        rt,
+        rt.alloc(),
+        Seed::fixed(),
+        LAMP,
+        LAMP_1,
+        &bundles,
+        workers,
+        gate,
+    )
+}
+
+/// The first of the held jobs from `first` to `last` that a run over three plans tells.
+fn held(
+    rt: &(impl AllocGlobal + Threads + Wait + Sync),
+    workers: u32,
+    first: u32,
+    last: u32,
+) -> Option<u32>
+    requires { (1 ≤ workers) × (workers ≤ 32) }
+{
+    match judged(rt, THREE, workers, &Holds { first, last }) {
+        Err(JudgeFault::Held(job)) => Some(job),
+        _ => None,
+    }
 }
 
 #[test]
 fn a_held_job_is_told(rt: HostRuntime) {
     for workers in [1, 2, 32] {
-        let held = two_plans(&rt, workers, &Holds { job: 1 });
-        assert!(rt; held.is_err_and(|fault| fault == JudgeFault::Held(1)));
-        let passed = two_plans(&rt, workers, &Holds { job: 2 });
-        assert!(rt; passed.is_ok());
+        assert!(rt; held(&rt, workers, 1, 1) == Some(1));
+        assert!(rt; matches!(held(&rt, workers, 1, 2), Some(1 | 2)));
+        assert!(rt; judged(&rt, THREE, workers, &Holds { first: 3, last: 9 }).is_ok());
     }
 }
 
@@ -100,12 +131,12 @@ fn a_held_job_is_told(rt: HostRuntime) {
 fn two_workers_judge_at_once(rt: HostRuntime) {
     let expected: &[u8] =
         b"domain lamp problem lamp-1\np 1 valid 1\np 2 valid 1\np plans 2 valid 2 best 1\n";
-    let met = two_plans(&rt, 2, &Meeting::new());
+    let met = judged(&rt, TWO, 2, &Meeting::new());
     assert!(rt;
         met.is_ok_and(|report| report.bytes() == expected),
         "both jobs were asked for at once"
     );
-    let alone = two_plans(&rt, 1, &Meeting::new());
+    let alone = judged(&rt, TWO, 1, &Meeting::new());
     assert!(rt;
         alone.is_err_and(|fault| { fault == JudgeFault::Held(0) || fault == JudgeFault::Held(1) })
     );
@@ -113,7 +144,7 @@ fn two_workers_judge_at_once(rt: HostRuntime) {
 
 #[test]
 fn a_run_without_planners_has_the_first_line_alone(rt: HostRuntime) {
-    match judge_bytes(&rt, rt.alloc(), LAMP, LAMP_1, &[], 4, &Open) {
+    match judge_bytes(&rt, rt.alloc(), Seed::fixed(), LAMP, LAMP_1, &[], 4, &Open) {
         Ok(report) => assert!(rt; report.bytes() == b"domain lamp problem lamp-1\n".as_slice()),
         Err(_) => assert!(rt; false, "memory was ample"),
     }

@@ -7,7 +7,7 @@ ghost use Rattle.judge_tests.specs.Plans.{AreOfFirstPlanner};
 use crate::fixtures::{LAMP, LAMP_1, is_raised_in_time};
 use crate::gates::Meeting;
 use judge_bench::{Findings, Gate, Intake, Listed, RunFault, Submission, run};
-use pddl_reader::{ReadFault, read_domain, read_problem};
+use pddl_reader::{ReadFault, Seed, read_domain, read_problem};
 use plan_text::read_plan;
 use std::alloc::{AllocError, Global};
 use std::sync::atomic::{AtomicBool, Ordering};
@@ -62,7 +62,7 @@ impl Intake for Late<'_> {
 
 /// The task of the lamp that is dark.
 pub(crate) fn lamp_1(alloc: Global) -> Result<Task, ReadFault> {
-    read_problem(alloc, read_domain(alloc, LAMP)?, LAMP_1)
+    read_problem(alloc, read_domain(alloc, Seed::fixed(), LAMP)?, LAMP_1)
 }
 
 /// The plan of the first planner that lights the lamp.

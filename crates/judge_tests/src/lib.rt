@@ -16,3 +16,5 @@ mod inlets;
 mod intakes;
 #[cfg(test)]
 mod outlets;
+#[cfg(test)]
+mod seeds;

@@ -45,7 +45,7 @@ fn status_with(
 
 #[test]
 fn faults_of_the_outlet_for_errors_are_ignored(rt: HostRuntime) {
-    let missing = "plan_judge judge --domain domain --problem nosuch plan";
+    let missing = "plan_judge judge --domain domain --problem nosuch p";
     for told in [0, 1, 7] {
         assert_eq!(rt; status_with(&rt, JUDGE, 1000, told), 0);
         assert_eq!(rt; status_with(&rt, missing, 1000, told), 1);

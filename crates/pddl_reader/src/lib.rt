@@ -1,7 +1,8 @@
 //! Reads PDDL domains and problems (PDDL 2.1, Fox and Long 2003, level 1): STRIPS with types, and negated conditions.
 //!
 //! ```text
-//! let domain = read_domain(alloc, domain_text)?;
+//! let seed = Seed::new(&RandomState::new(&rt)?);    // the hash of this run; no answer depends on it
+//! let domain = read_domain(alloc, seed, domain_text)?;
 //! let task = read_problem(alloc, domain, problem_text)?;    // a strips_task::Task
 //! ```
 //!
@@ -17,3 +18,4 @@ mod resolution;
 pub use pddl_syntax::{FaultKind, ReadFault};
 pub use readers::{read_domain, read_problem};
 pub use resolution::domain::Domain;
+pub use strips_task::Seed;

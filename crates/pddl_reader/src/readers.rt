@@ -10,17 +10,18 @@ use crate::resolution::domain::{Domain, resolve_domain};
 use crate::resolution::problem::resolve_problem;
 use pddl_syntax::{ReadFault, check_text, domain_text, problem_text};
 use std::alloc::Global;
-use strips_task::Task;
+use strips_task::{Seed, Task};
 
-/// Reads a domain (PDDL 2.1, Fox and Long 2003, appendix A). Walks over the text twice, and looks each name up by one hash.
+/// Reads a domain (PDDL 2.1, Fox and Long 2003, appendix A). Walks over the text twice, and looks each name up by one hash. The tables of
+/// the domain, and those of the task that is made of it, hash with the seed; the domain is the same with any.
 #[tactic(auto, using(crate::proofs::TextSteps::domain_text_steps))]
-pub fn read_domain(alloc: Global, text: &[u8]) -> Result<Domain, ReadFault>
+pub fn read_domain(alloc: Global, seed: Seed, text: &[u8]) -> Result<Domain, ReadFault>
     ensures domain { Gives (λ domain. domain) result (domain_of_text text.now) }
     ensures fault { (e : read_fault.ReadFault) → text_fault text.now ≡ Some e → result ≡ Err e }
 {
     check_text(text)?;
     let syntax = domain_text(alloc, text)?;
-    resolve_domain(alloc, &syntax)
+    resolve_domain(alloc, seed, &syntax)
 }
 
 /// Reads a problem (PDDL 2.1, Fox and Long 2003, appendix A) and makes a task of it and its domain. The name that the problem gives for

@@ -3,12 +3,15 @@
 //! All that it does is in the library `judge_engine`; here are only the real command line, files and outputs.
 #![tactic(auto)]
 
+use judge_engine::Seed;
 use judge_engine::inlet::Files;
 use judge_engine::outlet::Sink;
 use judge_engine::program::{main_with, out_of_memory};
 use std::env;
+use std::hash::RandomState;
 use std::io::ErrorKind;
 use std::process::ExitCode;
+use std::random::RandomSource;
 
 fn main(rt: HostRuntime) -> ExitCode {
     let mut err = Sink::new(rt.stderr());
@@ -24,5 +27,20 @@ fn main(rt: HostRuntime) -> ExitCode {
         Err(_) => return ExitCode::from(out_of_memory(&mut err)),
     };
     let mut out = Sink::new(rt.stdout());
-    ExitCode::from(main_with(&rt, words.as_slice(), &Files::new(&rt), &mut out, &mut err))
+    ExitCode::from(main_with(
+        &rt,
+        seed(&rt),
+        words.as_slice(),
+        &Files::new(&rt),
+        &mut out,
+        &mut err,
+    ))
+}
+
+/// A seed that only this run knows, or the fixed one where the system has no random bytes.
+fn seed(rt: &impl RandomSource) -> Seed {
+    match RandomState::new(rt) {
+        Ok(keys) => Seed::new(&keys),
+        Err(_) => Seed::fixed(),
+    }
 }

@@ -14,8 +14,9 @@ ghost use Rattle.strips_judge.specs.Step.{missing};
 use crate::grounding::ground;
 use crate::numbers::copy_of;
 use crate::state::NumberedState;
+use indexmap::IndexSet;
 use std::alloc::{AllocError, Global};
-use strips_task::{Atom, Cond, CondList, GroundCond};
+use strips_task::{Atom, Cond, CondList, GroundCond, Seed};
 
 /// The conditions of an action that do not hold, in order, each at its first place only.
 pub(crate) fn missing(
@@ -28,14 +29,14 @@ pub(crate) fn missing(
     requires { All (λ cond. IsPatternWithin (length objects.now) cond.pattern) conds.now }
     ensures { IfOk result (λ found. found ≡ missing (state_of state.now) (map (ground_condition objects.now) conds.now)) }
 {
-    let mut found = CondList::new(alloc);
+    let mut found = IndexSet::with_hasher(alloc, state.seed());
     for cond in conds {
         ground(&cond.pattern, objects, atom)?;
         if !holds(state, cond.positive, atom) {
             note(alloc, &mut found, cond.positive, atom)?;
         }
     }
-    Ok(found)
+    listed(alloc, found)
 }
 
 /// The ground conditions that do not hold, in order, each at its first place only.
@@ -46,13 +47,13 @@ pub(crate) fn missing_ground(
 ) -> Result<CondList, AllocError>
     ensures { IfOk result (λ found. found ≡ missing (state_of state.now) conds.now) }
 {
-    let mut found = CondList::new(alloc);
+    let mut found = IndexSet::with_hasher(alloc, state.seed());
     for cond in conds {
         if !holds(state, cond.positive, &cond.atom) {
             note(alloc, &mut found, cond.positive, &cond.atom)?;
         }
     }
-    Ok(found)
+    listed(alloc, found)
 }
 
 /// Whether an atom is true, or where it must not be, false.
@@ -66,16 +67,26 @@ fn holds(state: &NumberedState<'_>, positive: bool, atom: &Atom) -> bool
     }
 }
 
-/// Adds a condition at the end, unless it is there.
-fn note(alloc: Global, found: &mut CondList, positive: bool, atom: &Atom) -> Result<(), AllocError>
-    ensures { OnOk result (found.new ≡ insert_key cond_eq found.old (record { positive = positive; atom = atom.now })) }
+/// Adds a condition at the end, unless it is there. Takes one hash, however many there are.
+fn note(
+    alloc: Global,
+    found: &mut IndexSet<GroundCond, Seed>,
+    positive: bool,
+    atom: &Atom,
+) -> Result<(), AllocError>
+    ensures { OnOk result (found.new.keys ≡ insert_key cond_eq found.old.keys (record { positive = positive; atom = atom.now })) }
 {
     let cond = GroundCond {
         positive,
         atom: copy_of(alloc, atom)?,
     };
-    if !found.as_slice().contains(&cond) {
-        found.push(cond)?;
-    }
+    found.insert(cond)?;
     Ok(())
+}
+
+/// The conditions of a set, in their order.
+fn listed(alloc: Global, found: IndexSet<GroundCond, Seed>) -> Result<CondList, AllocError>
+    ensures { IfOk result (λ list. list ≡ found.keys) }
+{
+    Ok(CondList::from_vec(found.into_iter().collect(alloc)?))
 }

@@ -5,7 +5,7 @@ ghost use Rattle.strips_judge.specs.Numbers.{number_in};
 
 use indexmap::IndexSet;
 use std::alloc::{AllocError, Global};
-use strips_task::{Atom, ShortSeq};
+use strips_task::{Atom, Seed, ShortSeq};
 
 /// An atom of its own with the same predicate and arguments.
 pub(crate) fn copy_of(alloc: Global, atom: &Atom) -> Result<Atom, AllocError>
@@ -18,7 +18,7 @@ pub(crate) fn copy_of(alloc: Global, atom: &Atom) -> Result<Atom, AllocError>
 }
 
 /// The number of an atom, if it has one.
-pub(crate) fn number_in(atoms: &IndexSet<Atom>, atom: &Atom) -> Option<usize>
+pub(crate) fn number_in(atoms: &IndexSet<Atom, Seed>, atom: &Atom) -> Option<usize>
     ensures { result ≡ number_in atoms.now.keys atom.now }
 {
     atoms.get_index_of(atom)
@@ -27,7 +27,7 @@ pub(crate) fn number_in(atoms: &IndexSet<Atom>, atom: &Atom) -> Option<usize>
 /// The number of an atom, which is added at the end where it had none. The others keep theirs.
 pub(crate) fn number_or_add(
     alloc: Global,
-    atoms: &mut IndexSet<Atom>,
+    atoms: &mut IndexSet<Atom, Seed>,
     atom: &Atom,
 ) -> Result<usize, AllocError>
     ensures numbered { IfOk result (λ number. number_in atoms.new.keys atom.now ≡ Some number) }

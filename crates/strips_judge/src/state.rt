@@ -10,14 +10,14 @@ use crate::numbers::{number_in, number_or_add};
 use bit_rows::Row;
 use indexmap::IndexSet;
 use std::alloc::{AllocError, Global};
-use strips_task::{Atom, InitialAtoms};
+use strips_task::{Atom, InitialAtoms, Seed};
 
 /// A set of ground atoms.
 #[derive(Drop)]
 pub(crate) struct NumberedState<'t> {
     initial: &'t InitialAtoms,
     initial_bits: Row,
-    later: IndexSet<Atom>,
+    later: IndexSet<Atom, Seed>,
     later_bits: Row,
 }
 
@@ -34,9 +34,14 @@ impl NumberedState<'_> {
         Ok(NumberedState {
             initial,
             initial_bits: Row::with_first(alloc, initial.distinct_len())?,
-            later: IndexSet::new(alloc),
+            later: IndexSet::with_hasher(alloc, initial.seed()),
             later_bits: Row::new(alloc),
         })
+    }
+
+    /// The seed that its tables hash with.
+    pub(crate) fn seed(&self) -> Seed {
+        self.initial.seed()
     }
 
     /// Whether an atom is true.

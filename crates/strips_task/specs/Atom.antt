@@ -15,9 +15,6 @@ atom_eq = eq_of_both (on (λ a. a.pred) nat_eq) (on (λ a. a.args) (pointwise na
 abbrev pub cond_eq : GroundCond → GroundCond → Bool
 cond_eq = eq_of_both (on (λ c. c.positive) beq) (on (λ c. c.atom) atom_eq)
 
--- what of an atom is hashed: its parts as the digits of a number to a base above them all, without what passes 64 bits
-abbrev pub key_behind : ℕ → List ℕ → ℕ
-key_behind pred args = fold (λ key arg. (key * 65599 % 2 ^ 64 + arg) % 2 ^ 64) pred args
-
-abbrev pub atom_key : Atom → ℕ
-atom_key atom = key_behind atom.pred atom.args
+-- a predicate and its first arguments as the digits of a number to the base 2^16: up to three arguments fit into 64 bits
+abbrev pub front : ℕ → List ℕ → ℕ
+front pred args = fold (λ word arg. (word * 65536 % 2 ^ 64 + arg) % 2 ^ 64) pred args

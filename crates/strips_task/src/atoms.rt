@@ -7,7 +7,7 @@ ghost use Rattle.std.specs.Cmp.Lexicographic.{pointwise};
 ghost use Rattle.std.specs.Hash as fed;
 ghost use Rattle.std.specs.Cmp.Rules.{comparing, hashing};
 ghost use Rattle.std.proofs.Common.{rules};
-ghost use Rattle.strips_task.specs.Atom.{key_behind};
+ghost use Rattle.strips_task.specs.Atom.{front};
 
 use crate::{Seq, ShortSeq};
 use std::hash::{Hash, Hasher};
@@ -60,26 +60,29 @@ impl Eq for Atom {
 }
 
 impl Hash for Atom {
-    ghost use Rattle.strips_task.specs.Atom.{atom_key};
+    ghost use Rattle.std.specs.Prelude.{◌++◌, take, drop};
+    ghost use Rattle.std.specs.List.{flat_map};
+    ghost use Rattle.strips_task.specs.Atom.{front};
 
-    ghost hash_input = { λ a. fed.u64 (atom_key a) };
+    ghost hash_input = { λ a. fed.u64 (front a.pred (take 3 a.args)) ++ flat_map fed.u16 (drop 3 a.args) };
 
     ghost respects_eq = { Prim.search (hashing, rules) };
 
     fn hash<H: Hasher>(&self, state: &mut H) {
-        atom_key(self.pred, self.args.as_slice()).hash(state);
+        let args = self.args.as_slice();
+        let (first, others) = args.split_at(args.len().min(3));
+        front(self.pred, first).hash(state);
+        u16::hash_slice(others, state);
     }
 }
 
-/// What of an atom is hashed: one number for all its parts, so that a look-up mixes once. Atoms of up to three arguments have different
-/// ones.
-fn atom_key(pred: u16, args: &[u16]) -> u64
-    ensures { result ≡ key_behind pred args.now }
+/// A predicate and up to three arguments side by side in one word, so that nearly all atoms are hashed by one write. Others have other words.
+fn front(pred: u16, args: &[u16]) -> u64
+    ensures { result ≡ front pred args.now }
 {
-    args.iter().fold(
-        pred as u64,
-        |key, arg| key.wrapping_mul(65_599).wrapping_add(*arg as u64),
-    )
+    args.iter().fold(pred as u64, |word, arg| {
+        word.wrapping_mul(65_536).wrapping_add(*arg as u64)
+    })
 }
 
 impl PartialEq for GroundCond {
@@ -96,4 +99,17 @@ impl PartialEq for GroundCond {
 
 impl Eq for GroundCond {
     ghost laws = { Prim.search (comparing, rules) };
+}
+
+impl Hash for GroundCond {
+    ghost use Rattle.std.specs.Prelude.{◌++◌};
+
+    ghost hash_input = { λ c. fed.bool c.positive ++ ⟦<Atom as Hash>⟧.hash_input c.atom };
+
+    ghost respects_eq = { Prim.search (hashing, rules) };
+
+    fn hash<H: Hasher>(&self, state: &mut H) {
+        self.positive.hash(state);
+        self.atom.hash(state);
+    }
 }

@@ -7,7 +7,7 @@ ghost use Rattle.std.specs.List.{position_from};
 ghost use Rattle.strips_task.specs.FirstPlaces.{first_places};
 ghost use Rattle.strips_task.specs.Atom.{atom_eq};
 
-use crate::Atom;
+use crate::{Atom, Seed};
 use indexmap::IndexSet;
 use std::alloc::{AllocFailed, Global};
 use std::marker::Model;
@@ -15,7 +15,7 @@ use std::marker::Model;
 /// The initial atoms in the order of the text, repeats kept. Contracts see the list of them.
 #[derive(Debug, Drop)]
 pub struct InitialAtoms {
-    distinct: IndexSet<Atom>,
+    distinct: IndexSet<Atom, Seed>,
     numbers: Vec<usize>,
 }
 
@@ -36,12 +36,12 @@ impl Model for InitialAtoms {
 }
 
 impl InitialAtoms {
-    /// The empty list. Takes no memory.
-    pub fn new(alloc: Global) -> Self
+    /// The empty list, which hashes with a seed. Takes no memory.
+    pub fn new(alloc: Global, seed: Seed) -> Self
         ensures { result ≡ [] }
     {
         InitialAtoms {
-            distinct: IndexSet::new(alloc),
+            distinct: IndexSet::with_hasher(alloc, seed),
             numbers: Vec::new(alloc),
         }
     }
@@ -58,6 +58,11 @@ impl InitialAtoms {
         let (number, _) = self.distinct.insert_full(atom)?;
         self.numbers.push_reserved(number);
         Ok(())
+    }
+
+    /// The seed that the list hashes with.
+    pub fn seed(&self) -> Seed {
+        *self.distinct.hasher()
     }
 
     /// How many atoms the list holds, repeats counted.

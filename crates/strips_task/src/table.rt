@@ -8,7 +8,7 @@ ghost use Rattle.std.specs.Map.Iter.{ShowsInOrder, deref};
 ghost use Rattle.std.specs.Option.{option_copied};
 ghost use Rattle.strips_task.specs.Names.{number_named, are_distinct};
 
-use crate::{Name, Word};
+use crate::{Name, Seed, Word};
 use indexmap::IndexMap;
 use indexmap::map::Values;
 use std::alloc::{AllocFailed, Global};
@@ -17,7 +17,7 @@ use std::marker::Model;
 /// A table from distinct names to values, in the order in which they were inserted. Contracts see the list of its entries.
 #[derive(Debug, Drop)]
 pub struct NameTable<V> {
-    entries: IndexMap<Name, V>,
+    entries: IndexMap<Name, V, Seed>,
 }
 
 impl<V> Model for NameTable<V> {
@@ -33,13 +33,18 @@ impl<V> Model for NameTable<V> {
 }
 
 impl<V> NameTable<V> {
-    /// The empty table. Takes no memory.
-    pub fn new(alloc: Global) -> Self
+    /// The empty table, which hashes with a seed. Takes no memory.
+    pub fn new(alloc: Global, seed: Seed) -> Self
         ensures { result ≡ [] }
     {
         NameTable {
-            entries: IndexMap::new(alloc),
+            entries: IndexMap::with_hasher(alloc, seed),
         }
+    }
+
+    /// The seed that the table hashes with.
+    pub fn seed(&self) -> Seed {
+        *self.entries.hasher()
     }
 
     /// How many entries the table has.

@@ -4,6 +4,7 @@
 //! A reader pushes the parents in the order of the types' numbers, and then indexes the list, so that whether one type is below
 //! another is answered by one look at a table. A list that was not indexed answers the same by a walk.
 ghost use Rattle.std.specs.Prelude.{◌≡◌, ◌+◌, ◌<◌, ◌↔◌, ℕ, List, [], ◌∷◌, ◌++◌, length, slice_index, All, IsTrue, IfOk, OnOk, OnErr, IfErr};
+ghost use Rattle.std.specs.List.{list_any};
 ghost use Rattle.strips_task.specs.Types.{is_within, is_below, IsTypeTree};
 ghost use Rattle.strips_task.specs.TypeTable.{IsRow, AreRows};
 
@@ -81,8 +82,22 @@ impl TypeList {
         ensures { result ≡ is_below self.now sub sup }
     {
         match self.rows.get(usize::from(sub)) {
-            Some(row) if usize::from(sup) < row.len() => *row.get(usize::from(sup)),
-            _ => stands_above(self.parents.as_slice(), usize::from(sub), usize::from(sup)),
+            Some(row) => is_marked(self.parents.as_slice(), row.as_slice(), sub, sup),
+            None => is_found_above(self.parents.as_slice(), sub, sup),
+        }
+    }
+
+    /// Whether a type is below one of others, as `is_below` says. The row of the type is found once for all of them.
+    pub fn is_below_some(&self, sub: u16, sups: &[u16]) -> bool
+        ensures { result ≡ list_any (is_below self.now sub) sups.now }
+    {
+        let parents = self.parents.as_slice();
+        match self.rows.get(usize::from(sub)) {
+            Some(row) => {
+                let row = row.as_slice();
+                sups.iter().any(|sup| is_marked(parents, row, sub, *sup))
+            }
+            None => sups.iter().any(|sup| is_found_above(parents, sub, *sup)),
         }
     }
 
@@ -93,6 +108,24 @@ impl TypeList {
     {
         is_tree(self.parents.as_slice())
     }
+}
+
+/// Whether a type is below another, where the row has a mark for each type above the first.
+fn is_marked(parents: &[u16], row: &[bool], sub: u16, sup: u16) -> bool
+    requires { IsRow parents.now sub row.now }
+    ensures { result ≡ is_below parents.now sub sup }
+{
+    match row.get(usize::from(sup)) {
+        Some(is_above) => *is_above,
+        None => is_found_above(parents, sub, sup),
+    }
+}
+
+/// Whether a type is below another, by a walk over the parents.
+fn is_found_above(parents: &[u16], sub: u16, sup: u16) -> bool
+    ensures { result ≡ is_below parents.now sub sup }
+{
+    stands_above(parents, usize::from(sub), usize::from(sup))
 }
 
 /// Whether parents form a tree below `object`.

@@ -3,10 +3,9 @@
 //! The readers of this project never make it: their contracts say that what they answer is well formed. Each function here is the
 //! test of one definition, from a term up to the whole task.
 ghost use Rattle.std.specs.Prelude.{◌≡◌, ◌<◌, ◌≤◌, ◌↔◌, ℕ, IsTrue, length, slice_get, map, List, [], Some, nat_lt};
-ghost use Rattle.std.specs.List.{list_all, list_any, zip};
+ghost use Rattle.std.specs.List.{list_all, zip};
 ghost use Rattle.std.specs.Map.{keys_of, values_of};
 ghost use Rattle.strips_task.specs.Names.{are_distinct};
-ghost use Rattle.strips_task.specs.Types.{is_below};
 ghost use Rattle.strips_task.specs.declared.actions.Term.TheVariants.{Object};
 ghost use Rattle.strips_task.specs.WellFormed.{IsWellFormed, most_types, most_objects, most_predicates, most_actions, fits, are_alternatives, are_variables, term_types, is_fitting, are_fitting, is_pattern, is_atom, is_action};
 
@@ -237,7 +236,7 @@ fn object_fits(parts: &TaskParts, number: u16, place: &[u16]) -> bool
     ensures { result ≡ is_fitting parts.now.parents (term_types parts.now [] (Object number)) place.now }
 {
     match parts.objects.value(usize::from(number)) {
-        Some(object_type) => fits_some(&parts.parents, *object_type, place),
+        Some(object_type) => parts.parents.is_below_some(*object_type, place),
         None => false,
     }
 }
@@ -283,12 +282,5 @@ fn fits(parents: &TypeList, types: &[u16], places: &[u16]) -> bool
 {
     types
         .iter()
-        .all(|number| fits_some(parents, *number, places))
-}
-
-/// Whether a type is below some of the others.
-fn fits_some(parents: &TypeList, number: u16, places: &[u16]) -> bool
-    ensures { result ≡ list_any (is_below parents.now number) places.now }
-{
-    places.iter().any(|place| parents.is_below(number, *place))
+        .all(|number| parents.is_below_some(*number, places))
 }

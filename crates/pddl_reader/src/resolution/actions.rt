@@ -176,7 +176,7 @@ pub(crate) fn actions(
     requires { length types.now ≤ 1025 }
     ensures { Gives (λ table. table) result (actions_from (keys_of types.now) (known_form known.now) [] (action_forms declared.now)) }
 {
-    let mut table = NameTable::new(alloc);
+    let mut table = NameTable::new(alloc, types.seed());
     'actions: for action in declared {
         declare_action(alloc, types, known, &mut table, action)?;
     }

@@ -21,7 +21,7 @@ use crate::resolution::variables::places;
 use pddl_syntax::{DomainSyntax, NameGroup, PredicateSyntax, ReadFault};
 use std::alloc::Global;
 use std::marker::Model;
-use strips_task::{Action, Name, NameTable, Seq, TypeList};
+use strips_task::{Action, Name, NameTable, Seed, Seq, TypeList};
 
 /// What a domain says: its name, types, constants, predicates and actions. Contracts see the record of them.
 #[derive(Debug, Drop)]
@@ -90,7 +90,7 @@ fn predicates(
     ensures within { IfOk result (λ table. length table ≤ 4096) }
     ensures given { Gives (λ table. table) result (predicates_from (keys_of types.now) [] (predicate_forms declared.now)) }
 {
-    let mut table = NameTable::new(alloc);
+    let mut table = NameTable::new(alloc, types.seed());
     'predicates: for predicate in declared {
         declare_predicate(alloc, types, &mut table, predicate)?;
     }
@@ -168,13 +168,14 @@ pub(crate) struct Head {
 
 /// The name of a domain, its types and its constants.
 #[tactic(auto, using(crate::proofs::DomainMeaning::head_steps))]
-fn resolve_head(alloc: Global, syntax: &DomainSyntax<'_>) -> Result<Head, ReadFault>
+fn resolve_head(alloc: Global, seed: Seed, syntax: &DomainSyntax<'_>) -> Result<Head, ReadFault>
     ensures { Gives (λ head. head) result (head_of (domain_syntax_form syntax.now)) }
 {
     let name = name(alloc, syntax.name)?;
-    let known = types(alloc, part_items(&syntax.sections.types))?;
+    let known = types(alloc, seed, part_items(&syntax.sections.types))?;
     let constants = part_items(&syntax.sections.constants);
-    let objects = more_objects(alloc, &known.names, NameTable::new(alloc), constants)?;
+    let none = NameTable::new(alloc, seed);
+    let objects = more_objects(alloc, &known.names, none, constants)?;
     let KnownTypes { names, parents } = known;
     Ok(Head {
         name,
@@ -186,10 +187,14 @@ fn resolve_head(alloc: Global, syntax: &DomainSyntax<'_>) -> Result<Head, ReadFa
 
 /// The domain that syntax stands for.
 #[tactic(auto, using(crate::proofs::DomainMeaning::domain_head_steps))]
-pub(crate) fn resolve_domain(alloc: Global, syntax: &DomainSyntax<'_>) -> Result<Domain, ReadFault>
+pub(crate) fn resolve_domain(
+    alloc: Global,
+    seed: Seed,
+    syntax: &DomainSyntax<'_>,
+) -> Result<Domain, ReadFault>
     ensures { Gives (λ domain. domain) result (domain_of (domain_syntax_form syntax.now)) }
 {
-    let head = resolve_head(alloc, syntax)?;
+    let head = resolve_head(alloc, seed, syntax)?;
     let tables = resolve_tables(alloc, &head, syntax)?;
     Ok(assemble(head, tables))
 }

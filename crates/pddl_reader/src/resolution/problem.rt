@@ -58,7 +58,7 @@ fn initial(
 ) -> Result<InitialAtoms, ReadFault>
     ensures { Gives (λ atoms. atoms) result (initial_of (known_form known.now) (literal_forms literals.now)) }
 {
-    let mut atoms = InitialAtoms::new(alloc);
+    let mut atoms = InitialAtoms::new(alloc, known.objects.seed());
     'items: for literal in literals {
         let given = ground_condition(alloc, known, literal)?;
         if given.positive {

@@ -1,8 +1,6 @@
 //! Terms are looked up, and tested against the places where they stand.
 
 ghost use Rattle.std.specs.Prelude.{◌≡◌, ◌<◌, ◌≤◌, length, IfOk, IfSome};
-ghost use Rattle.std.specs.List.{list_any};
-ghost use Rattle.strips_task.specs.Types.{is_below};
 ghost use Rattle.strips_task.specs.WellFormed.{fits, is_fitting};
 ghost use Rattle.pddl_reader.specs.Declarations.{fitted_all, object_in_place, object_number, term_in_place, term_named, types_of_term};
 ghost use Rattle.pddl_syntax.specs.Forms.{word_forms};
@@ -16,13 +14,6 @@ use pddl_syntax::{FaultKind, ReadFault, Word, is_variable};
 use std::alloc::Global;
 use strips_task::{Alternatives, NameTable, ShortSeq, Term, TypeList};
 
-/// Whether a type is below some of the others.
-fn fits_some(parents: &TypeList, number: u16, places: &[u16]) -> bool
-    ensures { result ≡ list_any (is_below parents.now number) places.now }
-{
-    places.iter().any(|place| parents.is_below(number, *place))
-}
-
 /// Whether each of the first types is below some of the second.
 #[tactic(auto, unfolding(strips_task::specs::WellFormed::fits))]
 fn fits(parents: &TypeList, types: &[u16], places: &[u16]) -> bool
@@ -30,7 +21,7 @@ fn fits(parents: &TypeList, types: &[u16], places: &[u16]) -> bool
 {
     types
         .iter()
-        .all(|number| fits_some(parents, *number, places))
+        .all(|number| parents.is_below_some(*number, places))
 }
 
 /// Whether a term is a parameter or an object that fits a place for these types.
@@ -44,7 +35,7 @@ fn term_fits(known: &Declared<'_>, params: &[Alternatives], term: Term, place: &
             None => false,
         },
         Term::Object(number) => match known.objects.value(usize::from(number)) {
-            Some(kind) => fits_some(known.parents, *kind, place),
+            Some(kind) => known.parents.is_below_some(*kind, place),
             None => false,
         },
     }

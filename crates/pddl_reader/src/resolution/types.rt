@@ -12,7 +12,7 @@ ghost use Rattle.pddl_reader.specs.TypeOrder.{TypeParents, declared_under, decla
 use crate::resolution::names::{is_same_name, name, number_of};
 use pddl_syntax::{FaultKind, NameGroup, NameWord, ReadFault};
 use std::alloc::{AllocError, Global};
-use strips_task::{Name, NameTable, TypeList};
+use strips_task::{Name, NameTable, Seed, TypeList};
 
 /// How many types there may be, `object` among them.
 const MOST_TYPES: usize = 1025;
@@ -118,12 +118,12 @@ fn declare_group(
 
 /// The tables of `object` alone.
 #[tactic(auto, unfolding(pddl_words::specs::Words::is_name, strips_task::specs::Names::number_named))]
-fn object_alone(alloc: Global) -> Result<TypeTables, AllocError>
+fn object_alone(alloc: Global, seed: Seed) -> Result<TypeTables, AllocError>
     ensures { IfOk result (λ tables. tables ≡ object_alone) }
 {
-    let mut names = NameTable::new(alloc);
+    let mut names = NameTable::new(alloc, seed);
     names.push(Name::from_word(alloc, b"object")?, ())?;
-    let mut parents = NameTable::new(alloc);
+    let mut parents = NameTable::new(alloc, seed);
     let own = Name::from_word(alloc, b"object")?;
     parents.push(own, Name::from_word(alloc, b"object")?)?;
     Ok(TypeTables { names, parents })
@@ -269,11 +269,11 @@ fn order(
 
 /// The types that groups declare.
 #[tactic(auto, using(crate::proofs::TypeSteps::declared_steps))]
-fn tables(alloc: Global, groups: &[NameGroup<'_>]) -> Result<TypeTables, ReadFault>
+fn tables(alloc: Global, seed: Seed, groups: &[NameGroup<'_>]) -> Result<TypeTables, ReadFault>
     ensures given { Gives (λ tables. tables) result (types_declared (name_groups groups.now)) }
     ensures few { IfOk result (λ tables. length tables.names ≤ 1025) }
 {
-    let mut tables = object_alone(alloc)?;
+    let mut tables = object_alone(alloc, seed)?;
     declare_groups(alloc, &mut tables, groups)?;
     Ok(tables)
 }
@@ -287,11 +287,15 @@ pub(crate) struct KnownTypes {
 
 /// The types that the groups of a domain declare.
 #[tactic(auto, using(crate::proofs::TypeSteps::types_steps))]
-pub(crate) fn types(alloc: Global, groups: &[NameGroup<'_>]) -> Result<KnownTypes, ReadFault>
+pub(crate) fn types(
+    alloc: Global,
+    seed: Seed,
+    groups: &[NameGroup<'_>],
+) -> Result<KnownTypes, ReadFault>
     ensures given { Gives (λ types. types) result (types_of (name_groups groups.now)) }
     ensures few { IfOk result (λ types. length types.names ≤ 1025) }
 {
-    let tables = tables(alloc, groups)?;
+    let tables = tables(alloc, seed, groups)?;
     let parents = order(alloc, &tables, groups)?;
     let TypeTables { names, parents: _ } = tables;
     Ok(KnownTypes { names, parents })

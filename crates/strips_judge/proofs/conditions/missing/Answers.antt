@@ -10,7 +10,7 @@ use Rattle.strips_judge.proofs.conditions.missing.Goals as goal
 use Rattle.strips_judge.proofs.conditions.missing.Goals.{then-not-holds+in_ok-note, else-not-holds}
 
 pub loop-cond-init : goal.loop-cond-init
-loop-cond-init c = c.new-found.ensures ∙ sym (missing-none (state_of c.args.state.now))
+loop-cond-init c = c.with_hasher-found.ensures.empty ∙ sym (missing-none (state_of c.args.state.now))
 
 pub loop-cond-preserved : goal.loop-cond-preserved
 loop-cond-preserved c =
@@ -19,8 +19,8 @@ loop-cond-preserved c =
     λ j. record { positive = c.cond-item.result.positive; atom = c.in_ok-ground.ensures j } in
     let more = mapped_more (ground_condition c.args.objects.now) c.args.conds.now c.loop-cond.cond-index c.cond-item.result c.loop-cond-test.true c.cond-item.is in
     elim c.if-not-holds.branch [
-      | then-not-holds+in_ok-note w ↦ w.found-is ∙ w.in_ok-note.ensures ∙ ap (insert_key cond_eq c.loop-cond.found) grounded
+      | then-not-holds+in_ok-note w ↦ ap (λ s. s.keys) w.found-is ∙ w.in_ok-note.ensures ∙ ap (insert_key cond_eq c.loop-cond.found.keys) grounded
           ∙ missing-more_fails (state_of c.args.state.now) _ _ _ condition more c.loop-cond.invariant (ap (holds (state_of c.args.state.now)) (sym grounded) ∙ sym w.if-not-holds.ensures)
-      | else-not-holds w ↦ w.found-is
+      | else-not-holds w ↦ ap (λ s. s.keys) w.found-is
           ∙ missing-more_holds (state_of c.args.state.now) _ _ _ condition more c.loop-cond.invariant (ap (holds (state_of c.args.state.now)) (sym grounded) ∙ sym w.if-not-holds.ensures)
     ]

@@ -4,4 +4,4 @@ use Rattle.strips_judge.specs.Step.{missing}
 use Rattle.strips_judge.proofs.conditions.missing_ground.Given as goal
 
 abbrev pub invariant-loop-cond : goal.invariant-loop-cond
-invariant-loop-cond l = l.found ≡ missing (state_of l.state) (take l.cond-index l.conds)
+invariant-loop-cond l = l.found.keys ≡ missing (state_of l.state) (take l.cond-index l.conds)

@@ -9,6 +9,6 @@ pub returns : goal.returns
 returns c =
     let known = c.in_ok-known.known in
     let P : Objects → Type 0 = λ o. objects_from (keys_of known.names) o (name_groups c.part_items-constants.result.now) ≡ Some c.in_ok-objects.objects in
-    let constants = subst P c.new.ensures c.in_ok-objects.ensures in
+    let constants = subst P c.new-none.ensures c.in_ok-objects.ensures in
     rw c.in_ok-name.ensures
     (head_meant c.args.syntax.now known c.in_ok-objects.objects (rw (← c.part_items.ensures) c.in_ok-known.ensures.given) (rw (← c.part_items-constants.ensures) constants))

@@ -35,7 +35,7 @@ returns-in-Some-value c =
     let params : List (List ℕ) = c.args.params.now in
     let own : slice_get (values_of known.objects) c.in-Object.number ≡ Some c.in-Some-value.kind.now =
     ap (slice_get (values_of known.objects)) (sym c.from-in-Object.ensures) ∙ sym c.in-Some-value.ensures in
-    c.fits_some.ensures
+    c.is_below_some.ensures
     ∙ sym (object_fits known params c.args.place.now c.in-Object.number c.in-Some-value.kind.now own)
     ∙ ap (λ t. is_fitting known.parents (types_of_term known params t) c.args.place.now) (sym c.in-Object.is)
 

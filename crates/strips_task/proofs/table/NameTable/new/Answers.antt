@@ -5,4 +5,4 @@ use Rattle.strips_task.proofs.table.NameTable.new.Goals as goal
 
 pub invariant_of-result : goal.invariant_of-result
 unfolding are_distinct
-invariant_of-result g c = ap (λ es. are_distinct (keys_of es)) c.new.ensures.empty
+invariant_of-result g c = ap (λ es. are_distinct (keys_of es)) c.with_hasher.ensures.empty
