@@ -309,18 +309,35 @@ fn who_is_free_takes_the_next_job(rt: HostRuntime) -> Result<(), Fail> {
     Ok(())
 }
 
+/// Has a seat look whether the bench is shut, and then work until it is or three rounds found nothing. What it saw, why it ended, and the seat.
+fn look_and_work(
+    alloc: Global,
+    bench: &Bench,
+    mut seat: WorkerSeat,
+    task: &Task,
+) -> (bool, Option<WorkFault>, WorkerSeat)
+    requires seat { SitsAt bench.now seat }
+    requires task { bench.now.setting.task.value ≡ task.now }
+    ensures { SitsAt bench.now result.2 }
+{
+    let is_shut = seat.look(bench);
+    let ended = work(alloc, bench, seat, task, &Open, 3);
+    (is_shut, ended.refused, ended.seat)
+}
+
+/// Whether a worker ends for want of jobs while the bench is open, and without a fault once it is shut.
+fn ends_when_shut(alloc: Global, task: &Task) -> Result<bool, AllocError> {
+    let (bench, mut owner) = Bench::make(alloc, task, 1, 2)?;
+    let seat = owner.seat(&bench);
+    let (was_shut, idle, seat) = look_and_work(alloc, &bench, seat, task);
+    owner.shut(&bench);
+    let (is_shut, ended, _) = look_and_work(alloc, &bench, seat, task);
+    Ok(!was_shut && idle == Some(WorkFault::Idle) && is_shut && ended.is_none())
+}
+
 #[test]
 fn work_ends_once_the_bench_is_shut(rt: HostRuntime) -> Result<(), Fail> {
     let task = lamp_1(rt.alloc())?;
-    let (bench, mut owner) = Bench::make(rt.alloc(), &task, 1, 2)?;
-    let mut seat = owner.seat(&bench);
-    assert!(rt; !seat.look(&bench));
-    let ended = work(rt.alloc(), &bench, seat, &task, &Open, 3);
-    assert!(rt; ended.refused == Some(WorkFault::Idle));
-    owner.shut(&bench);
-    let mut seat = ended.seat;
-    assert!(rt; seat.look(&bench));
-    let ended = work(rt.alloc(), &bench, seat, &task, &Open, 3);
-    assert!(rt; ended.refused.is_none());
+    assert!(rt; ends_when_shut(rt.alloc(), &task)?);
     Ok(())
 }

@@ -81,6 +81,27 @@ const TWO: &[u8] = b"(light)\n---\n(light)\n";
 
 const THREE: &[u8] = b"(light)\n---\n(light)\n---\n(light)\n";
 
+/// The report of planners' files.
+fn judged_all<G: Gate + Sync>(
+    rt: &(impl AllocGlobal + Threads + Wait + Sync),
+    bundles: &[Bundle],
+    workers: u32,
+    gate: &G,
+) -> Result<Report, JudgeFault>
+    requires { (1 ≤ workers) × (workers ≤ 32) }
+{
+    judge_bytes(
+        rt,
+        rt.alloc(),
+        Seed::fixed(),
+        LAMP,
+        LAMP_1,
+        bundles,
+        workers,
+        gate,
+    )
+}
+
 /// The report of a planner's file.
 fn judged<G: Gate + Sync>(
     rt: &(impl AllocGlobal + Threads + Wait + Sync),
@@ -90,17 +111,7 @@ fn judged<G: Gate + Sync>(
 ) -> Result<Report, JudgeFault>
     requires { (1 ≤ workers) × (workers ≤ 32) }
 {
-    let bundles = [bundle(rt.alloc(), plans)?];
-    judge_bytes(
-        rt,
-        rt.alloc(),
-        Seed::fixed(),
-        LAMP,
-        LAMP_1,
-        &bundles,
-        workers,
-        gate,
-    )
+    judged_all(rt, &[bundle(rt.alloc(), plans)?], workers, gate)
 }
 
 /// The first of the held jobs from `first` to `last` that a run over three plans tells.
@@ -142,12 +153,14 @@ fn two_workers_judge_at_once(rt: HostRuntime) {
     );
 }
 
+/// Whether a run without planners writes these bytes.
+fn writes_of_none(rt: &(impl AllocGlobal + Threads + Wait + Sync), expected: &[u8]) -> bool {
+    judged_all(rt, &[], 4, &Open).is_ok_and(|report| report.bytes() == expected)
+}
+
 #[test]
 fn a_run_without_planners_has_the_first_line_alone(rt: HostRuntime) {
-    match judge_bytes(&rt, rt.alloc(), Seed::fixed(), LAMP, LAMP_1, &[], 4, &Open) {
-        Ok(report) => assert!(rt; report.bytes() == b"domain lamp problem lamp-1\n".as_slice()),
-        Err(_) => assert!(rt; false, "memory was ample"),
-    }
+    assert!(rt; writes_of_none(&rt, b"domain lamp problem lamp-1\n"));
 }
 
 #[test]

@@ -110,7 +110,9 @@ impl TypeList {
     }
 }
 
-/// Whether a type is below another, where the row has a mark for each type above the first.
+/// Whether a type is below another, where the row has a mark for each type above the first. Inlined, since it is asked for each pair of types of
+/// two lists of alternatives.
+#[inline(always)]
 fn is_marked(parents: &[u16], row: &[bool], sub: u16, sup: u16) -> bool
     requires { IsRow parents.now sub row.now }
     ensures { result ≡ is_below parents.now sub sup }
