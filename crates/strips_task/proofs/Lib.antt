@@ -1,4 +1,5 @@
 pub mod FirstPlaces
+pub mod JoinedRanges
 pub mod Numbered
 pub mod AtomEquality
 pub mod NameNumbers

@@ -3,6 +3,7 @@ pub mod FirstPlaces
 pub mod Names
 pub mod OpenPlan
 pub mod Parts
+pub mod Places
 pub mod Plans
 pub mod StepView
 pub mod Steps

@@ -1,8 +1,8 @@
 //! Places in a list or a text, in half the memory as long as they are near.
 //!
-//! The ends of words are a large part of a plan's memory, and hardly ever is one of them 2^32 or more. So places take four bytes each up to the
-//! first that needs more, and all from there on eight.
-ghost use Rattle.std.specs.Prelude.{◌≡◌, ◌<◌, ℕ, List, [], ◌∷◌, ◌++◌, length, slice_get, OnOk, OnErr, Some};
+//! The ends of words are a large part of a plan's memory, and hardly ever is one of them 2^32 or more. So places take four bytes each while all of
+//! them are less than that, and eight from then on.
+ghost use Rattle.std.specs.Prelude.{◌≡◌, ◌<◌, ℕ, List, [], ◌∷◌, ◌++◌, length, slice_get, OnOk, OnErr, IfOk, Some};
 
 use std::alloc::{AllocError, Global};
 use std::marker::Model;
@@ -10,58 +10,86 @@ use std::marker::Model;
 /// Places in the order in which they were pushed. Contracts see the list of them.
 #[derive(Debug, Drop)]
 pub(crate) struct Places {
-    near: Vec<u32>,
-    far: Vec<usize>,
+    kept: Kept,
+}
+
+/// The places themselves.
+#[derive(Debug, Drop)]
+enum Kept {
+    /// All are less than 2^32.
+    Near(Vec<u32>),
+    /// Some may be more.
+    Far(Vec<usize>),
 }
 
 impl Model for Places {
-    ghost use Rattle.std.specs.Prelude.{List, ℕ, ◌++◌};
+    ghost use Rattle.std.specs.Prelude.{List, ℕ};
+    ghost use Rattle.strips_task.specs.Places.{places_kept};
 
     ghost Value = { List ℕ };
 
-    ghost view = { λ s. s.near.items ++ s.far.items };
+    ghost view = { λ s. places_kept s.kept };
 }
 
 impl Places {
     /// No place. Takes no memory.
+    #[tactic(auto, unfolding(crate::specs::Places::places_kept))]
     pub(crate) fn new(alloc: Global) -> Self
         ensures { result ≡ [] }
     {
         Places {
-            near: Vec::new(alloc),
-            far: Vec::new(alloc),
+            kept: Kept::Near(Vec::new(alloc)),
         }
     }
 
     /// Adds a place at the end. Where memory runs out the list stays as it was.
+    #[tactic(auto, unfolding(crate::specs::Places::places_kept))]
     pub(crate) fn push(&mut self, place: usize) -> Result<(), AllocError>
         ensures ok { OnOk result (self.new ≡ self.old ++ place ∷ []) }
         ensures err { OnErr result (self.new ≡ self.old) }
     {
-        match u32::try_from(place) {
-            Ok(near) if self.far.is_empty() => self.near.push(near)?,
-            _ => self.far.push(place)?,
+        match &mut self.kept {
+            Kept::Near(near) => match u32::try_from(place) {
+                Ok(place) => near.push(place)?,
+                Err(_) => self.kept = Kept::Far(far_with(near, place)?),
+            },
+            Kept::Far(far) => far.push(place)?,
         }
         Ok(())
     }
 
     /// How many places the list holds.
+    #[tactic(auto, unfolding(crate::specs::Places::places_kept))]
     pub(crate) fn len(&self) -> usize
         ensures { result ≡ length self.now }
     {
-        self.near.len() + self.far.len()
+        match &self.kept {
+            Kept::Near(near) => near.len(),
+            Kept::Far(far) => far.len(),
+        }
     }
 
     /// The place with a number, counted from 0.
+    #[tactic(auto, unfolding(crate::specs::Places::places_kept))]
     pub(crate) fn get(&self, number: usize) -> usize
         requires { number < length self.now }
         ensures { slice_get self.now number ≡ Some result }
     {
-        let near = self.near.len();
-        if number < near {
-            self.near[number] as usize
-        } else {
-            self.far[number - near]
+        match &self.kept {
+            Kept::Near(near) => near[number] as usize,
+            Kept::Far(far) => far[number],
         }
     }
+}
+
+/// Near places and one more.
+fn far_with(near: &Vec<u32>, place: usize) -> Result<Vec<usize>, AllocError>
+    ensures { IfOk result (λ far. far.items ≡ near.now.items ++ place ∷ []) }
+{
+    let mut far = Vec::with_capacity(*near.allocator(), near.len() + 1)?;
+    for one in near.as_slice() {
+        far.push(*one as usize)?;
+    }
+    far.push(place)?;
+    Ok(far)
 }

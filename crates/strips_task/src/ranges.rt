@@ -1,97 +1,130 @@
-//! The ranges of steps among words, in half the memory as long as they are near.
-//!
-//! As with places: ranges take eight bytes each up to the first that needs more, and all from there on sixteen.
-ghost use Rattle.std.specs.Prelude.{◌≡◌, ◌<◌, ℕ, List, [], ◌∷◌, ◌++◌, length, slice_get, OnOk, OnErr, IfSome, Some};
-ghost use Rattle.strips_task.specs.Ranges.{widened};
+//! The ranges of steps among words, in a quarter of the memory as long as each starts where the one before it ends.
+ghost use Rattle.std.specs.Prelude.{◌≡◌, ◌<◌, ◌≤◌, ℕ, List, [], ◌∷◌, ◌++◌, length, slice_get, slice_index, OnOk, OnErr, IfOk, IfSome, Some};
+ghost use Rattle.strips_task.specs.Ranges.{joined};
 
 use crate::StepRange;
 use std::alloc::{AllocError, Global};
 use std::marker::Model;
 
-/// A range whose first place and end take four bytes each.
-#[derive(Clone, Copy, Debug)]
-pub(crate) struct NearRange {
-    first: u32,
-    end: u32,
-}
-
 /// Ranges in the order in which they were pushed. Contracts see the list of them.
 #[derive(Debug, Drop)]
 pub(crate) struct StepRanges {
-    near: Vec<NearRange>,
-    far: Vec<StepRange>,
+    kept: Kept,
+}
+
+/// The ranges themselves.
+#[derive(Debug, Drop)]
+enum Kept {
+    /// The first starts at 0, and each other one where the one before it ends: their ends, all less than 2^32.
+    Joined(Vec<u32>),
+    /// Any ranges.
+    Apart(Vec<StepRange>),
 }
 
 impl Model for StepRanges {
-    ghost use Rattle.std.specs.Prelude.{List, map, ◌++◌};
+    ghost use Rattle.std.specs.Prelude.{List};
     ghost use Rattle.strips_task.specs.declared.steps.StepRange.{StepRange};
-    ghost use Rattle.strips_task.specs.Ranges.{widened};
+    ghost use Rattle.strips_task.specs.Ranges.{ranges_kept};
 
     ghost Value = { List StepRange };
 
-    ghost view = { λ s. map widened s.near.items ++ s.far.items };
+    ghost view = { λ s. ranges_kept s.kept };
 }
 
 impl StepRanges {
     /// No range. Takes no memory.
+    #[tactic(auto, unfolding(crate::specs::Ranges::ranges_kept), using(crate::proofs::JoinedRanges::joined_none))]
     pub(crate) fn new(alloc: Global) -> Self
         ensures { result ≡ [] }
     {
         StepRanges {
-            near: Vec::new(alloc),
-            far: Vec::new(alloc),
+            kept: Kept::Joined(Vec::new(alloc)),
         }
     }
 
     /// Adds a range at the end. Where memory runs out the list stays as it was.
+    #[tactic(auto, unfolding(crate::specs::Ranges::ranges_kept), using(crate::proofs::JoinedRanges::joined_push))]
     pub(crate) fn push(&mut self, range: StepRange) -> Result<(), AllocError>
         ensures ok { OnOk result (self.new ≡ self.old ++ range ∷ []) }
         ensures err { OnErr result (self.new ≡ self.old) }
     {
-        match near_range(range) {
-            Some(near) if self.far.is_empty() => self.near.push(near)?,
-            _ => self.far.push(range)?,
+        match &mut self.kept {
+            Kept::Joined(ends) => match joined_end(ends.as_slice(), range) {
+                Some(end) => ends.push(end)?,
+                None => self.kept = Kept::Apart(apart_with(ends, range)?),
+            },
+            Kept::Apart(ranges) => ranges.push(range)?,
         }
         Ok(())
     }
 
     /// How many ranges the list holds.
+    #[tactic(auto, unfolding(crate::specs::Ranges::ranges_kept), using(crate::proofs::JoinedRanges::length_joined))]
     pub(crate) fn len(&self) -> usize
         ensures { result ≡ length self.now }
     {
-        self.near.len() + self.far.len()
+        match &self.kept {
+            Kept::Joined(ends) => ends.len(),
+            Kept::Apart(ranges) => ranges.len(),
+        }
     }
 
     /// The range with a number, counted from 0.
+    #[tactic(auto, unfolding(crate::specs::Ranges::ranges_kept), using(crate::proofs::JoinedRanges::length_joined, crate::proofs::JoinedRanges::joined_at))]
     pub(crate) fn get(&self, number: usize) -> StepRange
         requires { number < length self.now }
         ensures { slice_get self.now number ≡ Some result }
     {
-        let near = self.near.len();
-        if number < near {
-            widened(self.near[number])
-        } else {
-            self.far[number - near]
+        match &self.kept {
+            Kept::Joined(ends) => joined_range(ends.as_slice(), number),
+            Kept::Apart(ranges) => ranges[number],
         }
     }
 }
 
-/// The same range in half the memory, where it fits.
-fn near_range(range: StepRange) -> Option<NearRange>
-    ensures { IfSome result (λ near. widened near ≡ range) }
+/// Where a range with a number starts: at the end of the one before it.
+fn start_of(ends: &[u32], number: usize) -> usize
+    requires { number ≤ length ends.now }
+    ensures { result ≡ slice_index (0 ∷ ends.now) number }
 {
-    match (u32::try_from(range.first), u32::try_from(range.end)) {
-        (Ok(first), Ok(end)) => Some(NearRange { first, end }),
-        _ => None,
+    if number == 0 {
+        0
+    } else {
+        ends[number - 1] as usize
     }
 }
 
-/// The same range.
-fn widened(near: NearRange) -> StepRange
-    ensures { result ≡ widened near }
+/// One of the ranges with these ends.
+#[tactic(auto, using(crate::proofs::JoinedRanges::joined_at))]
+fn joined_range(ends: &[u32], number: usize) -> StepRange
+    requires { number < length ends.now }
+    ensures { slice_get (joined 0 ends.now) number ≡ Some result }
 {
     StepRange {
-        first: near.first as usize,
-        end: near.end as usize,
+        first: start_of(ends, number),
+        end: ends[number] as usize,
     }
+}
+
+/// The end of a range that starts where the last one ends, where it fits.
+fn joined_end(ends: &[u32], range: StepRange) -> Option<u32>
+    ensures { IfSome result (λ end. record { first = slice_index (0 ∷ ends.now) (length ends.now); end = end } ≡ range) }
+{
+    if range.first != start_of(ends, ends.len()) {
+        return None;
+    }
+    u32::try_from(range.end).ok()
+}
+
+/// The ranges with these ends, and one more.
+#[tactic(auto, using(crate::proofs::JoinedRanges::joined_more, crate::proofs::JoinedRanges::joined_all))]
+fn apart_with(ends: &Vec<u32>, range: StepRange) -> Result<Vec<StepRange>, AllocError>
+    ensures { IfOk result (λ ranges. ranges.items ≡ joined 0 ends.now.items ++ range ∷ []) }
+{
+    let mut ranges = Vec::with_capacity(*ends.allocator(), ends.len() + 1)?;
+    for number in 0..ends.len() {
+        ranges.push(joined_range(ends.as_slice(), number))?;
+    }
+    ranges.push(range)?;
+    Ok(ranges)
 }
