@@ -1,15 +1,15 @@
 -- Terms in their places, one equation for each case.
 
-use Rattle.std.proofs.Common.{◌≡◌, ℕ, ◌&&◌, Bool, true, false, List, [], ◌∷◌, Option, Some, None, refl}
+use Rattle.std.proofs.Common.{◌≡◌, ℕ, true, false, List, [], ◌∷◌, Option, Some, None, refl}
 use Rattle.std.proofs.lemmas.List.{append-nil}
-use Rattle.std.specs.List.{list_any, slice_get}
+use Rattle.std.specs.List.{slice_get}
 use Rattle.std.specs.Map.{values_of}
 use Rattle.pddl_words.specs.Words.{folded}
 use Rattle.strips_task.specs.declared.actions.Term.{Term}
 use Rattle.strips_task.specs.declared.actions.Term.TheVariants.{Param, Object}
 use Rattle.strips_task.specs.Names.{number_named}
-use Rattle.strips_task.specs.Types.{is_below}
-use Rattle.strips_task.specs.WellFormed.{fits, is_fitting}
+use Rattle.strips_task.specs.Types.{fits}
+use Rattle.strips_task.specs.WellFormed.{is_fitting}
 use Rattle.pddl_syntax.specs.declared.walk.Word.{Word}
 use Rattle.pddl_reader.specs.Declarations.{Known, types_of_term, fitted_all, object_number, term_named, term_fitted, term_in_place, object_fitted, object_in_place}
 use Rattle.pddl_syntax.specs.Forms.{word_forms}
@@ -30,14 +30,10 @@ pub parameter_unknown : (known : Known) (params : List (List ℕ)) (place : List
 unfolding types_of_term is_fitting
 parameter_unknown known params place number h = rw h refl
 
-and_true : (b : Bool) → (b && true) ≡ b
-and_true true = refl
-and_true false = refl
-
 pub object_fits : (known : Known) (params : List (List ℕ)) (place : List ℕ) (number type : ℕ) → slice_get (values_of known.objects) number ≡ Some type →
-    is_fitting known.parents (types_of_term known params (Object number)) place ≡ list_any (is_below known.parents type) place
-unfolding types_of_term is_fitting fits
-object_fits known params place number type h = rw h (and_true (list_any (is_below known.parents type) place))
+    is_fitting known.parents (types_of_term known params (Object number)) place ≡ fits known.parents (type ∷ []) place
+unfolding types_of_term is_fitting
+object_fits known params place number type h = rw h refl
 
 pub object_unknown : (known : Known) (params : List (List ℕ)) (place : List ℕ) (number : ℕ) → slice_get (values_of known.objects) number ≡ None →
     is_fitting known.parents (types_of_term known params (Object number)) place ≡ false

@@ -2,8 +2,7 @@
 
 use Rattle.std.proofs.Common.{◌≡◌, ℕ, Bool, true, false, ◌&&◌, List, [], ◌∷◌, refl}
 use Rattle.std.specs.List.{list_any}
-use Rattle.strips_task.specs.Types.{is_below}
-use Rattle.strips_task.specs.WellFormed.{fits}
+use Rattle.strips_task.specs.Types.{is_below, fits}
 
 and_true : (b : Bool) → (b && true) ≡ b
 and_true true = refl

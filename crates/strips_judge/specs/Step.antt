@@ -11,7 +11,7 @@ use Rattle.strips_task.specs.declared.tasks.TaskParts.{TaskParts}
 use Rattle.strips_task.specs.Atom.{cond_eq}
 use Rattle.strips_task.specs.FirstPlaces.{first_places}
 use Rattle.strips_task.specs.Names.{number_named}
-use Rattle.strips_task.specs.WellFormed.{fits}
+use Rattle.strips_task.specs.Types.{fits}
 use Rattle.strips_judge.specs.declared.verdict.Why.{Why}
 use Rattle.strips_judge.specs.declared.verdict.Why.TheVariants.{UnknownAction, WrongCount, UnknownObject, WrongType, Missing}
 use Rattle.strips_judge.specs.Grounding.{ground, ground_condition}

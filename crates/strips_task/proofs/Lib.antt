@@ -5,6 +5,7 @@ pub mod AtomEquality
 pub mod NameNumbers
 pub mod TypeTrees
 pub mod TypeWalks
+pub mod TypeRows
 pub mod PartLemmas
 pub mod FoldedWords
 pub mod StepWords

@@ -1,17 +1,13 @@
 -- What a test of a part says in the words of the definitions.
 
-use Rattle.std.proofs.Common.{◌≡◌, ℕ, Bool, true, false, ◌&&◌, List, [], ◌∷◌, map, refl, ap, ◌∙◌, slice_get, Some, None}
-use Rattle.std.specs.List.{list_all, list_any, zip}
+use Rattle.std.proofs.Common.{◌≡◌, ℕ, Bool, false, ◌&&◌, List, [], ◌∷◌, map, refl, ap, slice_get, Some, None}
+use Rattle.std.specs.List.{list_all, zip}
 use Rattle.std.specs.Option.{option_map}
 use Rattle.std.specs.Map.{values_of}
 use Rattle.strips_task.specs.declared.actions.Term.TheVariants.{Param, Object}
 use Rattle.strips_task.specs.declared.tasks.TaskParts.{TaskParts}
-use Rattle.strips_task.specs.Types.{is_below}
-use Rattle.strips_task.specs.WellFormed.{fits, term_types, is_fitting}
-
-and_true : (b : Bool) → (b && true) ≡ b
-and_true true = refl
-and_true false = refl
+use Rattle.strips_task.specs.Types.{fits}
+use Rattle.strips_task.specs.WellFormed.{term_types, is_fitting}
 
 -- a test of pairs whose first parts are mapped
 pub all_zip-map : {A B C : Type 0} (f : A → B) (test : B → C → Bool) (xs : List A) (ys : List C)
@@ -34,10 +30,10 @@ module _ (task : TaskParts) (params : List (List ℕ)) (places : List ℕ) where
 
   -- an object has its one type
   pub object_fitting : (object type : ℕ) → slice_get (values_of task.objects) object ≡ Some type
-      → is_fitting task.parents (term_types task params (Object object)) places ≡ list_any (is_below task.parents type) places
-  unfolding term_types is_fitting fits
+      → is_fitting task.parents (term_types task params (Object object)) places ≡ fits task.parents (type ∷ []) places
+  unfolding term_types is_fitting
   object_fitting object type e =
-      ap (λ o. is_fitting task.parents (option_map (λ t. t ∷ []) o) places) e ∙ and_true (list_any (is_below task.parents type) places)
+      ap (λ o. is_fitting task.parents (option_map (λ t. t ∷ []) o) places) e
 
   -- and what is no object fits nowhere
   pub object_unknown : (object : ℕ) → slice_get (values_of task.objects) object ≡ None

@@ -3,6 +3,7 @@
 -- A list of parents holds for each type, by number, the number of its parent. Number 0 is `object`, its own parent.
 
 use Rattle.std.specs.Prelude.{◌≡◌, ℕ, ◌<◌, zero, suc, Bool, ◌||◌, nat_eq, List, length, slice_index, All}
+use Rattle.std.specs.List.{list_all, list_any}
 
 -- the type that stands so many parents up
 unfoldable pub ancestor : List ℕ → ℕ → ℕ → ℕ
@@ -30,3 +31,8 @@ is_within parents (suc n) sub sup = nat_eq sub sup || is_within parents n (slice
 -- whether the first type is below the second; in a tree no chain of parents is longer than there are types
 unfoldable pub is_below : List ℕ → ℕ → ℕ → Bool
 is_below parents sub sup = is_within parents (length parents) sub sup
+
+-- whether a term whose type is one of the first fits a place for the second: each of the first is below some of the second
+-- (this validator's choice)
+unfoldable pub fits : List ℕ → List ℕ → List ℕ → Bool
+fits parents types places = list_all (λ type. list_any (is_below parents type) places) types

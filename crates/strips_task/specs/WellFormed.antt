@@ -1,7 +1,7 @@
 -- What makes the parts of a task well formed.
 
 use Rattle.std.specs.Prelude.{ℕ, ◌≤◌, Bool, false, ◌&&◌, nat_eq, nat_lt, nat_le, IsTrue, List, [], ◌∷◌, length, slice_get, map, Option, None, Some}
-use Rattle.std.specs.List.{list_all, list_any, zip}
+use Rattle.std.specs.List.{list_all, zip}
 use Rattle.std.specs.Option.{option_map}
 use Rattle.std.specs.Map.{keys_of, values_of}
 use Rattle.strips_task.specs.declared.actions.Term.{Term}
@@ -11,7 +11,7 @@ use Rattle.strips_task.specs.declared.actions.Action.{Action}
 use Rattle.strips_task.specs.declared.atoms.Atom.{Atom}
 use Rattle.strips_task.specs.declared.tasks.TaskParts.{TaskParts}
 use Rattle.strips_task.specs.Names.{are_distinct}
-use Rattle.strips_task.specs.Types.{IsTypeTree, is_below}
+use Rattle.strips_task.specs.Types.{IsTypeTree, fits}
 
 -- the limits of a task
 abbrev pub most_types : ℕ
@@ -31,11 +31,6 @@ most_variables = 32
 
 abbrev pub most_alternatives : ℕ
 most_alternatives = 32
-
--- whether a term whose type is one of the first fits a place for the second: each of the first is below some of the second
--- (this validator's choice)
-unfoldable pub fits : List ℕ → List ℕ → List ℕ → Bool
-fits parents types places = list_all (λ type. list_any (is_below parents type) places) types
 
 -- whether the alternatives of a variable are types, and not too many
 unfoldable pub are_alternatives : List ℕ → List ℕ → Bool

@@ -3,31 +3,41 @@
 //! Types form a tree below `object` (PDDL 2.1, Fox and Long 2003, section 2). A `TypeList` holds for each type the number of its parent.
 //! A reader pushes the parents in the order of the types' numbers, and then indexes the list, so that whether one type is below
 //! another is answered by one look at a table. A list that was not indexed answers the same by a walk.
-ghost use Rattle.std.specs.Prelude.{◌≡◌, ◌+◌, ◌<◌, ◌↔◌, ℕ, List, [], ◌∷◌, ◌++◌, length, slice_index, All, IsTrue, IfOk, OnOk, OnErr, IfErr};
-ghost use Rattle.std.specs.List.{list_any};
-ghost use Rattle.strips_task.specs.Types.{is_within, is_below, IsTypeTree};
-ghost use Rattle.strips_task.specs.TypeTable.{IsRow, AreRows};
+ghost use Rattle.std.specs.Prelude.{◌≡◌, ◌+◌, ◌*◌, ◌<◌, ◌≤◌, ◌||◌, ◌↔◌, ◌≢◌, ℕ, List, [], ◌∷◌, ◌++◌, length, slice_index, All, IsTrue, IfOk, OnOk, OnErr, IfErr};
+ghost use Rattle.std.specs.List.{list_all, list_any};
+ghost use Rattle.bit_rows.specs.Rows.{row_has};
+ghost use Rattle.strips_task.specs.Types.{is_within, is_below, fits, IsTypeTree};
+ghost use Rattle.strips_task.specs.TypeTable.{IsTable, MayHaveTable};
 
-use crate::Seq;
+use bit_rows::{empty_row, has_bit, set_bit};
 use std::alloc::{AllocError, AllocFailed, Global};
 use std::marker::Model;
+
+/// The words of 64 bits in a row of the table.
+const ROW_WORDS: usize = 17;
+
+/// The bits in a row, and so the most types for which there is a table.
+const ROW_BITS: usize = 1088;
+
+/// For this many types or fewer, testing each pair takes less time than joining rows.
+const FEW: usize = 2;
 
 /// The parents of the types, by number; number 0 is `object`. Contracts see the list of the parents' numbers.
 #[derive(Debug, Drop)]
 pub struct TypeList {
     parents: Vec<u16>,
-    rows: Vec<Seq<bool>>,
+    table: Vec<u64>,
 }
 
 impl Model for TypeList {
-    ghost use Rattle.std.specs.Prelude.{List, ℕ, ◌≤◌, length};
-    ghost use Rattle.strips_task.specs.TypeTable.{AreRows};
+    ghost use Rattle.std.specs.Prelude.{List, ℕ};
+    ghost use Rattle.strips_task.specs.TypeTable.{MayHaveTable};
 
     ghost Value = { List ℕ };
 
     ghost view = { λ s. s.parents.items };
 
-    ghost invariant = { λ s. AreRows s.parents.items s.rows.items };
+    ghost invariant = { λ s. MayHaveTable s.parents.items s.table.items };
 }
 
 impl TypeList {
@@ -37,7 +47,7 @@ impl TypeList {
     {
         TypeList {
             parents: Vec::new(alloc),
-            rows: Vec::new(alloc),
+            table: Vec::new(alloc),
         }
     }
 
@@ -47,7 +57,7 @@ impl TypeList {
         ensures err { OnErr result (self.new ≡ self.old) }
         ensures value_returned { IfErr result (λ failed. failed.value ≡ parent) }
     {
-        self.rows.clear();
+        self.table.clear();
         self.parents.push(parent)
     }
 
@@ -66,39 +76,42 @@ impl TypeList {
         self.parents[number]
     }
 
-    /// Makes the table by which `is_below` answers without a walk: a row of one byte a type for each type.
+    /// Makes the table that answers `is_below` and `are_below` without a walk: 136 bytes for each type, with a bit for each type below it.
+    /// A list of more than 1,088 types, which no task has, gets no table.
     pub fn index(&mut self) -> Result<(), AllocError>
         requires { All (λ parent. parent < length self.old) self.old }
         ensures { self.new ≡ self.old }
     {
-        self.rows = rows_of(*self.parents.allocator(), self.parents.as_slice())?;
+        if self.parents.len() <= ROW_BITS {
+            self.table = table_of(*self.parents.allocator(), self.parents.as_slice())?;
+        }
         Ok(())
     }
 
     /// Whether a type is below another: they are the same, or the other stands some parents up. What is no type is taken to stand
-    /// right below `object`. Takes one look at the table once the list is indexed, and else a walk of at most as many steps as there
+    /// right below `object`. Takes one look at the table once the list is indexed, and otherwise a walk of at most as many steps as there
     /// are types.
     pub fn is_below(&self, sub: u16, sup: u16) -> bool
         ensures { result ≡ is_below self.now sub sup }
     {
-        match self.rows.get(usize::from(sub)) {
-            Some(row) => is_marked(self.parents.as_slice(), row.as_slice(), sub, sup),
-            None => is_found_above(self.parents.as_slice(), sub, sup),
-        }
+        is_below(self.parents.as_slice(), self.table.as_slice(), sub, sup)
     }
 
-    /// Whether a type is below one of others, as `is_below` says. The row of the type is found once for all of them.
-    pub fn is_below_some(&self, sub: u16, sups: &[u16]) -> bool
-        ensures { result ≡ list_any (is_below self.now sub) sups.now }
+    /// Whether each of the first types is below one of the second. One or two types, or any number against a single one, are tested pair by
+    /// pair, and so are all in a list without a table. Otherwise the rows of the second are joined, 17 words each, and each of the first
+    /// takes one look. So the time grows with the sum of the two numbers, and not with their product.
+    pub fn are_below(&self, subs: &[u16], sups: &[u16]) -> bool
+        ensures { result ≡ fits self.now subs.now sups.now }
     {
         let parents = self.parents.as_slice();
-        match self.rows.get(usize::from(sub)) {
-            Some(row) => {
-                let row = row.as_slice();
-                sups.iter().any(|sup| is_marked(parents, row, sub, *sup))
-            }
-            None => sups.iter().any(|sup| is_found_above(parents, sub, *sup)),
+        let table = self.table.as_slice();
+        if subs.len() <= FEW || sups.len() <= 1 || table.is_empty() {
+            return each_is_below_some(parents, table, subs, sups);
         }
+        if !are_known(parents, subs) || !are_known(parents, sups) {
+            return each_is_below_some(parents, table, subs, sups);
+        }
+        are_marked(&joined_rows(table, sups), subs)
     }
 
     /// Whether the parents form a tree below `object`: it is its own parent, each parent is a type, and from every type the chain of
@@ -110,24 +123,76 @@ impl TypeList {
     }
 }
 
-/// Whether a type is below another, where the row has a mark for each type above the first. Inlined, since it is asked for each pair of types of
-/// two lists of alternatives.
+/// Whether a type is below another. Inlined, since it is called for each pair of two short lists.
 #[inline(always)]
-fn is_marked(parents: &[u16], row: &[bool], sub: u16, sup: u16) -> bool
-    requires { IsRow parents.now sub row.now }
+fn is_below(parents: &[u16], table: &[u64], sub: u16, sup: u16) -> bool
+    requires { MayHaveTable parents.now table.now }
     ensures { result ≡ is_below parents.now sub sup }
 {
-    match row.get(usize::from(sup)) {
-        Some(is_above) => *is_above,
-        None => is_found_above(parents, sub, sup),
+    let sub = usize::from(sub);
+    let sup = usize::from(sup);
+    if sub < parents.len() && sup < parents.len() && !table.is_empty() {
+        has_bit(table, sup * ROW_BITS + sub)
+    } else {
+        stands_above(parents, sub, sup)
     }
 }
 
-/// Whether a type is below another, by a walk over the parents.
-fn is_found_above(parents: &[u16], sub: u16, sup: u16) -> bool
-    ensures { result ≡ is_below parents.now sub sup }
+/// Whether a type is below one of others.
+fn is_below_some(parents: &[u16], table: &[u64], sub: u16, sups: &[u16]) -> bool
+    requires { MayHaveTable parents.now table.now }
+    ensures { result ≡ list_any (is_below parents.now sub) sups.now }
 {
-    stands_above(parents, usize::from(sub), usize::from(sup))
+    sups.iter().any(|sup| is_below(parents, table, sub, *sup))
+}
+
+/// Whether each of the first types is below one of the second, tested pair by pair.
+#[tactic(auto, unfolding(crate::specs::Types::fits))]
+fn each_is_below_some(parents: &[u16], table: &[u64], subs: &[u16], sups: &[u16]) -> bool
+    requires { MayHaveTable parents.now table.now }
+    ensures { result ≡ fits parents.now subs.now sups.now }
+{
+    subs.iter()
+        .all(|sub| is_below_some(parents, table, *sub, sups))
+}
+
+/// The bits that are set in the row of at least one of some types.
+fn joined_rows(table: &[u64], sups: &[u16]) -> [u64; ROW_WORDS]
+    requires { All (λ sup. 17 * sup + 17 ≤ length table.now) sups.now }
+    ensures { (k : ℕ) → k < 1088 → row_has result k ≡ list_any (λ sup. row_has table.now (sup * 1088 + k)) sups.now }
+{
+    let mut marks = [0; ROW_WORDS];
+    'rows: for sup in sups {
+        add_row(&mut marks, table, usize::from(*sup) * ROW_WORDS);
+    }
+    marks
+}
+
+/// Adds the bits of a row to those that are set already. The number of words is constant, so that the compiler unrolls the loop and keeps all
+/// of them in registers while the rows are joined.
+fn add_row(marks: &mut [u64; ROW_WORDS], table: &[u64], first: usize)
+    requires { first + 17 ≤ length table.now }
+    ensures { (k : ℕ) → k < 1088 → row_has marks.new k ≡ (row_has marks.old k || row_has table.now (first * 64 + k)) }
+{
+    'words: for place in 0..ROW_WORDS {
+        marks[place] |= table[first + place];
+    }
+}
+
+/// Whether the bit of each type is set.
+fn are_marked(marks: &[u64; ROW_WORDS], types: &[u16]) -> bool
+    ensures { result ≡ list_all (row_has marks.now) types.now }
+{
+    types
+        .iter()
+        .all(|number| is_marked(marks, usize::from(*number)))
+}
+
+/// Whether the bit of a type is set.
+fn is_marked(marks: &[u64; ROW_WORDS], number: usize) -> bool
+    ensures { result ≡ row_has marks.now number }
+{
+    number < ROW_BITS && has_bit(marks, number)
 }
 
 /// Whether parents form a tree below `object`.
@@ -140,49 +205,49 @@ fn is_tree(parents: &[u16]) -> bool
     if parents[0] != 0 {
         return false;
     }
-    if !are_known(parents) {
+    if !are_known(parents, parents) {
         return false;
     }
     all_reach_object(parents)
 }
 
-/// Whether each parent is a type.
-fn are_known(parents: &[u16]) -> bool
-    ensures { IsTrue result ↔ All (λ parent. parent < length parents.now) parents.now }
+/// Whether each number is the number of a type.
+fn are_known(parents: &[u16], numbers: &[u16]) -> bool
+    ensures { IsTrue result ↔ All (λ number. number < length parents.now) numbers.now }
 {
-    parents
+    numbers
         .iter()
-        .all(|parent| usize::from(*parent) < parents.len())
+        .all(|number| usize::from(*number) < parents.len())
 }
 
-/// The rows of all types.
-fn rows_of(alloc: Global, parents: &[u16]) -> Result<Vec<Seq<bool>>, AllocError>
-    requires { All (λ parent. parent < length parents.now) parents.now }
-    ensures full { IfOk result (λ rows. length rows.items ≡ length parents.now) }
-    ensures rows { IfOk result (λ rows. AreRows parents.now rows.items) }
+/// The table of all types.
+fn table_of(alloc: Global, parents: &[u16]) -> Result<Vec<u64>, AllocError>
+    requires few { length parents.now ≤ 1088 }
+    requires known { All (λ parent. parent < length parents.now) parents.now }
+    ensures { IfOk result (λ table. IsTable parents.now table.items) }
 {
-    let mut rows = Vec::with_capacity(alloc, parents.len())?;
-    for number in 0..parents.len() {
-        let row = row_of(alloc, parents, number)?;
-        rows.push(row)?;
+    let mut table = empty_row(alloc, parents.len() * ROW_BITS)?;
+    'types: for number in 0..parents.len() {
+        mark_above(parents, number, &mut table);
     }
-    Ok(rows)
+    Ok(table)
 }
 
-/// For each type whether it stands above the given one.
-fn row_of(alloc: Global, parents: &[u16], number: usize) -> Result<Seq<bool>, AllocError>
+/// Sets the bit of a type in the row of each type above it.
+fn mark_above(parents: &[u16], number: usize, table: &mut [u64])
+    requires few { length parents.now ≤ 1088 }
     requires known { number < length parents.now }
     requires parents_known { All (λ parent. parent < length parents.now) parents.now }
-    ensures { IfOk result (IsRow parents.now number) }
+    requires room { 17 * length parents.now ≤ length table.old }
+    ensures marked { (sup : ℕ) → row_has table.new (sup * 1088 + number) ≡ (row_has table.old (sup * 1088 + number) || is_within parents.now (length parents.now) number sup) }
+    ensures others { (sub sup : ℕ) → sub < 1088 → sub ≢ number → row_has table.new (sup * 1088 + sub) ≡ row_has table.old (sup * 1088 + sub) }
 {
-    let mut row = vec![in alloc; false; parents.len()]?;
     let mut at = number;
     'up: for _ in 0..parents.len() {
-        row[at] = true;
+        set_bit(table, at * ROW_BITS + number);
         at = usize::from(parents[at]);
     }
-    row[at] = true;
-    Ok(Seq::from_vec(row))
+    set_bit(table, at * ROW_BITS + number);
 }
 
 /// Whether the walk from each type over the parents meets `object`.

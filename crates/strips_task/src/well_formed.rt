@@ -7,7 +7,7 @@ ghost use Rattle.std.specs.List.{list_all, zip};
 ghost use Rattle.std.specs.Map.{keys_of, values_of};
 ghost use Rattle.strips_task.specs.Names.{are_distinct};
 ghost use Rattle.strips_task.specs.declared.actions.Term.TheVariants.{Object};
-ghost use Rattle.strips_task.specs.WellFormed.{IsWellFormed, most_types, most_objects, most_predicates, most_actions, fits, are_alternatives, are_variables, term_types, is_fitting, are_fitting, is_pattern, is_atom, is_action};
+ghost use Rattle.strips_task.specs.WellFormed.{IsWellFormed, most_types, most_objects, most_predicates, most_actions, are_alternatives, are_variables, term_types, is_fitting, are_fitting, is_pattern, is_atom, is_action};
 
 use crate::{Action, Alternatives, Atom, Cond, Pattern, TaskParts, Term, TypeList};
 
@@ -197,7 +197,7 @@ fn term_fits(parts: &TaskParts, params: &[Alternatives], term: Term, place: &[u1
 {
     match term {
         Term::Param(number) => match params.get(usize::from(number)) {
-            Some(types) => fits(&parts.parents, types.as_slice(), place),
+            Some(types) => parts.parents.are_below(types.as_slice(), place),
             None => false,
         },
         Term::Object(number) => object_fits(parts, number, place),
@@ -236,7 +236,7 @@ fn object_fits(parts: &TaskParts, number: u16, place: &[u16]) -> bool
     ensures { result ≡ is_fitting parts.now.parents (term_types parts.now [] (Object number)) place.now }
 {
     match parts.objects.value(usize::from(number)) {
-        Some(object_type) => parts.parents.is_below_some(*object_type, place),
+        Some(object_type) => parts.parents.are_below(&[*object_type], place),
         None => false,
     }
 }
@@ -273,14 +273,4 @@ fn are_types(parents: &TypeList, numbers: &[u16]) -> bool
     numbers
         .iter()
         .all(|number| usize::from(*number) < parents.len())
-}
-
-/// Whether each of the first types is below some of the second.
-#[tactic(auto, unfolding(crate::specs::WellFormed::fits))]
-fn fits(parents: &TypeList, types: &[u16], places: &[u16]) -> bool
-    ensures { result ≡ fits parents.now types.now places.now }
-{
-    types
-        .iter()
-        .all(|number| parents.is_below_some(*number, places))
 }

@@ -1,7 +1,7 @@
 //! Terms are looked up, and tested against the places where they stand.
 
 ghost use Rattle.std.specs.Prelude.{◌≡◌, ◌<◌, ◌≤◌, length, IfOk, IfSome};
-ghost use Rattle.strips_task.specs.WellFormed.{fits, is_fitting};
+ghost use Rattle.strips_task.specs.WellFormed.{is_fitting};
 ghost use Rattle.pddl_reader.specs.Declarations.{fitted_all, object_in_place, object_number, term_in_place, term_named, types_of_term};
 ghost use Rattle.pddl_syntax.specs.Forms.{word_forms};
 ghost use Rattle.pddl_syntax.specs.Reading.{Gives, GivesOption};
@@ -12,17 +12,7 @@ use crate::resolution::tables::Declared;
 use crate::resolution::variables::{ActionParameters, parameter_number};
 use pddl_syntax::{FaultKind, ReadFault, Word, is_variable};
 use std::alloc::Global;
-use strips_task::{Alternatives, NameTable, ShortSeq, Term, TypeList};
-
-/// Whether each of the first types is below some of the second.
-#[tactic(auto, unfolding(strips_task::specs::WellFormed::fits))]
-fn fits(parents: &TypeList, types: &[u16], places: &[u16]) -> bool
-    ensures { result ≡ fits parents.now types.now places.now }
-{
-    types
-        .iter()
-        .all(|number| parents.is_below_some(*number, places))
-}
+use strips_task::{Alternatives, NameTable, ShortSeq, Term};
 
 /// Whether a term is a parameter or an object that fits a place for these types.
 #[tactic(auto, using(crate::proofs::TermSteps::fitting_steps))]
@@ -31,11 +21,11 @@ fn term_fits(known: &Declared<'_>, params: &[Alternatives], term: Term, place: &
 {
     match term {
         Term::Param(number) => match params.get(usize::from(number)) {
-            Some(types) => fits(known.parents, types.as_slice(), place),
+            Some(types) => known.parents.are_below(types.as_slice(), place),
             None => false,
         },
         Term::Object(number) => match known.objects.value(usize::from(number)) {
-            Some(kind) => known.parents.is_below_some(*kind, place),
+            Some(kind) => known.parents.are_below(&[*kind], place),
             None => false,
         },
     }

@@ -4,8 +4,7 @@ use Rattle.std.proofs.lemmas.List.{drop_all}
 use Rattle.std.proofs.lemmas.Option.{get_or_from_slice_get}
 use Rattle.std.specs.List.{list_any}
 use Rattle.std.specs.Map.{values_of}
-use Rattle.strips_task.specs.Types.{is_below}
-use Rattle.strips_task.specs.WellFormed.{fits}
+use Rattle.strips_task.specs.Types.{is_below, fits}
 use Rattle.strips_judge.proofs.Fits.{fits-one}
 use Rattle.strips_judge.proofs.Searches.{any_here, any_later}
 use Rattle.strips_judge.proofs.arguments.object_fits.Goals as goal

@@ -1,7 +1,8 @@
 use Rattle.std.proofs.Common.{◌≡◌, length, [], List, ℕ, ap, sym, ◌∙◌, slice_get, Some, None}
 use Rattle.std.proofs.lemmas.Bool.{ltb-false}
 use Rattle.std.proofs.lemmas.Option.{slice_get-get_or, slice_get_past}
-use Rattle.strips_task.specs.WellFormed.{fits, term_types, is_fitting}
+use Rattle.strips_task.specs.Types.{fits}
+use Rattle.strips_task.specs.WellFormed.{term_types, is_fitting}
 use Rattle.strips_task.proofs.WellFormedTests.{param_fitting, param_unknown}
 use Rattle.strips_task.proofs.well_formed.term_fits.Goals as goal
 
@@ -12,7 +13,7 @@ returns-in-Some c =
     let found = c.in-Some.ensures.lookup.3 in
     let own : slice_get params c.in-Param.number ≡ Some c.in-Some.types.now =
     ap (slice_get params) (sym c.from.ensures) ∙ slice_get-get_or params c.from.result [] found.0 ∙ ap Some (sym (found.1 [])) in
-    c.fits.ensures
+    c.are_below.ensures
     ∙ ap (λ types. fits task.parents types c.args.place.now) c.as_slice.ensures
     ∙ sym (param_fitting task params c.args.place.now c.in-Param.number c.in-Some.types.now own)
     ∙ ap (λ t. is_fitting task.parents (term_types task params t) c.args.place.now) (sym c.in-Param.is)
