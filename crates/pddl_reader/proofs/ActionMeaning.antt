@@ -1,25 +1,20 @@
 -- What actions stand for, one equation for each case.
 
-use Rattle.std.proofs.Common.{◌≡◌, ℕ, ◌++◌, true, false, List, [], ◌∷◌, Option, Some, None, refl, append_assoc}
+use Rattle.std.proofs.Common.{◌≡◌, ℕ, ◌++◌, true, false, List, [], ◌∷◌, Option, Some, None, unwrap_or, refl, append_assoc}
 use Rattle.std.proofs.lemmas.List.{append-nil}
-use Rattle.std.specs.Global.{Vec}
 use Rattle.pddl_words.specs.Words.{folded}
 use Rattle.strips_task.specs.declared.actions.Action.{Action}
 use Rattle.strips_task.specs.declared.actions.Cond.{Cond}
 use Rattle.strips_task.specs.declared.actions.Pattern.{Pattern}
 use Rattle.pddl_reader.specs.declared.resolution.actions.Effects.{Effects}
 use Rattle.pddl_syntax.specs.declared.syntax.ActionSyntax.{ActionSyntax}
-use Rattle.pddl_syntax.specs.declared.syntax.LiteralSyntax.{LiteralSyntax}
 use Rattle.pddl_syntax.specs.Optional.{guard, through}
-use Rattle.pddl_syntax.specs.Forms.{literal_form, literal_forms, variable_groups, parts_form, action_syntax_form, action_forms}
-use Rattle.pddl_reader.specs.Parts.{part_items}
+use Rattle.pddl_syntax.specs.Forms.{parts_form, action_syntax_form, action_forms}
 use Rattle.pddl_reader.specs.Declarations.{Known, may_declare, declared, condition_of, conditions_of}
 use Rattle.pddl_reader.specs.Variables.{Parameters, parameters_of}
-use Rattle.pddl_syntax.specs.declared.syntax.VariableGroup as variables
 use Rattle.pddl_reader.specs.Domain.{no_effects, lone_effect, both_effects, effects_before, effects_of, action_with, action_by, action_meant, Actions, declared_action, with_action_of, actions_from}
-use Rattle.pddl_syntax.specs.Syntax.{ActionForm, action_form}
+use Rattle.pddl_syntax.specs.Syntax.{ActionForm, LiteralForm, action_form}
 use Rattle.pddl_reader.proofs.DeclarationSteps.{may_declare_new}
-use Rattle.pddl_reader.proofs.Items.{item_steps}
 use Rattle.pddl_reader.proofs.KeptVariables.{few_parameters}
 use Rattle.pddl_reader.proofs.Through.{through_behind, through_item, through_end}
 
@@ -66,14 +61,13 @@ onto_before front None others = refl
 onto_before front (Some effect) None = refl
 onto_before front (Some effect) (Some others) = rw both_both refl
 
-pub effects_item : (front : Effects) (known : Known) (p : Parameters) (x : LiteralSyntax) (xs : List LiteralSyntax) →
-    effects_onto front (effects_of known p (literal_forms (x ∷ xs)))
-    ≡ effects_after front (condition_of known p (literal_form x)) (effects_of known p (literal_forms xs))
-unfolding effects_of literal_forms
-effects_item front known p x xs = onto_before front (condition_of known p (literal_form x)) (effects_of known p (literal_forms xs))
+pub effects_item : (front : Effects) (known : Known) (p : Parameters) (l : LiteralForm) (ls : List LiteralForm) →
+    effects_onto front (effects_of known p (l ∷ ls)) ≡ effects_after front (condition_of known p l) (effects_of known p ls)
+unfolding effects_of
+effects_item front known p l ls = onto_before front (condition_of known p l) (effects_of known p ls)
 
-pub effects_end : (front : Effects) (known : Known) (p : Parameters) → effects_onto front (effects_of known p (literal_forms [])) ≡ Some front
-unfolding effects_of literal_forms effects_onto
+pub effects_end : (front : Effects) (known : Known) (p : Parameters) → effects_onto front (effects_of known p []) ≡ Some front
+unfolding effects_of effects_onto
 effects_end front known p = rw both_none refl
 
 pub after_none : (front : Effects) (others : Option Effects) → effects_after front None others ≡ None
@@ -85,49 +79,34 @@ pub after_some : (front : Effects) (effect : Cond) (others : Option Effects) →
 unfolding effects_after
 after_some front effect others = refl
 
-pub ruleset effects_steps = (item_steps, onto_no_effects, effects_item, effects_end, after_none, after_some)
+pub ruleset effects_steps = (onto_no_effects, effects_item, effects_end, after_none, after_some)
 
-precondition_given : (syntax : ActionSyntax) → (action_syntax_form syntax).precondition ≡ literal_forms (part_items syntax.parts.precondition)
-unfolding action_form parts_form part_items literal_forms
-precondition_given syntax = by syntax.parts.precondition
-  where
-    by : (given : Option (Vec LiteralSyntax)) →
-        (action_form syntax.name.text.now (parts_form (record syntax.parts { precondition = given }))).precondition ≡ literal_forms (part_items given)
-    by None = refl
-    by (Some v) = refl
+precondition_given : (syntax : ActionSyntax) → (action_syntax_form syntax).precondition ≡ unwrap_or syntax.parts.precondition []
+unfolding action_form parts_form
+precondition_given syntax = refl
 
-effect_given : (syntax : ActionSyntax) → (action_syntax_form syntax).effect ≡ literal_forms (part_items syntax.parts.effect)
-unfolding action_form parts_form part_items literal_forms
-effect_given syntax = by syntax.parts.effect
-  where
-    by : (given : Option (Vec LiteralSyntax)) →
-        (action_form syntax.name.text.now (parts_form (record syntax.parts { effect = given }))).effect ≡ literal_forms (part_items given)
-    by None = refl
-    by (Some v) = refl
+effect_given : (syntax : ActionSyntax) → (action_syntax_form syntax).effect ≡ unwrap_or syntax.parts.effect []
+unfolding action_form parts_form
+effect_given syntax = refl
 
-parameters_given : (syntax : ActionSyntax) → (action_syntax_form syntax).parameters ≡ variable_groups (part_items syntax.parts.parameters)
-unfolding action_form parts_form part_items variable_groups
-parameters_given syntax = by syntax.parts.parameters
-  where
-    by : (given : Option (Vec variables.VariableGroup)) →
-        (action_form syntax.name.text.now (parts_form (record syntax.parts { parameters = given }))).parameters ≡ variable_groups (part_items given)
-    by None = refl
-    by (Some v) = refl
+parameters_given : (syntax : ActionSyntax) → (action_syntax_form syntax).parameters ≡ unwrap_or syntax.parts.parameters []
+unfolding action_form parts_form
+parameters_given syntax = refl
 
-pub no_conditions : (known : Known) (p : Parameters) (syntax : ActionSyntax) → conditions_of known p (literal_forms (part_items syntax.parts.precondition)) ≡ None →
+pub no_conditions : (known : Known) (p : Parameters) (syntax : ActionSyntax) → conditions_of known p (unwrap_or syntax.parts.precondition []) ≡ None →
     action_by known (action_syntax_form syntax) (Some p) ≡ None
 unfolding action_by action_with
 no_conditions known p syntax h = rw (precondition_given syntax, h) refl
 
 pub no_effects_meant : (known : Known) (p : Parameters) (syntax : ActionSyntax) (pre : List Cond) →
-    conditions_of known p (literal_forms (part_items syntax.parts.precondition)) ≡ Some pre →
-    effects_of known p (literal_forms (part_items syntax.parts.effect)) ≡ None → action_by known (action_syntax_form syntax) (Some p) ≡ None
+    conditions_of known p (unwrap_or syntax.parts.precondition []) ≡ Some pre →
+    effects_of known p (unwrap_or syntax.parts.effect []) ≡ None → action_by known (action_syntax_form syntax) (Some p) ≡ None
 unfolding action_by action_with
 no_effects_meant known p syntax pre h e = rw (precondition_given syntax, h, effect_given syntax, e) refl
 
 pub both_meant : (known : Known) (p : Parameters) (syntax : ActionSyntax) (pre : List Cond) (effects : Effects) →
-    conditions_of known p (literal_forms (part_items syntax.parts.precondition)) ≡ Some pre →
-    effects_of known p (literal_forms (part_items syntax.parts.effect)) ≡ Some effects →
+    conditions_of known p (unwrap_or syntax.parts.precondition []) ≡ Some pre →
+    effects_of known p (unwrap_or syntax.parts.effect []) ≡ Some effects →
     action_by known (action_syntax_form syntax) (Some p) ≡ Some (record { params = p.types; pre = pre; add = effects.add; del = effects.del })
 unfolding action_by action_with
 both_meant known p syntax pre effects h e = rw (precondition_given syntax, h, effect_given syntax, e) refl
@@ -135,12 +114,12 @@ both_meant known p syntax pre effects h e = rw (precondition_given syntax, h, ef
 pub ruleset body_steps = (no_conditions, no_effects_meant, both_meant)
 
 pub no_parameters_meant : (types : List (List ℕ)) (known : Known) (syntax : ActionSyntax) →
-    parameters_of types (variable_groups (part_items syntax.parts.parameters)) ≡ None → action_meant types known (action_syntax_form syntax) ≡ None
+    parameters_of types (unwrap_or syntax.parts.parameters []) ≡ None → action_meant types known (action_syntax_form syntax) ≡ None
 unfolding action_meant action_by
 no_parameters_meant types known syntax h = rw (parameters_given syntax, h) refl
 
 pub parameters_meant : (types : List (List ℕ)) (known : Known) (syntax : ActionSyntax) (p : Parameters) →
-    parameters_of types (variable_groups (part_items syntax.parts.parameters)) ≡ Some p →
+    parameters_of types (unwrap_or syntax.parts.parameters []) ≡ Some p →
     action_meant types known (action_syntax_form syntax) ≡ action_by known (action_syntax_form syntax) (Some p)
 unfolding action_meant
 parameters_meant types known syntax p h = rw (parameters_given syntax, h) refl

@@ -8,15 +8,13 @@ use Rattle.strips_task.specs.declared.actions.Cond.{Cond}
 use Rattle.strips_task.specs.declared.actions.Pattern.{Pattern}
 use Rattle.strips_task.specs.Names.{number_named}
 use Rattle.pddl_syntax.specs.declared.syntax.PredicateSyntax.{PredicateSyntax}
-use Rattle.pddl_syntax.specs.declared.syntax.LiteralSyntax.{LiteralSyntax}
 use Rattle.pddl_syntax.specs.Optional.{guard, through, with_front}
-use Rattle.pddl_syntax.specs.Forms.{predicate_form, predicate_forms, literal_form, literal_forms}
+use Rattle.pddl_syntax.specs.Forms.{predicate_form, predicate_forms}
 use Rattle.pddl_reader.specs.Declarations.{Known, Predicates, may_declare, declared, pattern_of, condition_of, conditions_of}
 use Rattle.pddl_reader.specs.Domain.{declared_predicate, with_predicate, predicates_from}
 use Rattle.pddl_reader.specs.Variables.{Parameters, places_of}
 use Rattle.pddl_reader.proofs.Through.{through_behind, through_item, through_end}
 use Rattle.pddl_syntax.specs.Syntax.{LiteralForm, PredicateForm}
-use Rattle.pddl_reader.proofs.Items.{item_steps}
 use Rattle.pddl_syntax.proofs.ListsOf.{with_front-followed_by, with_item, item_none, item_some, front_none}
 
 pub condition_none : (known : Known) (p : Parameters) (l : LiteralForm) → pattern_of known p l.atom ≡ None → condition_of known p l ≡ None
@@ -30,16 +28,16 @@ condition_some known p l pattern h = rw h refl
 
 pub ruleset condition_steps = (condition_none, condition_some)
 
-pub conditions_item : (front : List Cond) (known : Known) (p : Parameters) (x : LiteralSyntax) (xs : List LiteralSyntax) →
-    with_front front (conditions_of known p (literal_forms (x ∷ xs))) ≡ with_item front (condition_of known p (literal_form x)) (conditions_of known p (literal_forms xs))
-unfolding conditions_of literal_forms
-conditions_item front known p x xs = with_front-followed_by front (condition_of known p (literal_form x)) (conditions_of known p (literal_forms xs))
+pub conditions_item : (front : List Cond) (known : Known) (p : Parameters) (l : LiteralForm) (ls : List LiteralForm) →
+    with_front front (conditions_of known p (l ∷ ls)) ≡ with_item front (condition_of known p l) (conditions_of known p ls)
+unfolding conditions_of
+conditions_item front known p l ls = with_front-followed_by front (condition_of known p l) (conditions_of known p ls)
 
-pub conditions_end : (front : List Cond) (known : Known) (p : Parameters) → with_front front (conditions_of known p (literal_forms [])) ≡ Some front
-unfolding conditions_of literal_forms with_front
+pub conditions_end : (front : List Cond) (known : Known) (p : Parameters) → with_front front (conditions_of known p []) ≡ Some front
+unfolding conditions_of with_front
 conditions_end front known p = rw append-nil refl
 
-pub ruleset conditions_steps = (item_steps, front_none, conditions_item, conditions_end, item_none, item_some)
+pub ruleset conditions_steps = (front_none, conditions_item, conditions_end, item_none, item_some)
 
 pub predicate_refused : (types : List (List ℕ)) (table : Predicates) (p : PredicateForm) → may_declare 4096 table (folded p.name) ≡ false → with_predicate types table p ≡ None
 unfolding with_predicate declared_predicate declared guard

@@ -1,21 +1,19 @@
 -- What the syntax of a problem stands for, one equation for each case.
 
-use Rattle.std.proofs.Common.{◌≡◌, ◌++◌, Bool, true, false, List, [], ◌∷◌, Option, Some, None, refl, append_assoc, if◌then◌else◌}
+use Rattle.std.proofs.Common.{◌≡◌, ◌++◌, Bool, true, false, List, [], ◌∷◌, Option, Some, None, unwrap_or, refl, append_assoc, if◌then◌else◌}
 use Rattle.std.proofs.lemmas.List.{append-nil}
 use Rattle.std.specs.Global.{Vec}
 use Rattle.strips_task.specs.declared.atoms.Atom.{Atom}
 use Rattle.strips_task.specs.declared.atoms.GroundCond.{GroundCond}
-use Rattle.pddl_syntax.specs.declared.syntax.LiteralSyntax.{LiteralSyntax}
 use Rattle.pddl_syntax.specs.declared.syntax.ProblemSyntax.{ProblemSyntax}
 use Rattle.pddl_syntax.specs.Optional.{followed_by, with_front}
-use Rattle.pddl_syntax.specs.Forms.{literal_form, literal_forms, name_groups, problem_syntax_form}
+use Rattle.pddl_syntax.specs.Forms.{name_groups, problem_syntax_form}
 use Rattle.pddl_reader.specs.Parts.{part_items}
 use Rattle.pddl_syntax.specs.declared.syntax.NameGroup as groups
 use Rattle.pddl_reader.specs.Declarations.{Known, ground_of}
 use Rattle.pddl_reader.specs.Domain.{DomainValue}
 use Rattle.pddl_reader.specs.Problem.{known_in, ground_condition_of, ground_conditions_of, initial_before, initial_of, task_value, task_with, domain_extended, problem_within, problem_of}
 use Rattle.pddl_syntax.specs.Syntax.{LiteralForm}
-use Rattle.pddl_reader.proofs.Items.{item_steps}
 use Rattle.pddl_syntax.proofs.ListsOf.{with_item, item_none, item_some, front_none, with_front-followed_by}
 
 pub condition_none : (known : Known) (l : LiteralForm) → ground_of known l.atom ≡ None → ground_condition_of known l ≡ None
@@ -29,17 +27,16 @@ condition_some known l atom h = rw h refl
 
 pub ruleset condition_steps = (condition_none, condition_some)
 
-pub conditions_item : (front : List GroundCond) (known : Known) (x : LiteralSyntax) (xs : List LiteralSyntax) →
-    with_front front (ground_conditions_of known (literal_forms (x ∷ xs)))
-    ≡ with_item front (ground_condition_of known (literal_form x)) (ground_conditions_of known (literal_forms xs))
-unfolding ground_conditions_of literal_forms
-conditions_item front known x xs = with_front-followed_by front (ground_condition_of known (literal_form x)) (ground_conditions_of known (literal_forms xs))
+pub conditions_item : (front : List GroundCond) (known : Known) (l : LiteralForm) (ls : List LiteralForm) →
+    with_front front (ground_conditions_of known (l ∷ ls)) ≡ with_item front (ground_condition_of known l) (ground_conditions_of known ls)
+unfolding ground_conditions_of
+conditions_item front known l ls = with_front-followed_by front (ground_condition_of known l) (ground_conditions_of known ls)
 
-pub conditions_end : (front : List GroundCond) (known : Known) → with_front front (ground_conditions_of known (literal_forms [])) ≡ Some front
-unfolding ground_conditions_of literal_forms with_front
+pub conditions_end : (front : List GroundCond) (known : Known) → with_front front (ground_conditions_of known []) ≡ Some front
+unfolding ground_conditions_of with_front
 conditions_end front known = rw append-nil refl
 
-pub ruleset conditions_steps = (item_steps, front_none, conditions_item, conditions_end, item_none, item_some)
+pub ruleset conditions_steps = (front_none, conditions_item, conditions_end, item_none, item_some)
 
 -- the initial atoms behind one more atom, where it is not negated
 unfoldable pub initial_as : Bool → List Atom → Atom → Option (List Atom) → Option (List Atom)
@@ -64,14 +61,13 @@ unfolding initial_before initial_after with_front
 initial_read front None others = refl
 initial_read front (Some given) others = initial_read_as given.positive front given.atom others
 
-pub initial_item : (front : List Atom) (known : Known) (x : LiteralSyntax) (xs : List LiteralSyntax) →
-    with_front front (initial_of known (literal_forms (x ∷ xs)))
-    ≡ initial_after front (ground_condition_of known (literal_form x)) (initial_of known (literal_forms xs))
-unfolding initial_of literal_forms
-initial_item front known x xs = initial_read front (ground_condition_of known (literal_form x)) (initial_of known (literal_forms xs))
+pub initial_item : (front : List Atom) (known : Known) (l : LiteralForm) (ls : List LiteralForm) →
+    with_front front (initial_of known (l ∷ ls)) ≡ initial_after front (ground_condition_of known l) (initial_of known ls)
+unfolding initial_of
+initial_item front known l ls = initial_read front (ground_condition_of known l) (initial_of known ls)
 
-pub initial_end : (front : List Atom) (known : Known) → with_front front (initial_of known (literal_forms [])) ≡ Some front
-unfolding initial_of literal_forms with_front
+pub initial_end : (front : List Atom) (known : Known) → with_front front (initial_of known []) ≡ Some front
+unfolding initial_of with_front
 initial_end front known = rw append-nil refl
 
 pub after_none : (front : List Atom) (others : Option (List Atom)) → initial_after front None others ≡ None
@@ -88,34 +84,27 @@ pub after_negated : (front : List Atom) (given : GroundCond) (others : Option (L
 unfolding initial_after initial_as
 after_negated front given others h = rw h refl
 
-pub ruleset initial_steps = (item_steps, front_none, initial_item, initial_end, after_none, after_positive, after_negated)
+pub ruleset initial_steps = (front_none, initial_item, initial_end, after_none, after_positive, after_negated)
 
 pub meant_parts : (domain : DomainValue) (syntax : ProblemSyntax) → problem_within (problem_syntax_form syntax) (Some domain)
-    ≡ task_with domain syntax.name.text.now (initial_of (known_in domain) (literal_forms (part_items syntax.init)))
-    (ground_conditions_of (known_in domain) (literal_forms syntax.goal.items))
-unfolding problem_within part_items literal_forms
-meant_parts domain syntax = by syntax.init
-  where
-    by : (init : Option (Vec LiteralSyntax)) →
-        problem_within (problem_syntax_form (record syntax { init = init })) (Some domain)
-        ≡ task_with domain syntax.name.text.now (initial_of (known_in domain) (literal_forms (part_items init)))
-        (ground_conditions_of (known_in domain) (literal_forms syntax.goal.items))
-    by None = refl
-    by (Some v) = refl
+    ≡ task_with domain syntax.name.text.now (initial_of (known_in domain) (unwrap_or syntax.init []))
+    (ground_conditions_of (known_in domain) syntax.goal)
+unfolding problem_within
+meant_parts domain syntax = refl
 
-pub no_initial : (domain : DomainValue) (syntax : ProblemSyntax) → initial_of (known_in domain) (literal_forms (part_items syntax.init)) ≡ None →
+pub no_initial : (domain : DomainValue) (syntax : ProblemSyntax) → initial_of (known_in domain) (unwrap_or syntax.init []) ≡ None →
     problem_within (problem_syntax_form syntax) (Some domain) ≡ None
 unfolding task_with
 no_initial domain syntax h = rw (meant_parts domain syntax, h) refl
 
-pub no_goal : (domain : DomainValue) (syntax : ProblemSyntax) (init : List Atom) → initial_of (known_in domain) (literal_forms (part_items syntax.init)) ≡ Some init →
-    ground_conditions_of (known_in domain) (literal_forms syntax.goal.items) ≡ None → problem_within (problem_syntax_form syntax) (Some domain) ≡ None
+pub no_goal : (domain : DomainValue) (syntax : ProblemSyntax) (init : List Atom) → initial_of (known_in domain) (unwrap_or syntax.init []) ≡ Some init →
+    ground_conditions_of (known_in domain) syntax.goal ≡ None → problem_within (problem_syntax_form syntax) (Some domain) ≡ None
 unfolding task_with
 no_goal domain syntax init h e = rw (meant_parts domain syntax, h, e) refl
 
 pub problem_meant : (domain : DomainValue) (syntax : ProblemSyntax) (init : List Atom) (goal : List GroundCond) →
-    initial_of (known_in domain) (literal_forms (part_items syntax.init)) ≡ Some init →
-    ground_conditions_of (known_in domain) (literal_forms syntax.goal.items) ≡ Some goal →
+    initial_of (known_in domain) (unwrap_or syntax.init []) ≡ Some init →
+    ground_conditions_of (known_in domain) syntax.goal ≡ Some goal →
     problem_within (problem_syntax_form syntax) (Some domain) ≡ Some (task_value domain syntax.name.text.now init goal)
 unfolding task_with
 problem_meant domain syntax init goal h e = rw (meant_parts domain syntax, h, e) refl

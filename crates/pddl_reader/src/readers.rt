@@ -12,8 +12,9 @@ use pddl_syntax::{ReadFault, check_text, domain_text, problem_text};
 use std::alloc::Global;
 use strips_task::{Seed, Task};
 
-/// Reads a domain (PDDL 2.1, Fox and Long 2003, appendix A). Walks over the text twice, and looks each name up by one hash. The tables of
-/// the domain, and those of the task that is made of it, hash with the seed; the domain is the same with any.
+/// Reads a domain (PDDL 2.1, Fox and Long 2003, appendix A). Walks over the text twice, over formulas and lists of variables three times, and
+/// looks each name up by one hash. The tables of the domain, and those of the task that is made of it, hash with the seed; the domain is the
+/// same with any.
 #[tactic(auto, using(crate::proofs::TextSteps::domain_text_steps))]
 pub fn read_domain(alloc: Global, seed: Seed, text: &[u8]) -> Result<Domain, ReadFault>
     ensures domain { Gives (λ domain. domain) result (domain_of_text text.now) }
@@ -24,7 +25,7 @@ pub fn read_domain(alloc: Global, seed: Seed, text: &[u8]) -> Result<Domain, Rea
     resolve_domain(alloc, seed, &syntax)
 }
 
-/// Reads a problem (PDDL 2.1, Fox and Long 2003, appendix A) and makes a task of it and its domain. The name that the problem gives for
+/// Reads a problem (PDDL 2.1, Fox and Long 2003, appendix A), as `read_domain` does a domain, and makes a task of it and its domain. The name that the problem gives for
 /// its domain is read and not compared. Where it refuses, the domain is dropped.
 #[tactic(auto, using(crate::proofs::TextSteps::problem_text_steps))]
 pub fn read_problem(alloc: Global, domain: Domain, text: &[u8]) -> Result<Task, ReadFault>

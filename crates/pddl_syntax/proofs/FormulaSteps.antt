@@ -1,16 +1,13 @@
 -- The definitions of atoms, literals and formulas, one equation for each case.
 
-use Rattle.std.proofs.Common.{◌≡◌, ℕ, ◌++◌, true, false, List, [], ◌∷◌, Option, Some, None, refl, arith, append_assoc}
-use Rattle.std.proofs.lemmas.List.{append-nil, map_push}
+use Rattle.std.proofs.Common.{◌≡◌, ℕ, ◌&&◌, true, false, List, Option, Some, None, is_some, refl, arith}
 use Rattle.pddl_syntax.specs.declared.heads.Scope.{Scope}
 use Rattle.pddl_syntax.specs.declared.heads.FormulaHead.TheVariants.{And, Not, Reserved, Name, Other}
-use Rattle.pddl_syntax.specs.declared.syntax.LiteralSyntax.{LiteralSyntax}
 use Rattle.pddl_words.specs.Words.{is_name}
 use Rattle.pddl_syntax.specs.Heads.{formula_head, is_and, is_term}
 use Rattle.pddl_syntax.specs.Optional.{with_front, joined}
-use Rattle.pddl_syntax.specs.Forms.{literal_form, literal_forms}
 use Rattle.pddl_syntax.specs.Trees.{Trees, none, word, list}
-use Rattle.pddl_syntax.specs.Syntax.{AtomForm, LiteralForm, ended, end_of, first_list, words_of, atom_of, atom_in, literal, negated_of, literal_of, formula_in, conjuncts_of}
+use Rattle.pddl_syntax.specs.Syntax.{AtomForm, LiteralForm, ended, end_of, first_list, words_of, atom_of, atom_in, literal, negated_of, literal_of, formula_in, conjuncts_of, is_formula, are_conjuncts}
 
 pub atom_no_terms : (scope : Scope) (w : List ℕ) (f : Trees) → words_of (is_term scope) f ≡ None → atom_of scope w f ≡ None
 unfolding atom_of
@@ -109,67 +106,51 @@ literal_other scope w f h = rw h refl
 
 pub ruleset literal_steps = (head_is_name, literal_name, literal_no_atom, literal_not, literal_and, literal_reserved, literal_other)
 
-pub formula_end : (scope : Scope) (front : List LiteralForm) → with_front front (formula_in scope none) ≡ Some front
-unfolding formula_in with_front
-formula_end scope front = rw append-nil refl
+pub formula_end : (scope : Scope) → is_formula scope none ≡ true
+unfolding is_formula formula_in
+formula_end scope = refl
 
-pub formula_list : (scope : Scope) (front : List LiteralForm) (k f : Trees) → with_front front (formula_in scope (list k f)) ≡ None
-unfolding formula_in with_front
-formula_list scope front k f = refl
+pub formula_list : (scope : Scope) (k f : Trees) → is_formula scope (list k f) ≡ false
+unfolding is_formula formula_in
+formula_list scope k f = refl
 
-pub formula_and : (scope : Scope) (front : List LiteralForm) (w : List ℕ) (f : Trees) → is_and w ≡ true → with_front front (formula_in scope (word w f)) ≡ with_front front (conjuncts_of scope f)
-unfolding formula_in
-formula_and scope front w f h = rw h refl
+pub formula_and : (scope : Scope) (w : List ℕ) (f : Trees) → is_and w ≡ true → is_formula scope (word w f) ≡ are_conjuncts scope f
+unfolding is_formula are_conjuncts formula_in
+formula_and scope w f h = rw h refl
 
-pub formula_no_literal : (scope : Scope) (front : List LiteralForm) (w : List ℕ) (f : Trees) → is_and w ≡ false → literal_of scope w f ≡ None → with_front front (formula_in scope (word w f)) ≡ None
-unfolding formula_in with_front
-formula_no_literal scope front w f h e = rw (h, e) refl
+pub formula_no_literal : (scope : Scope) (w : List ℕ) (f : Trees) → is_and w ≡ false → literal_of scope w f ≡ None → is_formula scope (word w f) ≡ false
+unfolding is_formula formula_in
+formula_no_literal scope w f h e = rw (h, e) refl
 
-pub formula_literal : (scope : Scope) (front : List LiteralForm) (w : List ℕ) (f : Trees) (l : LiteralForm) → is_and w ≡ false → literal_of scope w f ≡ Some l →
-    with_front front (formula_in scope (word w f)) ≡ Some (front ++ l ∷ [])
-unfolding formula_in with_front
-formula_literal scope front w f l h e = rw (h, e) refl
+pub formula_literal : (scope : Scope) (w : List ℕ) (f : Trees) (l : LiteralForm) → is_and w ≡ false → literal_of scope w f ≡ Some l →
+    is_formula scope (word w f) ≡ true
+unfolding is_formula formula_in
+formula_literal scope w f l h e = rw (h, e) refl
 
-pub literal_forms-push : (ls : List LiteralSyntax) (l : LiteralSyntax) → literal_forms (ls ++ l ∷ []) ≡ literal_forms ls ++ literal_form l ∷ []
-unfolding literal_forms
-literal_forms-push ls l = map_push literal_form ls l
+pub ruleset formula_steps = (formula_end, formula_list, formula_and, formula_no_literal, formula_literal)
 
-pub ruleset formula_steps = (formula_end, formula_list, formula_and, formula_no_literal, formula_literal, literal_forms-push)
+pub conjuncts_end : (scope : Scope) → are_conjuncts scope none ≡ true
+unfolding are_conjuncts conjuncts_of
+conjuncts_end scope = refl
 
-pub conjuncts_end : (scope : Scope) (front : List LiteralForm) → with_front front (conjuncts_of scope none) ≡ Some front
-unfolding conjuncts_of with_front
-conjuncts_end scope front = rw append-nil refl
+pub conjuncts_word : (scope : Scope) (w : List ℕ) (f : Trees) → are_conjuncts scope (word w f) ≡ false
+unfolding are_conjuncts conjuncts_of
+conjuncts_word scope w f = refl
 
-pub conjuncts_word : (scope : Scope) (front : List LiteralForm) (w : List ℕ) (f : Trees) → with_front front (conjuncts_of scope (word w f)) ≡ None
-unfolding conjuncts_of with_front
-conjuncts_word scope front w f = refl
+is_some-joined : (literals more : Option (List LiteralForm)) → is_some (joined literals more) ≡ is_some literals && is_some more
+unfolding joined with_front
+is_some-joined None more = refl
+is_some-joined (Some xs) None = refl
+is_some-joined (Some xs) (Some ys) = refl
 
-with_front_joined : (front : List LiteralForm) (literals more : Option (List LiteralForm)) →
-    with_front front (joined literals more) ≡ joined (with_front front literals) more
-unfolding with_front joined
-with_front_joined front None more = refl
-with_front_joined front (Some xs) None = refl
-with_front_joined front (Some xs) (Some ys) = rw append_assoc refl
+pub conjuncts_list : (scope : Scope) (k f : Trees) → are_conjuncts scope (list k f) ≡ is_formula scope k && are_conjuncts scope f
+unfolding is_formula are_conjuncts conjuncts_of
+conjuncts_list scope k f = is_some-joined (formula_in scope k) (conjuncts_of scope f)
 
-pub conjuncts_list : (scope : Scope) (front : List LiteralForm) (k f : Trees) → with_front front (conjuncts_of scope (list k f)) ≡ joined (with_front front (formula_in scope k)) (conjuncts_of scope f)
-unfolding conjuncts_of
-conjuncts_list scope front k f = with_front_joined front (formula_in scope k) (conjuncts_of scope f)
+pub conjuncts_first : (scope : Scope) (k f : Trees) → is_formula scope k ≡ true → are_conjuncts scope (list k f) ≡ are_conjuncts scope f
+conjuncts_first scope k f h = rw (conjuncts_list scope k f, h) refl
 
-pub joined_none : (more : Option (List LiteralForm)) → joined None more ≡ None
-unfolding joined
-joined_none more = refl
+pub conjuncts_no_first : (scope : Scope) (k f : Trees) → is_formula scope k ≡ false → are_conjuncts scope (list k f) ≡ false
+conjuncts_no_first scope k f h = rw (conjuncts_list scope k f, h) refl
 
-pub joined_some : (front : List LiteralForm) (more : Option (List LiteralForm)) → joined (Some front) more ≡ with_front front more
-unfolding joined
-joined_some front more = refl
-
-pub ruleset conjunct_steps = (conjuncts_end, conjuncts_word, conjuncts_list, joined_none, joined_some)
-
-pub no_literals : literal_forms [] ≡ []
-unfolding literal_forms
-no_literals = refl
-
-pub no_front : (read : Option (List LiteralForm)) → with_front [] read ≡ read
-unfolding with_front
-no_front None = refl
-no_front (Some ls) = refl
+pub ruleset conjunct_steps = (conjuncts_end, conjuncts_word, conjuncts_first, conjuncts_no_first)

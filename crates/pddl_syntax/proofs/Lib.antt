@@ -12,5 +12,7 @@ pub mod DomainSteps
 pub mod ProblemSteps
 pub mod TextSteps
 pub mod Spelling
-pub mod Sizes
 pub mod Balanced
+pub mod Ahead
+pub mod LiteralSteps
+pub mod Memory

@@ -1,22 +1,19 @@
 -- The definitions of problems, one equation for each case.
 
-use Rattle.std.proofs.Common.{◌≡◌, ℕ, Bool, true, false, List, [], Option, Some, None, unwrap_or, refl}
+use Rattle.std.proofs.Common.{◌≡◌, ℕ, ◌&&◌, Bool, true, false, List, [], Option, Some, None, is_some, unwrap_or, refl}
 use Rattle.std.specs.Global.{Vec}
 use Rattle.std.specs.Option.{option_map, option_and_then}
 use Rattle.pddl_syntax.specs.declared.heads.Scope.TheVariants as scope
 use Rattle.pddl_syntax.specs.declared.heads.ProblemSection.{ProblemSection}
 use Rattle.pddl_syntax.specs.declared.heads.ProblemSection.TheVariants.{Domain, Requirements, Objects, Init, Goal, Metric, Length}
-use Rattle.pddl_syntax.specs.declared.syntax.LiteralSyntax.{LiteralSyntax}
 use Rattle.pddl_syntax.specs.declared.syntax.NameGroup as groups
 use Rattle.pddl_syntax.specs.declared.walk.NameWord.{NameWord}
 use Rattle.pddl_syntax.specs.Heads.{problem_section}
 use Rattle.pddl_syntax.specs.Keywords.{define_word, problem_word}
-use Rattle.pddl_syntax.specs.Optional.{guard}
-use Rattle.pddl_syntax.specs.Forms.{literal_forms, name_groups, problem_sections_form}
+use Rattle.pddl_syntax.specs.Optional.{guard, followed_by}
+use Rattle.pddl_syntax.specs.Forms.{name_groups, problem_sections_form}
 use Rattle.pddl_syntax.specs.Trees.{Trees, none, word, list}
-use Rattle.pddl_syntax.specs.Syntax.{NameGroup, keywords_of, typed_names, with_problem_requirements, with_objects, with_metric, with_length, LiteralForm, ProblemForm, ProblemSections, ended, end_of, first_list, behind_word, lone_name, header_of, lists_of, literal_of, init_item_in, formula_in, goal_of, no_problem_sections, with_domain, with_init, with_goal, is_problem_section_given, problem_section_by, problem_section_headed, problem_section_in, problem_sections_of, problem_form, problem_by, problem_body, problem_in, problem_syntax}
-use Rattle.pddl_syntax.proofs.FormulaSteps.{no_literals, literal_forms-push}
-use Rattle.pddl_syntax.proofs.ListsOf.{lists_steps}
+use Rattle.pddl_syntax.specs.Syntax.{NameGroup, keywords_of, typed_names, with_problem_requirements, with_objects, with_metric, with_length, LiteralForm, ProblemForm, ProblemSections, ended, end_of, first_list, behind_word, lone_name, header_of, lists_of, literal_of, init_item_in, are_initial, formula_in, goal_of, no_problem_sections, with_domain, with_init, with_goal, is_problem_section_given, problem_section_by, problem_section_headed, problem_section_in, problem_sections_of, problem_form, problem_by, problem_body, problem_in, problem_syntax}
 
 pub init_item_none : init_item_in none ≡ None
 unfolding init_item_in
@@ -32,7 +29,31 @@ init_item_word w f = refl
 
 pub ruleset init_item_steps = (init_item_none, init_item_list, init_item_word)
 
-pub ruleset init_steps = (lists_steps, no_literals, literal_forms-push)
+is_some-followed_by : (item : Option LiteralForm) (others : Option (List LiteralForm)) → is_some (followed_by item others) ≡ is_some item && is_some others
+unfolding followed_by
+is_some-followed_by None others = refl
+is_some-followed_by (Some l) None = refl
+is_some-followed_by (Some l) (Some ls) = refl
+
+initial_list : (k f : Trees) → are_initial (list k f) ≡ is_some (init_item_in k) && are_initial f
+unfolding are_initial lists_of
+initial_list k f = is_some-followed_by (init_item_in k) (lists_of init_item_in f)
+
+pub initial_end : are_initial none ≡ true
+unfolding are_initial lists_of
+initial_end = refl
+
+pub initial_word : (w : List ℕ) (f : Trees) → are_initial (word w f) ≡ false
+unfolding are_initial lists_of
+initial_word w f = refl
+
+pub initial_first : (k f : Trees) (l : LiteralForm) → init_item_in k ≡ Some l → are_initial (list k f) ≡ are_initial f
+initial_first k f l h = rw (initial_list k f, h) refl
+
+pub initial_no_first : (k f : Trees) → init_item_in k ≡ None → are_initial (list k f) ≡ false
+initial_no_first k f h = rw (initial_list k f, h) refl
+
+pub ruleset init_steps = (initial_end, initial_word, initial_first, initial_no_first)
 
 pub goal_no_list : (f : Trees) → first_list f ≡ None → goal_of f ≡ None
 unfolding goal_of first_list
@@ -218,27 +239,27 @@ pub by_no_sections : (name : List ℕ) → problem_by (Some name) None ≡ None
 unfolding problem_by
 by_no_sections name = refl
 
-pub by_no_domain : (name : List ℕ) (r m l : Bool) (objects : Option (Vec groups.NameGroup)) (init goal : Option (Vec LiteralSyntax)) →
+pub by_no_domain : (name : List ℕ) (r m l : Bool) (objects : Option (Vec groups.NameGroup)) (init goal : Option (List LiteralForm)) →
     problem_by (Some name) (Some (problem_sections_form
     (record { domain = None; requirements = r; objects = objects; init = init; goal = goal; metric = m; length = l }))) ≡ None
 unfolding problem_by problem_sections_form problem_form
 by_no_domain name r m l objects init goal = refl
 
-pub by_no_goal : (name : List ℕ) (r m l : Bool) (domain : NameWord) (objects : Option (Vec groups.NameGroup)) (init : Option (Vec LiteralSyntax)) →
+pub by_no_goal : (name : List ℕ) (r m l : Bool) (domain : NameWord) (objects : Option (Vec groups.NameGroup)) (init : Option (List LiteralForm)) →
     problem_by (Some name) (Some (problem_sections_form
     (record { domain = Some domain; requirements = r; objects = objects; init = init; goal = None; metric = m; length = l }))) ≡ None
 unfolding problem_by problem_sections_form problem_form
 by_no_goal name r m l domain objects init = refl
 
-pub by_all : (name : List ℕ) (r m l : Bool) (domain : NameWord) (objects : Option (Vec groups.NameGroup)) (init : Option (Vec LiteralSyntax)) (goal : Vec LiteralSyntax) →
+pub by_all : (name : List ℕ) (r m l : Bool) (domain : NameWord) (objects : Option (Vec groups.NameGroup)) (init : Option (List LiteralForm)) (goal : List LiteralForm) →
     problem_by (Some name) (Some (problem_sections_form
     (record { domain = Some domain; requirements = r; objects = objects; init = init; goal = Some goal; metric = m; length = l })))
     ≡ Some (record {
       name = name;
       domain = domain.text.now;
       objects = unwrap_or (option_map (λ v. name_groups v.items) objects) [];
-      init = unwrap_or (option_map (λ v. literal_forms v.items) init) [];
-      goal = literal_forms goal.items;
+      init = unwrap_or init [];
+      goal = goal;
     })
 unfolding problem_by problem_sections_form problem_form
 by_all name r m l domain objects init goal = refl

@@ -1,6 +1,6 @@
 -- The definitions of lists of typed variables, one equation for each case.
 
-use Rattle.std.proofs.Common.{◌≡◌, ◌≢◌, ℕ, ◌+◌, ◌<◌, ◌++◌, Bool, true, false, nat_eq, List, [], ◌∷◌, length, Option, Some, None, refl, ap, arith, append_assoc}
+use Rattle.std.proofs.Common.{◌≡◌, ◌≢◌, ℕ, ◌+◌, ◌<◌, ◌++◌, Bool, true, false, nat_eq, List, [], ◌∷◌, length, Option, Some, None, IsSome, unwrap_or, refl, ap, arith, append_assoc}
 use Rattle.std.proofs.lemmas.Bool.{eqb-true}
 use Rattle.std.proofs.lemmas.List.{append-nil, map_push}
 use Rattle.std.specs.Option.{option_map}
@@ -14,8 +14,9 @@ use Rattle.pddl_syntax.specs.Optional.{guard, followed_by, with_front}
 use Rattle.pddl_syntax.specs.Trees.{Trees, none, word, list}
 use Rattle.pddl_syntax.specs.Syntax.{VariableGroup, either_in, last_variables, variable_group, typed_variables, variables_typed, Typing, typing, typing_of}
 use Rattle.pddl_syntax.proofs.ListsOf.{front_none}
-use Rattle.pddl_syntax.proofs.Sizes.{size}
+use Rattle.pddl_syntax.specs.Sizes.{size}
 use Rattle.pddl_syntax.proofs.Guards.{guard_held}
+use Rattle.pddl_syntax.proofs.Memory.{only_memory}
 use Rattle.pddl_syntax.proofs.TypedSteps.{no_names, name_forms-push}
 use Rattle.pddl_syntax.proofs.WordSteps.{no_words, word_forms-push}
 
@@ -164,3 +165,18 @@ pub ruleset typed_steps = (
   typed_group,
   typing_smaller,
 )
+
+pub kept_so : (f : Trees) → IsSome (typed_variables [] f) → typed_variables [] f ≡ Some (unwrap_or (typed_variables [] f) [])
+kept_so f h = by (typed_variables [] f) h
+  where
+    by : (groups : Option (List VariableGroup)) → IsSome groups → groups ≡ Some (unwrap_or groups [])
+    by None h = cc
+    by (Some gs) h = refl
+
+pub there_again : (f : Trees) (groups : List VariableGroup) → typed_variables [] f ≡ Some groups → IsSome (typed_variables [] f)
+there_again f groups h = rw h refl
+
+pub same_again : (f : Trees) (groups : List VariableGroup) → typed_variables [] f ≡ Some groups → groups ≡ unwrap_or (typed_variables [] f) []
+same_again f groups h = rw h refl
+
+pub ruleset list_steps = (kept_so, there_again, same_again, only_memory)

@@ -48,20 +48,17 @@ atom_form a = record { predicate = a.predicate.text.now; terms = word_forms a.te
 abbrev pub literal_form : LiteralSyntax → LiteralForm
 literal_form l = record { positive = l.positive; atom = atom_form l.atom }
 
-unfoldable pub literal_forms : List LiteralSyntax → List LiteralForm
-literal_forms ls = map literal_form ls
-
 abbrev pub predicate_form : PredicateSyntax → PredicateForm
-predicate_form p = record { name = p.name.text.now; variables = variable_groups p.variables.items }
+predicate_form p = record { name = p.name.text.now; variables = p.variables }
 
 unfoldable pub predicate_forms : List PredicateSyntax → List PredicateForm
 predicate_forms ps = map predicate_form ps
 
 unfoldable pub parts_form : parts.ActionParts → ActionParts
 parts_form p = record {
-  parameters = option_map (λ v. variable_groups v.items) p.parameters;
-  precondition = option_map (λ v. literal_forms v.items) p.precondition;
-  effect = option_map (λ v. literal_forms v.items) p.effect;
+  parameters = p.parameters;
+  precondition = p.precondition;
+  effect = p.effect;
 }
 
 abbrev pub action_syntax_form : ActionSyntax → ActionForm
@@ -87,8 +84,8 @@ problem_sections_form s = record {
   domain = option_map name_form s.domain;
   requirements = s.requirements;
   objects = option_map (λ v. name_groups v.items) s.objects;
-  init = option_map (λ v. literal_forms v.items) s.init;
-  goal = option_map (λ v. literal_forms v.items) s.goal;
+  init = s.init;
+  goal = s.goal;
   metric = s.metric;
   length = s.length;
 }
@@ -98,6 +95,6 @@ problem_syntax_form p = record {
   name = p.name.text.now;
   domain = p.domain.text.now;
   objects = unwrap_or (option_map (λ v. name_groups v.items) p.objects) [];
-  init = unwrap_or (option_map (λ v. literal_forms v.items) p.init) [];
-  goal = literal_forms p.goal.items;
+  init = unwrap_or p.init [];
+  goal = p.goal;
 }

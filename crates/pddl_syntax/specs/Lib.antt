@@ -3,6 +3,7 @@ pub mod ReadFault
 pub mod Trees
 pub mod Refusing
 pub mod Levels
+pub mod Sizes
 pub mod Walking
 pub mod Keywords
 pub mod Heads
@@ -10,3 +11,4 @@ pub mod Optional
 pub mod Syntax
 pub mod Reading
 pub mod Forms
+pub mod Remaining

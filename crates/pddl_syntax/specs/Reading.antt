@@ -7,9 +7,8 @@ use Rattle.pddl_words.specs.Words.{is_name}
 use Rattle.pddl_syntax.specs.declared.walk.NameWord.{NameWord}
 use Rattle.pddl_syntax.specs.Keywords.{object_word}
 use Rattle.pddl_syntax.specs.ReadFault.{out_of_memory}
-use Rattle.pddl_syntax.specs.Optional.{with_front}
 use Rattle.pddl_syntax.specs.Trees.{Trees, word, list}
-use Rattle.std.specs.Global.{Vec}
+use Rattle.smallvec.specs.SmallVec.{SmallVec}
 use Rattle.pddl_syntax.specs.Forms.{name_forms}
 use Rattle.pddl_syntax.specs.Syntax.{leading_name, typing, typing_of}
 use Rattle.pddl_syntax.specs.Levels.{Levels, behind}
@@ -22,6 +21,11 @@ Refuses e fact = (e.kind ≡ OutOfMemory → e ≡ out_of_memory) × (e.kind ≢
 abbrev pub ReadsList : {X Y : Type 0} → (X → Y) → Result X ReadFault → (Trees → Option Y) → Levels → Levels → Type 0
 ReadsList view (Ok x) read old new = (read old.top ≡ Some (view x)) × (new ≡ behind old.below)
 ReadsList view (Err e) read old new = Refuses e (read old.top ≡ None)
+
+-- the rest of the list in which the walk stands passes the test, and the walk leaves it
+abbrev pub PassesList : Result (Unit {0}) ReadFault → (Trees → Bool) → Levels → Levels → Type 0
+PassesList (Ok _) test old new = (test old.top ≡ true) × (new ≡ behind old.below)
+PassesList (Err e) test old new = Refuses e (test old.top ≡ false)
 
 -- as `ReadsList`, where the answer is put into `after`
 abbrev pub ReadsInto : {Y : Type 0} → Result (Unit {0}) ReadFault → (Trees → Option Y) → Levels → Levels → Y → Type 0
@@ -44,19 +48,14 @@ TakesName (Ok name) old new = (old.top ≡ word name.text.now new.top) × (is_na
 TakesName (Err e) old new = Refuses e (leading_name old.top ≡ None)
 
 -- the walk steps over the types at the front
-abbrev pub TakesTypes : Result (Vec NameWord) ReadFault → Levels → Levels → Type 0
+abbrev pub TakesTypes : Result (SmallVec NameWord) ReadFault → Levels → Levels → Type 0
 TakesTypes (Ok types) old new = (typing_of old.top ≡ Some (typing new.top (name_forms types.items))) × (new.below ≡ old.below)
 TakesTypes (Err e) old new = Refuses e (typing_of old.top ≡ None)
 
 -- the type `object` alone, or memory ran out
-abbrev pub GivesObject : Result (Vec NameWord) ReadFault → Type 0
+abbrev pub GivesObject : Result (SmallVec NameWord) ReadFault → Type 0
 GivesObject (Ok types) = name_forms types.items ≡ object_word ∷ []
 GivesObject (Err e) = e ≡ out_of_memory
-
--- as `ReadsList`, where what is read is put behind `front`, which makes it `all`
-abbrev pub ReadsOnto : {Y : Type 0} → Result (Unit {0}) ReadFault → (Trees → Option (List Y)) → Levels → Levels → List Y → List Y → Type 0
-ReadsOnto (Ok _) read old new front all = (with_front front (read old.top) ≡ Some all) × (new ≡ behind old.below)
-ReadsOnto (Err e) read old new front all = Refuses e (with_front front (read old.top) ≡ None)
 
 -- the name is read, or memory ran out
 abbrev pub ReadsName : Result (List ℕ) ReadFault → List ℕ → Type 0
@@ -72,6 +71,11 @@ Allows (Err e) test = Refuses e (test ≡ false)
 abbrev pub Gives : {X Y : Type 0} → (X → Y) → Result X ReadFault → Option Y → Type 0
 Gives view (Ok x) defined = defined ≡ Some (view x)
 Gives view (Err e) defined = Refuses e (defined ≡ None)
+
+-- what is known to be there is given, or memory ran out
+abbrev pub GivesAgain : {X Y : Type 0} → (X → Y) → Result X ReadFault → Y → Type 0
+GivesAgain view (Ok x) known = view x ≡ known
+GivesAgain view (Err e) known = e ≡ out_of_memory
 
 -- as `Gives`, where what is defined is put into `after`
 abbrev pub Puts : {Y : Type 0} → Result (Unit {0}) ReadFault → Option Y → Y → Type 0

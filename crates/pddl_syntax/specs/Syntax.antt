@@ -288,6 +288,18 @@ unfoldable mutual
   conjuncts_of scope (word w others) = None
   conjuncts_of scope (list inside others) = joined (formula_in scope inside) (conjuncts_of scope others)
 
+-- whether there is a formula
+unfoldable pub is_formula : Scope → Trees → Bool
+is_formula scope trees = is_some (formula_in scope trees)
+
+-- whether there are conjuncts
+unfoldable pub are_conjuncts : Scope → Trees → Bool
+are_conjuncts scope trees = is_some (conjuncts_of scope trees)
+
+-- whether there are initial atoms
+unfoldable pub are_initial : Trees → Bool
+are_initial trees = is_some (lists_of init_item_in trees)
+
 -- a predicate with its variables
 abbrev pub predicate_with : List ℕ → List VariableGroup → PredicateForm
 predicate_with name variables = record { name = name; variables = variables }

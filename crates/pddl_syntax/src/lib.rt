@@ -21,10 +21,12 @@ mod walk;
 pub use fault::{FaultKind, ReadFault};
 pub use heads::is_variable;
 pub use syntax::domain::domain_text;
+pub use syntax::literals::Literals;
 pub use syntax::problem::problem_text;
+pub use syntax::variables::VariableList;
 pub use syntax::{
     ActionParts, ActionSyntax, AtomSyntax, DomainSections, DomainSyntax, LiteralSyntax, NameGroup,
-    PredicateSyntax, ProblemSections, ProblemSyntax, Terms, VariableGroup,
+    Names, PredicateSyntax, ProblemSections, ProblemSyntax, Terms, VariableGroup, Variables,
 };
 pub use text::check_text;
 pub use walk::{NameWord, Word};

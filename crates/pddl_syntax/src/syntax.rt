@@ -1,4 +1,5 @@
-//! The second layer: what the grammar allows, kept as slices of the text with their places.
+//! The second layer: what the grammar allows, kept as slices of the text with their places. Of formulas and of lists of
+//! variables only the place is kept where they begin.
 //!
 //! Each reader here stands inside a list, reads what is left of it, and leaves it behind its `)`. Lists stand at most 64 deep,
 //! since the first layer refuses deeper ones, and so deep goes the recursion.
@@ -7,16 +8,25 @@ pub(crate) mod action;
 pub(crate) mod domain;
 pub(crate) mod formula;
 pub(crate) mod lists;
+pub(crate) mod literals;
 pub(crate) mod problem;
 pub(crate) mod refusals;
 pub(crate) mod typed;
 pub(crate) mod variables;
 
+use crate::syntax::literals::Literals;
+use crate::syntax::variables::VariableList;
 use crate::walk::{NameWord, Word};
 use smallvec::SmallVec;
 
 /// The words of an atom's terms. Most atoms have two at most, and these take no memory of their own.
 pub type Terms<'a> = SmallVec<Word<'a>, 2>;
+
+/// The variables of a group. Many groups have one, which takes no memory of its own.
+pub type Variables<'a> = SmallVec<Word<'a>, 1>;
+
+/// Names beside one another: those of a group, or types. Most often there is one, which takes no memory of its own.
+pub type Names<'a> = SmallVec<NameWord<'a>, 1>;
 
 /// An atom as written.
 #[derive(Drop)]
@@ -35,23 +45,23 @@ pub struct LiteralSyntax<'a> {
 /// A group of a list of typed variables, with the names of the types of which they may be.
 #[derive(Drop)]
 pub struct VariableGroup<'a> {
-    pub variables: Vec<Word<'a>>,
-    pub kinds: Vec<NameWord<'a>>,
+    pub variables: Variables<'a>,
+    pub kinds: Names<'a>,
 }
 
 /// The declaration of a predicate.
 #[derive(Drop)]
 pub struct PredicateSyntax<'a> {
     pub name: NameWord<'a>,
-    pub variables: Vec<VariableGroup<'a>>,
+    pub variables: VariableList<'a>,
 }
 
 /// The parts of an action that are given.
 #[derive(Drop)]
 pub struct ActionParts<'a> {
-    pub parameters: Option<Vec<VariableGroup<'a>>>,
-    pub precondition: Option<Vec<LiteralSyntax<'a>>>,
-    pub effect: Option<Vec<LiteralSyntax<'a>>>,
+    pub parameters: Option<VariableList<'a>>,
+    pub precondition: Option<Literals<'a>>,
+    pub effect: Option<Literals<'a>>,
 }
 
 /// An action with its name.
@@ -64,7 +74,7 @@ pub struct ActionSyntax<'a> {
 /// A group of a list of typed names, with the name of their type.
 #[derive(Drop)]
 pub struct NameGroup<'a> {
-    pub names: Vec<NameWord<'a>>,
+    pub names: Names<'a>,
     pub kind: NameWord<'a>,
 }
 
@@ -91,8 +101,8 @@ pub struct ProblemSections<'a> {
     pub domain: Option<NameWord<'a>>,
     pub requirements: bool,
     pub objects: Option<Vec<NameGroup<'a>>>,
-    pub init: Option<Vec<LiteralSyntax<'a>>>,
-    pub goal: Option<Vec<LiteralSyntax<'a>>>,
+    pub init: Option<Literals<'a>>,
+    pub goal: Option<Literals<'a>>,
     pub metric: bool,
     pub length: bool,
 }
@@ -103,6 +113,6 @@ pub struct ProblemSyntax<'a> {
     pub name: NameWord<'a>,
     pub domain: NameWord<'a>,
     pub objects: Option<Vec<NameGroup<'a>>>,
-    pub init: Option<Vec<LiteralSyntax<'a>>>,
-    pub goal: Vec<LiteralSyntax<'a>>,
+    pub init: Option<Literals<'a>>,
+    pub goal: Literals<'a>,
 }

@@ -3,11 +3,12 @@
 //! The walk builds no tree. Contracts see it as what is left of each open list, so that a reader's contract can speak of the
 //! trees that it reads.
 
-ghost use Rattle.std.specs.Prelude.{◌≡◌, IsSome, IsTrue, None};
+ghost use Rattle.std.specs.Prelude.{◌≡◌, ◌<◌, ◌^◌, IsSome, IsTrue, None};
 ghost use Rattle.pddl_words.specs.Words.{is_name};
 ghost use Rattle.pddl_tokens.specs.Tokens.{pieces};
 ghost use Rattle.pddl_syntax.specs.Trees.{text_fault};
-ghost use Rattle.pddl_syntax.specs.Levels.{levels};
+ghost use Rattle.pddl_syntax.specs.Levels.{here, levels};
+ghost use Rattle.pddl_syntax.specs.Sizes.{ahead};
 
 use pddl_tokens::{Cursor, Span, TextFault, TokenKind};
 
@@ -33,6 +34,17 @@ pub struct NameWord<'a> {
     pub span: Span,
     pub text: &'a [u8],
     ghost named: { IsTrue (is_name text.now) },
+}
+
+/// The name `object` where no word spells it.
+#[tactic(auto, unfolding(pddl_words::specs::Words::is_name))]
+impl<'a> Default for NameWord<'a> {
+    fn default() -> Self {
+        NameWord {
+            span: Span { start: 0, end: 0 },
+            text: b"object",
+        }
+    }
 }
 
 impl<'a> NameWord<'a> {
@@ -65,14 +77,14 @@ pub(crate) struct Walk<'a> {
     pub(crate) cursor: Cursor<'a>,
     end: u32,
     ghost balanced: { IsSome (levels cursor) },
+    ghost short: { ahead (here cursor) < 2 ^ 31 },
 }
 
 impl<'a> Walk<'a> {
-    ghost use Rattle.pddl_syntax.specs.Levels.{here};
     ghost use Rattle.pddl_syntax.specs.Walking.{Steps};
 
     /// The walk at the start of a text that passed the first layer.
-    #[tactic(auto, using(crate::proofs::Balanced::balanced_steps))]
+    #[tactic(auto, using(crate::proofs::Balanced::balanced_steps, crate::proofs::Ahead::short_at_start))]
     pub(crate) fn new(text: &'a [u8]) -> Self
         requires { text_fault text.now ≡ None }
         ensures { result.cursor ≡ pieces text.now }
@@ -86,8 +98,18 @@ impl<'a> Walk<'a> {
         }
     }
 
+    /// A second walk at the same place.
+    pub(crate) fn fork(&self) -> Self
+        ensures { result.cursor ≡ self.now.cursor }
+    {
+        Walk {
+            cursor: self.cursor.fork(),
+            end: self.end,
+        }
+    }
+
     /// Steps over the next word, into the next list, or out of the list in which the walk stands.
-    #[tactic(auto, using(crate::proofs::LevelSteps::walk_steps))]
+    #[tactic(auto, using(crate::proofs::LevelSteps::walk_steps, crate::proofs::Ahead::no_more_ahead))]
     pub(crate) fn next(&mut self) -> Item<'a>
         ensures { Steps result (here self.old.cursor) (here self.new.cursor) }
     {

@@ -4,3 +4,4 @@ pub mod CutLaws
 pub mod Places
 mod Table
 mod OnlyCut
+pub mod Counts

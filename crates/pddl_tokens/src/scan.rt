@@ -43,6 +43,16 @@ impl<'a> Cursor<'a> {
         }
     }
 
+    /// A second cursor at the same place.
+    pub fn fork(&self) -> Self
+        ensures { result ≡ self.now }
+    {
+        Cursor {
+            text: self.text,
+            at: self.at,
+        }
+    }
+
     /// The next token, or `None` where none follows.
     ///
     /// At a bad byte the same fault comes at each further call, and at the end `None` does.

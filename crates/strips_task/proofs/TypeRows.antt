@@ -1,13 +1,15 @@
 -- Rows of the table of types, joined.
 
-use Rattle.std.proofs.Common.{◌≡◌, ℕ, ◌+◌, ◌*◌, ◌/◌, ◌%◌, ◌<◌, zero, suc, max, Bool, ◌||◌, ◌&&◌, nat_eq, List, [], ◌∷◌, length, All, refl, ap, ◌∙◌, arith, slice_index, get_or}
+use Rattle.std.proofs.Common.{◌≡◌, ℕ, ◌+◌, ◌*◌, ◌/◌, ◌%◌, ◌<◌, zero, suc, max, ◌≤◌, Bool, true, false, ◌||◌, ◌&&◌, nat_eq, nat_lt, List, [], ◌∷◌, length, refl, ap, sym, ◌∙◌, arith, slice_index}
 use Rattle.std.specs.Int.{bit_at}
 use Rattle.std.specs.Int.RustNames.{bit_or}
-use Rattle.std.specs.List.{list_all, list_any}
+use Rattle.std.specs.List.{list_any}
 use Rattle.std.proofs.lemmas.Nat.Bits.{bit_at_or, bit_at-lt}
+use Rattle.std.proofs.lemmas.Bool.{ltb-true}
 use Rattle.bit_rows.specs.Rows.{row_has}
-use Rattle.strips_task.specs.Types.{is_below, fits}
+use Rattle.strips_task.specs.Types.{is_below}
 use Rattle.strips_task.specs.TypeTable.{IsTable}
+use Rattle.strips_task.proofs.AtomEquality.{both_hold}
 
 max_one : (a b : ℕ) → a < 2 → b < 2 → nat_eq (max a b) 1 ≡ (nat_eq a 1 || nat_eq b 1)
 max_one zero zero _ _ = refl
@@ -32,32 +34,29 @@ row_added old new table first k over =
     ∙ either_bit (slice_index old (k / 64)) (slice_index table (first + k / 64)) (k % 64)
     ∙ (λ j. row_has old k || nat_eq (bit_at (slice_index table (place j)) (bit j)) 1)
 
--- tests that agree on each item agree on the list
-all_alike : {A : Type 0} (p q : A → Bool) (xs : List A) → All (λ x. p x ≡ q x) xs → list_all p xs ≡ list_all q xs
-all_alike p q [] h = refl
-all_alike p q (x ∷ xs) h =
-    let here : p x ≡ q x = h 0 x (omega arith) in
-    let rest = all_alike p q xs (λ k d lt. h (suc k) d (omega arith)) in
-    (λ j. here j && rest j)
+-- where an item passes one test, and so another too, some item passes the other
+any_implies : {A : Type 0} (p q : A → Bool) → ((x : A) → p x ≡ true → q x ≡ true) → (xs : List A) → list_any p xs ≡ true → list_any q xs ≡ true
+any_implies p q h [] e = e
+any_implies p q h (x ∷ xs) e = by (p x) refl (any_implies p q h xs)
+  where
+    or_true : (b : Bool) → (b || true) ≡ true
+    or_true true = refl
+    or_true false = refl
 
-any_alike : {A : Type 0} (p q : A → Bool) (xs : List A) → All (λ x. p x ≡ q x) xs → list_any p xs ≡ list_any q xs
-any_alike p q [] h = refl
-any_alike p q (x ∷ xs) h =
-    let here : p x ≡ q x = h 0 x (omega arith) in
-    let rest = any_alike p q xs (λ k d lt. h (suc k) d (omega arith)) in
-    (λ j. here j || rest j)
+    by : (b : Bool) → p x ≡ b → (list_any p xs ≡ true → list_any q xs ≡ true) → (q x || list_any q xs) ≡ true
+    by true is rest = ap (λ c. c || list_any q xs) (h x is)
+    by false is rest =
+        ap (λ c. q x || c) (rest (sym (ap (λ c. c || list_any p xs) is) ∙ e)) ∙ or_true (q x)
 
--- the joined rows of some types tell which types are below one of them
-pub joined_rows_tell : (parents table marks subs sups : List ℕ) → IsTable parents table
-    → All (λ sub. sub < length parents) subs → All (λ sup. sup < length parents) sups
-    → ((k : ℕ) → k < 1088 → row_has marks k ≡ list_any (λ sup. row_has table (sup * 1088 + k)) sups)
-    → list_all (row_has marks) subs ≡ fits parents subs sups
-unfolding fits is_below
-joined_rows_tell parents table marks subs sups is_table subs_known sups_known over =
-    all_alike (row_has marks) (λ sub. list_any (is_below parents sub) sups) subs
-    (λ i d lt.
-    let sub = get_or subs i d in
-    let known : sub < length parents = subs_known i d lt in
-    let few : sub < 1088 = omega (arith, is_table.few) in
-    over sub few
-    ∙ any_alike (λ sup. row_has table (sup * 1088 + sub)) (is_below parents sub) sups (λ k e within. is_table.marks sub (get_or sups k e) known (sups_known k e within)))
+-- the joined rows of some types tell of each type whether it is below one of them
+pub joined_rows_tell : (parents table joined sups : List ℕ) (words : ℕ) → length parents ≤ 64 * words → IsTable parents table
+    → ((k : ℕ) → k < 64 * words → row_has joined k ≡ list_any (λ sup. nat_lt sup (length parents) && row_has table (sup * 1088 + k)) sups)
+    → (k : ℕ) → k < length parents → row_has joined k ≡ true → list_any (is_below parents k) sups ≡ true
+unfolding is_below
+joined_rows_tell parents table joined sups words all is_table over k known set =
+    let within : k < 64 * words = omega arith in
+    any_implies (λ sup. nat_lt sup (length parents) && row_has table (sup * 1088 + k)) (is_below parents k)
+    (λ sup e.
+    let both = both_hold (nat_lt sup (length parents)) (row_has table (sup * 1088 + k)) e in
+    sym (is_table.marks k sup known (ltb-true sup (length parents) both.0)) ∙ both.1)
+    sups (sym (over k within) ∙ set)

@@ -1,8 +1,9 @@
 -- The table by which the order of types is answered without a walk.
 
-use Rattle.std.specs.Prelude.{◌≡◌, ℕ, ◌+◌, ◌*◌, ◌<◌, ◌≤◌, List, length}
+use Rattle.std.specs.Prelude.{◌≡◌, ℕ, ◌+◌, ◌*◌, ◌<◌, ◌≤◌, true, List, length}
+use Rattle.std.specs.List.{list_any}
 use Rattle.bit_rows.specs.Rows.{row_has}
-use Rattle.strips_task.specs.Types.{is_within}
+use Rattle.strips_task.specs.Types.{is_within, is_below}
 
 -- the rows of all types, one behind the other, each with 1,088 bits: they tell of each type whether it is below the one whose row it is
 pub record IsTable (parents table : List ℕ) : Type 0 where
@@ -14,3 +15,9 @@ pub record IsTable (parents table : List ℕ) : Type 0 where
 -- a list of types has a table, or no words of one
 abbrev pub MayHaveTable : List ℕ → List ℕ → Type 0
 MayHaveTable parents table = 0 < length table → IsTable parents table
+
+-- each type has a bit in these words, and where it is set the type is below one of the others
+pub record AreJoined (parents table joined sups : List ℕ) : Type 0 where
+  pub is_table : IsTable parents table
+  pub all : length parents ≤ 64 * length joined
+  pub marks : (k : ℕ) → k < length parents → row_has joined k ≡ true → list_any (is_below parents k) sups ≡ true

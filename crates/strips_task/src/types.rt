@@ -3,13 +3,13 @@
 //! Types form a tree below `object` (PDDL 2.1, Fox and Long 2003, section 2). A `TypeList` holds for each type the number of its parent.
 //! A reader pushes the parents in the order of the types' numbers, and then indexes the list, so that whether one type is below
 //! another is answered by one look at a table. A list that was not indexed answers the same by a walk.
-ghost use Rattle.std.specs.Prelude.{◌≡◌, ◌+◌, ◌*◌, ◌<◌, ◌≤◌, ◌||◌, ◌↔◌, ◌≢◌, ℕ, List, [], ◌∷◌, ◌++◌, length, slice_index, All, IsTrue, IfOk, OnOk, OnErr, IfErr};
-ghost use Rattle.std.specs.List.{list_all, list_any};
+ghost use Rattle.std.specs.Prelude.{◌≡◌, ◌+◌, ◌*◌, ◌<◌, ◌≤◌, ◌||◌, ◌&&◌, ◌↔◌, ◌≢◌, ℕ, List, [], ◌∷◌, ◌++◌, length, slice_index, All, IsTrue, true, nat_lt, IfOk, OnOk, OnErr, IfErr};
+ghost use Rattle.std.specs.List.{list_any};
 ghost use Rattle.bit_rows.specs.Rows.{row_has};
 ghost use Rattle.strips_task.specs.Types.{is_within, is_below, fits, IsTypeTree};
-ghost use Rattle.strips_task.specs.TypeTable.{IsTable, MayHaveTable};
+ghost use Rattle.strips_task.specs.TypeTable.{IsTable, MayHaveTable, AreJoined};
 
-use bit_rows::{empty_row, has_bit, set_bit};
+use bit_rows::{WORD_BITS, empty_row, has_bit, set_bit};
 use std::alloc::{AllocError, AllocFailed, Global};
 use std::marker::Model;
 
@@ -98,20 +98,22 @@ impl TypeList {
     }
 
     /// Whether each of the first types is below one of the second. One or two types, or any number against a single one, are tested pair by
-    /// pair, and so are all in a list without a table. Otherwise the rows of the second are joined, 17 words each, and each of the first
-    /// takes one look. So the time grows with the sum of the two numbers, and not with their product.
+    /// pair, and so are all in a list without a table. Otherwise the rows of the second are joined, 17 words each or one word where there are at most 64
+    /// types, and each of the first takes one look. So the time grows with the sum of the two numbers, and not with their product. No memory is taken.
     pub fn are_below(&self, subs: &[u16], sups: &[u16]) -> bool
         ensures { result ≡ fits self.now subs.now sups.now }
     {
         let parents = self.parents.as_slice();
         let table = self.table.as_slice();
         if subs.len() <= FEW || sups.len() <= 1 || table.is_empty() {
-            return each_is_below_some(parents, table, subs, sups);
+            return are_below_by_pairs(parents, table, subs, sups);
         }
-        if !are_known(parents, subs) || !are_known(parents, sups) {
-            return each_is_below_some(parents, table, subs, sups);
+        if parents.len() <= WORD_BITS {
+            let joined: [u64; 1] = joined_rows(parents.len(), table, sups);
+            return are_below_joined(parents, table, &joined, subs, sups);
         }
-        are_marked(&joined_rows(table, sups), subs)
+        let joined: [u64; ROW_WORDS] = joined_rows(parents.len(), table, sups);
+        are_below_joined(parents, table, &joined, subs, sups)
     }
 
     /// Whether the parents form a tree below `object`: it is its own parent, each parent is a type, and from every type the chain of
@@ -148,7 +150,7 @@ fn is_below_some(parents: &[u16], table: &[u64], sub: u16, sups: &[u16]) -> bool
 
 /// Whether each of the first types is below one of the second, tested pair by pair.
 #[tactic(auto, unfolding(crate::specs::Types::fits))]
-fn each_is_below_some(parents: &[u16], table: &[u64], subs: &[u16], sups: &[u16]) -> bool
+fn are_below_by_pairs(parents: &[u16], table: &[u64], subs: &[u16], sups: &[u16]) -> bool
     requires { MayHaveTable parents.now table.now }
     ensures { result ≡ fits parents.now subs.now sups.now }
 {
@@ -156,43 +158,70 @@ fn each_is_below_some(parents: &[u16], table: &[u64], subs: &[u16], sups: &[u16]
         .all(|sub| is_below_some(parents, table, *sub, sups))
 }
 
-/// The bits that are set in the row of at least one of some types.
-fn joined_rows(table: &[u64], sups: &[u16]) -> [u64; ROW_WORDS]
-    requires { All (λ sup. 17 * sup + 17 ≤ length table.now) sups.now }
-    ensures { (k : ℕ) → k < 1088 → row_has result k ≡ list_any (λ sup. row_has table.now (sup * 1088 + k)) sups.now }
+/// Whether each of the first types is below one of the second, whose rows are joined.
+#[tactic(auto, unfolding(crate::specs::Types::fits))]
+fn are_below_joined(
+    parents: &[u16],
+    table: &[u64],
+    joined: &[u64],
+    subs: &[u16],
+    sups: &[u16],
+) -> bool
+    requires { AreJoined parents.now table.now joined.now sups.now }
+    ensures { result ≡ fits parents.now subs.now sups.now }
 {
-    let mut marks = [0; ROW_WORDS];
+    subs.iter()
+        .all(|sub| is_below_joined(parents, table, joined, *sub, sups))
+}
+
+/// Whether a type is below one of others, whose rows are joined. What is no type has no bit, and is tested pair by pair.
+#[inline(always)]
+fn is_below_joined(parents: &[u16], table: &[u64], joined: &[u64], sub: u16, sups: &[u16]) -> bool
+    requires { AreJoined parents.now table.now joined.now sups.now }
+    ensures { result ≡ list_any (is_below parents.now sub) sups.now }
+{
+    let number = usize::from(sub);
+    if number < parents.len() && has_bit(joined, number) {
+        return true;
+    }
+    is_below_some(parents, table, sub, sups)
+}
+
+/// The first words of the rows of some types, joined: the bits that are set in at least one of them.
+fn joined_rows<const WORDS: usize>(count: usize, table: &[u64], sups: &[u16]) -> [u64; WORDS]
+    requires few { WORDS ≤ 17 }
+    requires room { 17 * count ≤ length table.now }
+    ensures { (k : ℕ) → k < 64 * WORDS → row_has result k ≡ list_any (λ sup. nat_lt sup count && row_has table.now (sup * 1088 + k)) sups.now }
+{
+    let mut joined = [0; WORDS];
     'rows: for sup in sups {
-        add_row(&mut marks, table, usize::from(*sup) * ROW_WORDS);
+        join_row(&mut joined, count, table, usize::from(*sup));
     }
-    marks
+    joined
 }
 
-/// Adds the bits of a row to those that are set already. The number of words is constant, so that the compiler unrolls the loop and keeps all
-/// of them in registers while the rows are joined.
-fn add_row(marks: &mut [u64; ROW_WORDS], table: &[u64], first: usize)
-    requires { first + 17 ≤ length table.now }
-    ensures { (k : ℕ) → k < 1088 → row_has marks.new k ≡ (row_has marks.old k || row_has table.now (first * 64 + k)) }
+/// Adds the bits of a type's row, if it is the number of a type.
+#[inline(always)]
+fn join_row<const WORDS: usize>(joined: &mut [u64; WORDS], count: usize, table: &[u64], sup: usize)
+    requires few { WORDS ≤ 17 }
+    requires room { 17 * count ≤ length table.now }
+    ensures { (k : ℕ) → k < 64 * WORDS → row_has joined.new k ≡ (row_has joined.old k || (nat_lt sup count && row_has table.now (sup * 1088 + k))) }
 {
-    'words: for place in 0..ROW_WORDS {
-        marks[place] |= table[first + place];
+    if sup < count {
+        add_words(joined, table, sup * ROW_WORDS);
     }
 }
 
-/// Whether the bit of each type is set.
-fn are_marked(marks: &[u64; ROW_WORDS], types: &[u16]) -> bool
-    ensures { result ≡ list_all (row_has marks.now) types.now }
+/// Adds the bits of the words of the table from one on. Their number is constant, so that the compiler unrolls the loop and keeps them in registers
+/// while rows are joined.
+#[inline(always)]
+fn add_words<const WORDS: usize>(joined: &mut [u64; WORDS], table: &[u64], first: usize)
+    requires { first + WORDS ≤ length table.now }
+    ensures { (k : ℕ) → k < 64 * WORDS → row_has joined.new k ≡ (row_has joined.old k || row_has table.now (first * 64 + k)) }
 {
-    types
-        .iter()
-        .all(|number| is_marked(marks, usize::from(*number)))
-}
-
-/// Whether the bit of a type is set.
-fn is_marked(marks: &[u64; ROW_WORDS], number: usize) -> bool
-    ensures { result ≡ row_has marks.now number }
-{
-    number < ROW_BITS && has_bit(marks, number)
+    'words: for place in 0..WORDS {
+        joined[place] |= table[first + place];
+    }
 }
 
 /// Whether parents form a tree below `object`.
@@ -205,19 +234,19 @@ fn is_tree(parents: &[u16]) -> bool
     if parents[0] != 0 {
         return false;
     }
-    if !are_known(parents, parents) {
+    if !are_known(parents) {
         return false;
     }
     all_reach_object(parents)
 }
 
-/// Whether each number is the number of a type.
-fn are_known(parents: &[u16], numbers: &[u16]) -> bool
-    ensures { IsTrue result ↔ All (λ number. number < length parents.now) numbers.now }
+/// Whether each parent is a type.
+fn are_known(parents: &[u16]) -> bool
+    ensures { IsTrue result ↔ All (λ parent. parent < length parents.now) parents.now }
 {
-    numbers
+    parents
         .iter()
-        .all(|number| usize::from(*number) < parents.len())
+        .all(|parent| usize::from(*parent) < parents.len())
 }
 
 /// The table of all types.

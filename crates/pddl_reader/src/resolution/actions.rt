@@ -4,17 +4,16 @@ ghost use Rattle.std.specs.Prelude.{◌≡◌, ◌≤◌, length, [], OnOk, Some
 ghost use Rattle.std.specs.Map.{keys_of};
 ghost use Rattle.pddl_reader.specs.Resolved.{known_form, parameters_form};
 ghost use Rattle.pddl_reader.specs.Declarations.{condition_of, conditions_of};
-ghost use Rattle.pddl_syntax.specs.Forms.{action_forms, action_syntax_form, literal_form, literal_forms};
-ghost use Rattle.pddl_reader.specs.Parts.{part_items};
+ghost use Rattle.pddl_syntax.specs.Forms.{action_forms, action_syntax_form, literal_form};
 ghost use Rattle.pddl_syntax.specs.Reading.{Gives, Puts};
 ghost use Rattle.pddl_reader.specs.Domain.{action_by, action_meant, actions_from, both_effects, effects_of, lone_effect, with_action_of};
 
 use crate::resolution::atoms::pattern;
 use crate::resolution::names::{check_new, name};
-use crate::resolution::parts::part_items;
+use crate::resolution::parts::{part_literals, part_variables};
 use crate::resolution::tables::Declared;
 use crate::resolution::variables::{ActionParameters, parameters};
-use pddl_syntax::{ActionSyntax, LiteralSyntax, ReadFault, VariableGroup};
+use pddl_syntax::{ActionSyntax, LiteralSyntax, Literals, ReadFault};
 use std::alloc::{AllocError, Global};
 use strips_task::{Action, Alternatives, Cond, NameTable, Pattern, Seq};
 
@@ -52,14 +51,14 @@ fn conditions(
     alloc: Global,
     known: &Declared<'_>,
     parameters: &ActionParameters<'_>,
-    literals: &[LiteralSyntax<'_>],
+    mut literals: Literals<'_>,
 ) -> Result<Seq<Cond>, ReadFault>
     requires { length parameters.now.names.items ≤ 32 }
-    ensures { Gives (λ conditions. conditions) result (conditions_of (known_form known.now) (parameters_form parameters.now) (literal_forms literals.now)) }
+    ensures { Gives (λ conditions. conditions) result (conditions_of (known_form known.now) (parameters_form parameters.now) literals.entry) }
 {
     let mut conditions = Seq::new(alloc);
-    'conditions: for literal in literals {
-        conditions.push(condition(alloc, known, parameters, literal)?)?;
+    'conditions: while let Some(literal) = literals.next(alloc)? {
+        conditions.push(condition(alloc, known, parameters, &literal)?)?;
     }
     Ok(conditions)
 }
@@ -83,17 +82,17 @@ fn effect(
     alloc: Global,
     known: &Declared<'_>,
     parameters: &ActionParameters<'_>,
-    literals: &[LiteralSyntax<'_>],
+    mut literals: Literals<'_>,
 ) -> Result<Effects, ReadFault>
     requires { length parameters.now.names.items ≤ 32 }
-    ensures { Gives (λ effects. effects) result (effects_of (known_form known.now) (parameters_form parameters.now) (literal_forms literals.now)) }
+    ensures { Gives (λ effects. effects) result (effects_of (known_form known.now) (parameters_form parameters.now) literals.entry) }
 {
     let mut effects = Effects {
         add: Seq::new(alloc),
         del: Seq::new(alloc),
     };
-    'effects: for literal in literals {
-        put_effect(&mut effects, condition(alloc, known, parameters, literal)?)?;
+    'effects: while let Some(literal) = literals.next(alloc)? {
+        put_effect(&mut effects, condition(alloc, known, parameters, &literal)?)?;
     }
     Ok(effects)
 }
@@ -117,9 +116,14 @@ fn body(
     ensures { Gives (λ body. record { params = parameters.now.types; pre = body.pre; add = body.effects.add; del = body.effects.del }) result
         (action_by (known_form known.now) (action_syntax_form syntax.now) (Some (parameters_form parameters.now))) }
 {
-    let precondition = part_items(&syntax.parts.precondition);
+    let precondition = part_literals(&syntax.parts.precondition);
     let pre = conditions(alloc, known, parameters, precondition)?;
-    let effects = effect(alloc, known, parameters, part_items(&syntax.parts.effect))?;
+    let effects = effect(
+        alloc,
+        known,
+        parameters,
+        part_literals(&syntax.parts.effect),
+    )?;
     Ok(ActionBody { pre, effects })
 }
 
@@ -134,7 +138,8 @@ fn action(
     requires { length types.now ≤ 1025 }
     ensures { Gives (λ action. action) result (action_meant (keys_of types.now) (known_form known.now) (action_syntax_form syntax.now)) }
 {
-    let parameters = parameters(alloc, types, part_items(&syntax.parts.parameters))?;
+    let declared = part_variables(alloc, &syntax.parts.parameters)?;
+    let parameters = parameters(alloc, types, declared.as_slice())?;
     let ActionBody { pre, effects } = body(alloc, known, &parameters, syntax)?;
     let ActionParameters { names: _, types } = parameters;
     let Effects { add, del } = effects;

@@ -74,7 +74,8 @@ fn declare_predicate(
 {
     let name = name(alloc, predicate.name)?;
     check_new(table, &name, predicate.name)?;
-    let places = places(alloc, types, predicate.variables.as_slice())?;
+    let variables = predicate.variables.groups(alloc)?;
+    let places = places(alloc, types, variables.as_slice())?;
     table.push(name, places)?;
     Ok(())
 }

@@ -1,7 +1,12 @@
 //! The parts and sections that are given.
 
-ghost use Rattle.std.specs.Prelude.{◌≡◌};
+ghost use Rattle.std.specs.Prelude.{◌≡◌, [], unwrap_or};
+ghost use Rattle.pddl_syntax.specs.Forms.{variable_groups};
+ghost use Rattle.pddl_syntax.specs.Reading.{GivesAgain};
 ghost use Rattle.pddl_reader.specs.Parts.{part_items};
+
+use pddl_syntax::{Literals, ReadFault, VariableGroup, VariableList};
+use std::alloc::Global;
 
 /// What a part or a section holds, which is nothing if it is not given.
 #[tactic(auto, unfolding(crate::specs::Parts::part_items))]
@@ -11,5 +16,29 @@ pub(crate) fn part_items<T>(part: &Option<Vec<T>>) -> &[T]
     match part {
         Some(found) => found.as_slice(),
         None => &[],
+    }
+}
+
+/// The literals of a part or a section, none if it is not given.
+pub(crate) fn part_literals<'a>(part: &Option<Literals<'a>>) -> Literals<'a>
+    ensures { result ≡ unwrap_or part.now [] }
+{
+    match part {
+        Some(found) => found.again(),
+        None => Literals::none(),
+    }
+}
+
+/// The variables of a part, none if it is not given.
+#[tactic(auto, using(pddl_syntax::proofs::VariableSteps::no_groups))]
+pub(crate) fn part_variables<'a>(
+    alloc: Global,
+    part: &Option<VariableList<'a>>,
+) -> Result<Vec<VariableGroup<'a>>, ReadFault>
+    ensures { GivesAgain (λ v. variable_groups v.items) result (unwrap_or part.now []) }
+{
+    match part {
+        Some(found) => found.groups(alloc),
+        None => Ok(Vec::new(alloc)),
     }
 }

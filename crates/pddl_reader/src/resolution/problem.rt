@@ -2,7 +2,7 @@
 
 ghost use Rattle.std.specs.Prelude.{◌≡◌, IfOk, Some};
 ghost use Rattle.pddl_reader.specs.Resolved.{known_form};
-ghost use Rattle.pddl_syntax.specs.Forms.{literal_form, literal_forms, problem_syntax_form};
+ghost use Rattle.pddl_syntax.specs.Forms.{literal_form, problem_syntax_form};
 ghost use Rattle.pddl_reader.specs.Problem.{ground_condition_of, ground_conditions_of, initial_of, problem_of, problem_within};
 ghost use Rattle.pddl_syntax.specs.Reading.{Gives};
 ghost use Rattle.strips_task.specs.WellFormed.{IsWellFormed};
@@ -11,9 +11,9 @@ ghost use Rattle.pddl_reader.specs.Assembled.{task_assembled};
 use crate::resolution::atoms::ground_atom;
 use crate::resolution::domain::{Domain, extended};
 use crate::resolution::names::name;
-use crate::resolution::parts::part_items;
+use crate::resolution::parts::{part_items, part_literals};
 use crate::resolution::tables::Declared;
-use pddl_syntax::{LiteralSyntax, ProblemSyntax, ReadFault};
+use pddl_syntax::{LiteralSyntax, Literals, ProblemSyntax, ReadFault};
 use std::alloc::Global;
 use strips_task::{CondList, GroundCond, InitialAtoms, Name, Seq, Task, TaskParts};
 
@@ -38,13 +38,13 @@ fn ground_condition(
 fn ground_conditions(
     alloc: Global,
     known: &Declared<'_>,
-    literals: &[LiteralSyntax<'_>],
+    mut literals: Literals<'_>,
 ) -> Result<CondList, ReadFault>
-    ensures { Gives (λ conditions. conditions) result (ground_conditions_of (known_form known.now) (literal_forms literals.now)) }
+    ensures { Gives (λ conditions. conditions) result (ground_conditions_of (known_form known.now) literals.entry) }
 {
     let mut conditions = Seq::new(alloc);
-    'conditions: for literal in literals {
-        conditions.push(ground_condition(alloc, known, literal)?)?;
+    'conditions: while let Some(literal) = literals.next(alloc)? {
+        conditions.push(ground_condition(alloc, known, &literal)?)?;
     }
     Ok(conditions)
 }
@@ -54,13 +54,13 @@ fn ground_conditions(
 fn initial(
     alloc: Global,
     known: &Declared<'_>,
-    literals: &[LiteralSyntax<'_>],
+    mut literals: Literals<'_>,
 ) -> Result<InitialAtoms, ReadFault>
-    ensures { Gives (λ atoms. atoms) result (initial_of (known_form known.now) (literal_forms literals.now)) }
+    ensures { Gives (λ atoms. atoms) result (initial_of (known_form known.now) literals.entry) }
 {
     let mut atoms = InitialAtoms::new(alloc, known.objects.seed());
-    'items: for literal in literals {
-        let given = ground_condition(alloc, known, literal)?;
+    'items: while let Some(literal) = literals.next(alloc)? {
+        let given = ground_condition(alloc, known, &literal)?;
         if given.positive {
             atoms.push(given.atom)?;
         }
@@ -117,8 +117,8 @@ fn resolve_given(
     ensures well_formed { IfOk result (λ given. IsWellFormed (task_assembled domain.now given)) }
 {
     let known = domain.known();
-    let init = initial(alloc, &known, part_items(&syntax.init))?;
-    let goal = ground_conditions(alloc, &known, syntax.goal.as_slice())?;
+    let init = initial(alloc, &known, part_literals(&syntax.init))?;
+    let goal = ground_conditions(alloc, &known, syntax.goal.again())?;
     let problem = name(alloc, syntax.name)?;
     Ok(Given {
         problem,

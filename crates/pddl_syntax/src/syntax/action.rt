@@ -3,32 +3,18 @@
 ghost use Rattle.std.specs.Prelude.{◌≡◌};
 ghost use Rattle.pddl_syntax.specs.Levels.{here};
 ghost use Rattle.pddl_syntax.specs.Reading.{ReadsInto, ReadsList};
-ghost use Rattle.pddl_syntax.specs.Forms.{action_syntax_form, literal_forms, parts_form};
-ghost use Rattle.pddl_syntax.specs.Syntax.{action_of, formula_in, is_part_given, no_parts, part_by, parts_of};
+ghost use Rattle.pddl_syntax.specs.Forms.{action_syntax_form, parts_form};
+ghost use Rattle.pddl_syntax.specs.Syntax.{action_of, is_part_given, no_parts, part_by, parts_of};
 
 use crate::fault::{FaultKind, ReadFault};
 use crate::heads::{ActionPart, Scope, action_part, is_name};
-use crate::syntax::formula::formula;
 use crate::syntax::lists::enter_list;
+use crate::syntax::literals::kept_literals;
 use crate::syntax::refusals::keyword_fault;
-use crate::syntax::variables::typed_variables;
-use crate::syntax::{ActionParts, ActionSyntax, LiteralSyntax};
+use crate::syntax::variables::kept_variables;
+use crate::syntax::{ActionParts, ActionSyntax};
 use crate::walk::{Item, NameWord, Walk};
 use std::alloc::Global;
-
-/// Reads a formula or an effect as the list of its literals.
-#[tactic(auto, using(crate::proofs::FormulaSteps::no_literals, crate::proofs::FormulaSteps::no_front))]
-pub(crate) fn literals<'a>(
-    alloc: Global,
-    walk: &mut Walk<'a>,
-    scope: Scope,
-) -> Result<Vec<LiteralSyntax<'a>>, ReadFault>
-    ensures { ReadsList (λ v. literal_forms v.items) result (formula_in scope) (here walk.old.cursor) (here walk.new.cursor) }
-{
-    let mut literals = Vec::new(alloc);
-    formula(alloc, walk, scope, &mut literals)?;
-    Ok(literals)
-}
 
 /// Whether the part is given already.
 #[tactic(auto, unfolding(crate::specs::Syntax::is_part_given, crate::specs::Forms::parts_form), using(crate::proofs::ActionSteps::given_steps))]
@@ -54,13 +40,13 @@ fn part<'a>(
         (parts_form parts.new) }
 {
     match part {
-        ActionPart::Parameters => parts.parameters = Some(typed_variables(alloc, walk)?),
-        ActionPart::Precondition => parts.precondition = Some(literals(
+        ActionPart::Parameters => parts.parameters = Some(kept_variables(alloc, walk)?),
+        ActionPart::Precondition => parts.precondition = Some(kept_literals(
             alloc,
             walk,
             Scope::Action,
         )?),
-        ActionPart::Effect => parts.effect = Some(literals(alloc, walk, Scope::Action)?),
+        ActionPart::Effect => parts.effect = Some(kept_literals(alloc, walk, Scope::Action)?),
     }
     Ok(())
 }

@@ -13,7 +13,7 @@ use crate::syntax::action::action;
 use crate::syntax::lists::{enter_list, expect_word, header, leave_list};
 use crate::syntax::refusals::keyword_fault;
 use crate::syntax::typed::{keywords, typed_names};
-use crate::syntax::variables::typed_variables;
+use crate::syntax::variables::kept_variables;
 use crate::syntax::{DomainSections, DomainSyntax, PredicateSyntax};
 use crate::walk::{Item, NameWord, Walk};
 use std::alloc::Global;
@@ -27,7 +27,7 @@ fn predicate_variables<'a>(
 ) -> Result<PredicateSyntax<'a>, ReadFault>
     ensures { ReadsList predicate_form result (predicate_of name.entry.text.now) (here walk.old.cursor) (here walk.new.cursor) }
 {
-    let variables = typed_variables(alloc, walk)?;
+    let variables = kept_variables(alloc, walk)?;
     Ok(PredicateSyntax { name, variables })
 }
 

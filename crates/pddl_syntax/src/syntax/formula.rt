@@ -2,10 +2,10 @@
 
 ghost use Rattle.std.specs.Prelude.{◌≡◌};
 ghost use Rattle.pddl_syntax.specs.Levels.{here};
-ghost use Rattle.pddl_syntax.specs.Reading.{ReadsList, ReadsOnto};
-ghost use Rattle.pddl_syntax.specs.Forms.{atom_form, literal_form, literal_forms, word_forms};
+ghost use Rattle.pddl_syntax.specs.Reading.{PassesList, ReadsList};
+ghost use Rattle.pddl_syntax.specs.Forms.{atom_form, literal_form, word_forms};
 ghost use Rattle.pddl_syntax.specs.Heads.{is_term};
-ghost use Rattle.pddl_syntax.specs.Syntax.{atom_of, atom_in, negated_of, literal_of, formula_in, conjuncts_of, words_of};
+ghost use Rattle.pddl_syntax.specs.Syntax.{are_conjuncts, atom_of, atom_in, is_formula, literal_of, negated_of, words_of};
 
 use crate::fault::{FaultKind, ReadFault};
 use crate::heads::{FormulaHead, Scope, formula_head, is_and, is_term};
@@ -109,48 +109,35 @@ pub(crate) fn literal<'a>(
     }
 }
 
-/// Reads what stands in the parentheses of a formula or an effect, and puts its literals behind those in `literals`.
+/// Steps over what stands in the parentheses of a formula or an effect.
 #[cycle(formulas)]
-#[tactic(auto, using(crate::proofs::FormulaSteps::formula_steps, std::proofs::lemmas::List::map_push))]
-pub(crate) fn formula<'a>(
-    alloc: Global,
-    walk: &mut Walk<'a>,
-    scope: Scope,
-    literals: &mut Vec<LiteralSyntax<'a>>,
-) -> Result<(), ReadFault>
-    ensures { ReadsOnto result (formula_in scope) (here walk.old.cursor) (here walk.new.cursor)
-        (literal_forms literals.old.items) (literal_forms literals.new.items) }
+#[tactic(auto, using(crate::proofs::FormulaSteps::formula_steps))]
+pub(crate) fn formula(alloc: Global, walk: &mut Walk<'_>, scope: Scope) -> Result<(), ReadFault>
+    ensures { PassesList result (is_formula scope) (here walk.old.cursor) (here walk.new.cursor) }
 {
     match walk.next() {
         Item::Close(_) => Ok(()),
         Item::Open(span) => Err(ReadFault::new(FaultKind::Expected, span)),
         Item::Text(word) => {
             if is_and(word.text) {
-                return conjuncts(alloc, walk, scope, literals);
+                return conjuncts(alloc, walk, scope);
             }
-            let literal = literal(alloc, walk, scope, word)?;
-            literals.push(literal)?;
+            let _literal = literal(alloc, walk, scope, word)?;
             Ok(())
         }
     }
 }
 
-/// Reads the formulas behind `and`, as `formula` does.
+/// Steps over the formulas behind `and`.
 #[cycle(formulas)]
 #[tactic(auto, using(crate::proofs::FormulaSteps::conjunct_steps))]
-fn conjuncts<'a>(
-    alloc: Global,
-    walk: &mut Walk<'a>,
-    scope: Scope,
-    literals: &mut Vec<LiteralSyntax<'a>>,
-) -> Result<(), ReadFault>
-    ensures { ReadsOnto result (conjuncts_of scope) (here walk.old.cursor) (here walk.new.cursor)
-        (literal_forms literals.old.items) (literal_forms literals.new.items) }
+fn conjuncts(alloc: Global, walk: &mut Walk<'_>, scope: Scope) -> Result<(), ReadFault>
+    ensures { PassesList result (are_conjuncts scope) (here walk.old.cursor) (here walk.new.cursor) }
 {
     'conjuncts: loop {
         match walk.next() {
             Item::Close(_) => return Ok(()),
-            Item::Open(_) => formula(alloc, walk, scope, literals)?,
+            Item::Open(_) => formula(alloc, walk, scope)?,
             Item::Text(word) => return Err(ReadFault::new(FaultKind::Expected, word.span)),
         }
     }

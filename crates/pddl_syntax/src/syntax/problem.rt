@@ -3,15 +3,15 @@
 ghost use Rattle.std.specs.Prelude.{◌≡◌, None};
 ghost use Rattle.pddl_syntax.specs.Levels.{here, trees};
 ghost use Rattle.pddl_syntax.specs.Trees.{text_fault};
-ghost use Rattle.pddl_syntax.specs.Reading.{Gives, ReadsInto, ReadsList};
-ghost use Rattle.pddl_syntax.specs.Forms.{literal_form, literal_forms, problem_sections_form, problem_syntax_form};
-ghost use Rattle.pddl_syntax.specs.Syntax.{goal_of, init_item_in, is_problem_section_given, lists_of, no_problem_sections, problem_in, problem_section_by, problem_section_in, problem_sections_of, problem_syntax};
+ghost use Rattle.pddl_syntax.specs.Reading.{Gives, PassesList, ReadsInto, ReadsList};
+ghost use Rattle.pddl_syntax.specs.Forms.{literal_form, problem_sections_form, problem_syntax_form};
+ghost use Rattle.pddl_syntax.specs.Syntax.{are_initial, goal_of, init_item_in, is_problem_section_given, lists_of, no_problem_sections, problem_in, problem_section_by, problem_section_in, problem_sections_of, problem_syntax};
 
 use crate::fault::{FaultKind, ReadFault};
 use crate::heads::{ProblemSection, Scope, problem_section};
-use crate::syntax::action::literals;
 use crate::syntax::formula::literal;
 use crate::syntax::lists::{enter_list, expect_word, header, leave_list, lone_name};
+use crate::syntax::literals::{Literals, kept_literals};
 use crate::syntax::refusals::keyword_fault;
 use crate::syntax::typed::{keywords, skip, typed_names};
 use crate::syntax::{LiteralSyntax, ProblemSections, ProblemSyntax};
@@ -31,28 +31,39 @@ fn init_item<'a>(alloc: Global, walk: &mut Walk<'a>) -> Result<LiteralSyntax<'a>
     }
 }
 
-/// Reads the initial atoms.
+/// Steps over the initial atoms.
 #[tactic(auto, using(crate::proofs::ProblemSteps::init_steps))]
-fn init<'a>(alloc: Global, walk: &mut Walk<'a>) -> Result<Vec<LiteralSyntax<'a>>, ReadFault>
-    ensures { ReadsList (λ v. literal_forms v.items) result (lists_of init_item_in) (here walk.old.cursor) (here walk.new.cursor) }
+fn init_items(alloc: Global, walk: &mut Walk<'_>) -> Result<(), ReadFault>
+    ensures { PassesList result are_initial (here walk.old.cursor) (here walk.new.cursor) }
 {
-    let mut items = Vec::new(alloc);
     'items: loop {
         match walk.next() {
-            Item::Close(_) => return Ok(items),
+            Item::Close(_) => return Ok(()),
             Item::Text(word) => return Err(ReadFault::new(FaultKind::Expected, word.span)),
-            Item::Open(_) => items.push(init_item(alloc, walk)?)?,
+            Item::Open(_) => {
+                let _item = init_item(alloc, walk)?;
+            }
         }
     }
 }
 
+/// Steps over the initial atoms, and keeps their literals.
+#[tactic(auto, using(crate::proofs::LiteralSteps::initial_steps))]
+fn init<'a>(alloc: Global, walk: &mut Walk<'a>) -> Result<Literals<'a>, ReadFault>
+    ensures { ReadsList (λ l. l) result (lists_of init_item_in) (here walk.old.cursor) (here walk.new.cursor) }
+{
+    let start = walk.fork();
+    init_items(alloc, walk)?;
+    Ok(Literals::within(start, Scope::Problem))
+}
+
 /// Reads the goal.
 #[tactic(auto, using(crate::proofs::ProblemSteps::goal_steps))]
-fn goal<'a>(alloc: Global, walk: &mut Walk<'a>) -> Result<Vec<LiteralSyntax<'a>>, ReadFault>
-    ensures { ReadsList (λ v. literal_forms v.items) result goal_of (here walk.old.cursor) (here walk.new.cursor) }
+fn goal<'a>(alloc: Global, walk: &mut Walk<'a>) -> Result<Literals<'a>, ReadFault>
+    ensures { ReadsList (λ l. l) result goal_of (here walk.old.cursor) (here walk.new.cursor) }
 {
     enter_list(walk)?;
-    let literals = literals(alloc, walk, Scope::Problem)?;
+    let literals = kept_literals(alloc, walk, Scope::Problem)?;
     leave_list(walk)?;
     Ok(literals)
 }

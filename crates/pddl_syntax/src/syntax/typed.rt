@@ -10,8 +10,8 @@ ghost use Rattle.pddl_syntax.specs.Syntax.{keywords_of, leading_name, typed_name
 
 use crate::fault::{FaultKind, ReadFault};
 use crate::heads::{is_dash, is_keyword, is_name};
-use crate::syntax::NameGroup;
 use crate::syntax::refusals::list_fault;
+use crate::syntax::{NameGroup, Names};
 use crate::walk::{Item, NameWord, Walk, Word};
 use pddl_tokens::Span;
 use std::alloc::Global;
@@ -71,7 +71,7 @@ pub(crate) fn typed_names<'a>(
     ensures { ReadsList (λ v. name_groups v.items) result (typed_names []) (here walk.old.cursor) (here walk.new.cursor) }
 {
     let mut groups = Vec::new(alloc);
-    let mut names = Vec::new(alloc);
+    let mut names = Names::new(alloc);
     'words: loop {
         match walk.next() {
             Item::Close(_) => {
@@ -98,7 +98,7 @@ pub(crate) fn typed_names<'a>(
                 }
                 let kind = name_type(walk)?;
                 groups.push(NameGroup { names, kind })?;
-                names = Vec::new(alloc);
+                names = Names::new(alloc);
             }
         }
     }

@@ -16,4 +16,4 @@ returns-clause-given c =
     let allowed : may_declare 4096 table (folded c.args.predicate.now.name.text.now) ≡ true = rw (← c.in_ok-name.ensures) c.in_ok-check_new.ensures in
     rw (c.in_ok-push.ensures.ok, c.in_ok-name.ensures)
     (predicate_declared (keys_of c.args.types.now) table (predicate_form c.args.predicate.now) c.in_ok-places.places allowed
-    (rw (← c.as_slice.ensures.value) c.in_ok-places.ensures))
+    (rw (← c.in_ok-variables.ensures, ← c.as_slice.ensures.value) c.in_ok-places.ensures))

@@ -1,8 +1,6 @@
-use Rattle.std.proofs.Common.{◌≡◌, Some, None, subst}
+use Rattle.std.proofs.Common.{◌≡◌, [], Some, None, subst, unwrap_or}
 use Rattle.std.proofs.lemmas.Result.{err_from_is_err_and}
 use Rattle.pddl_reader.specs.Declarations.{Known}
-use Rattle.pddl_syntax.specs.Forms.{literal_forms}
-use Rattle.pddl_reader.specs.Parts.{part_items}
 use Rattle.pddl_reader.specs.Problem.{initial_of, ground_conditions_of}
 use Rattle.pddl_reader.proofs.ProblemMeaning.{no_goal, problem_meant}
 use Rattle.pddl_reader.proofs.WellFormedTasks.{task_well_formed}
@@ -11,33 +9,33 @@ use Rattle.pddl_reader.proofs.resolution.problem.resolve_given.Goals as goal
 pub returns-clause-meaning : goal.returns-clause-meaning
 returns-clause-meaning c =
     let syntax = c.args.syntax.now in
-    let I : Known → Type 0 = λ k. initial_of k (literal_forms (part_items syntax.init)) ≡ Some c.in_ok-init.init in
-    let G : Known → Type 0 = λ k. ground_conditions_of k (literal_forms syntax.goal.items) ≡ Some c.in_ok-goal.goal in
+    let I : Known → Type 0 = λ k. initial_of k (unwrap_or syntax.init []) ≡ Some c.in_ok-init.init in
+    let G : Known → Type 0 = λ k. ground_conditions_of k syntax.goal ≡ Some c.in_ok-goal.goal in
     rw c.in_ok-problem.ensures
     (problem_meant c.args.domain.now syntax c.in_ok-init.init c.in_ok-goal.goal
-    (subst I c.known-known.ensures.known (rw (← c.part_items.ensures) c.in_ok-init.ensures))
-    (subst G c.known-known.ensures.known (rw (← c.as_slice.ensures.value) c.in_ok-goal.ensures)))
+    (subst I c.known-known.ensures.known (rw (← c.part_literals.ensures) c.in_ok-init.ensures))
+    (subst G c.known-known.ensures.known (rw (← c.again.ensures) c.in_ok-goal.ensures)))
 
 pub returns-clause-well_formed : goal.returns-clause-well_formed
 returns-clause-well_formed c =
     let syntax = c.args.syntax.now in
-    let I : Known → Type 0 = λ k. initial_of k (literal_forms (part_items syntax.init)) ≡ Some c.in_ok-init.init in
-    let G : Known → Type 0 = λ k. ground_conditions_of k (literal_forms syntax.goal.items) ≡ Some c.in_ok-goal.goal in
-    task_well_formed c.args.domain.now c.in_ok-problem.problem (literal_forms (part_items syntax.init)) (literal_forms syntax.goal.items) c.in_ok-init.init
+    let I : Known → Type 0 = λ k. initial_of k (unwrap_or syntax.init []) ≡ Some c.in_ok-init.init in
+    let G : Known → Type 0 = λ k. ground_conditions_of k syntax.goal ≡ Some c.in_ok-goal.goal in
+    task_well_formed c.args.domain.now c.in_ok-problem.problem (unwrap_or syntax.init []) syntax.goal c.in_ok-init.init
     c.in_ok-goal.goal c.known-known.ensures.kept.fits
-    (subst I c.known-known.ensures.known (rw (← c.part_items.ensures) c.in_ok-init.ensures))
-    (subst G c.known-known.ensures.known (rw (← c.as_slice.ensures.value) c.in_ok-goal.ensures))
+    (subst I c.known-known.ensures.known (rw (← c.part_literals.ensures) c.in_ok-init.ensures))
+    (subst G c.known-known.ensures.known (rw (← c.again.ensures) c.in_ok-goal.ensures))
 
 pub returns-in_err-goal-clause-meaning : goal.returns-in_err-goal-clause-meaning
 returns-in_err-goal-clause-meaning c =
     let syntax = c.args.syntax.now in
     let p = err_from_is_err_and c.from_residual-in_err-goal.result c.from_residual-in_err-goal.ensures.1 in
     let e = c.in_err-goal.ensures in
-    let I : Known → Type 0 = λ k. initial_of k (literal_forms (part_items syntax.init)) ≡ Some c.in_ok-init.init in
-    let G : Known → Type 0 = λ k. ground_conditions_of k (literal_forms syntax.goal.items) ≡ None in
+    let I : Known → Type 0 = λ k. initial_of k (unwrap_or syntax.init []) ≡ Some c.in_ok-init.init in
+    let G : Known → Type 0 = λ k. ground_conditions_of k syntax.goal ≡ None in
     rw (p.1, p.2) (
       e.0,
       λ k. no_goal c.args.domain.now syntax c.in_ok-init.init
-          (subst I c.known-known.ensures.known (rw (← c.part_items.ensures) c.in_ok-init.ensures))
-          (subst G c.known-known.ensures.known (rw (← c.as_slice.ensures.value) (e.1 k))),
+          (subst I c.known-known.ensures.known (rw (← c.part_literals.ensures) c.in_ok-init.ensures))
+          (subst G c.known-known.ensures.known (rw (← c.again.ensures) (e.1 k))),
     )

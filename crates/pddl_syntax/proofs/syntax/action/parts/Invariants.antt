@@ -2,7 +2,7 @@ use Rattle.std.proofs.Common.{◌≡◌}
 use Rattle.pddl_syntax.specs.Forms.{parts_form}
 use Rattle.pddl_syntax.specs.Levels.{here}
 use Rattle.pddl_syntax.specs.Syntax.{no_parts, parts_of}
-use Rattle.pddl_syntax.proofs.Sizes.{size}
+use Rattle.pddl_syntax.specs.Sizes.{size}
 use Rattle.pddl_syntax.proofs.syntax.action.parts.Given as goal
 
 abbrev pub invariant-parts : goal.invariant-parts

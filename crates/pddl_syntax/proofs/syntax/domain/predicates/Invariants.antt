@@ -3,7 +3,7 @@ use Rattle.pddl_syntax.specs.Forms.{predicate_forms}
 use Rattle.pddl_syntax.specs.Levels.{here}
 use Rattle.pddl_syntax.specs.Optional.{with_front}
 use Rattle.pddl_syntax.specs.Syntax.{lists_of, predicate_in}
-use Rattle.pddl_syntax.proofs.Sizes.{size}
+use Rattle.pddl_syntax.specs.Sizes.{size}
 use Rattle.pddl_syntax.proofs.syntax.domain.predicates.Given as goal
 
 abbrev pub invariant-predicates : goal.invariant-predicates

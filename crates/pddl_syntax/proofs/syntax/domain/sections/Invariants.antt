@@ -2,7 +2,7 @@ use Rattle.std.proofs.Common.{◌≡◌}
 use Rattle.pddl_syntax.specs.Forms.{domain_sections_form}
 use Rattle.pddl_syntax.specs.Levels.{here}
 use Rattle.pddl_syntax.specs.Syntax.{domain_sections_of, no_domain_sections}
-use Rattle.pddl_syntax.proofs.Sizes.{size}
+use Rattle.pddl_syntax.specs.Sizes.{size}
 use Rattle.pddl_syntax.proofs.syntax.domain.sections.Given as goal
 
 abbrev pub invariant-sections : goal.invariant-sections

@@ -1,9 +1,7 @@
 use Rattle.std.proofs.Common.{◌≡◌, ◌≤◌}
-use Rattle.pddl_syntax.specs.Forms.{literal_forms}
 use Rattle.pddl_syntax.specs.Levels.{here}
-use Rattle.pddl_syntax.specs.Optional.{with_front}
-use Rattle.pddl_syntax.specs.Syntax.{conjuncts_of}
-use Rattle.pddl_syntax.proofs.Sizes.{size}
+use Rattle.pddl_syntax.specs.Syntax.{are_conjuncts}
+use Rattle.pddl_syntax.specs.Sizes.{size}
 use Rattle.pddl_syntax.proofs.syntax.formula.+formulas.Given as goal
 
 abbrev pub decreases-conjuncts : goal.decreases-conjuncts
@@ -14,8 +12,7 @@ decreases-formula l = size (here l.walk.now.cursor).top
 
 abbrev pub invariant-conjuncts-conjuncts : goal.invariant-conjuncts-conjuncts
 invariant-conjuncts-conjuncts l = record {
-  so_far : with_front (literal_forms l.literals.items) (conjuncts_of l.scope (here l.walk.cursor).top)
-      ≡ with_front (literal_forms l.fn.literals.items) (conjuncts_of l.scope (here l.fn.walk.cursor).top);
+  so_far : are_conjuncts l.scope (here l.walk.cursor).top ≡ are_conjuncts l.scope (here l.fn.walk.cursor).top;
   below : (here l.walk.cursor).below ≡ (here l.fn.walk.cursor).below;
   smaller : size (here l.walk.cursor).top ≤ size (here l.fn.walk.cursor).top;
 }

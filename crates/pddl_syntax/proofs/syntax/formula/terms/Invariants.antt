@@ -4,7 +4,7 @@ use Rattle.pddl_syntax.specs.Heads.{is_term}
 use Rattle.pddl_syntax.specs.Levels.{here}
 use Rattle.pddl_syntax.specs.Optional.{with_front}
 use Rattle.pddl_syntax.specs.Syntax.{words_of}
-use Rattle.pddl_syntax.proofs.Sizes.{size}
+use Rattle.pddl_syntax.specs.Sizes.{size}
 use Rattle.pddl_syntax.proofs.syntax.formula.terms.Given as goal
 
 abbrev pub invariant-terms : goal.invariant-terms

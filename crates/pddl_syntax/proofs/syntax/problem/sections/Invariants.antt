@@ -2,7 +2,7 @@ use Rattle.std.proofs.Common.{◌≡◌}
 use Rattle.pddl_syntax.specs.Forms.{problem_sections_form}
 use Rattle.pddl_syntax.specs.Levels.{here}
 use Rattle.pddl_syntax.specs.Syntax.{problem_sections_of, no_problem_sections}
-use Rattle.pddl_syntax.proofs.Sizes.{size}
+use Rattle.pddl_syntax.specs.Sizes.{size}
 use Rattle.pddl_syntax.proofs.syntax.problem.sections.Given as goal
 
 abbrev pub invariant-sections : goal.invariant-sections

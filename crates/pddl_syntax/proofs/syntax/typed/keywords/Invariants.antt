@@ -1,7 +1,7 @@
 use Rattle.std.proofs.Common.{◌≡◌}
 use Rattle.pddl_syntax.specs.Levels.{here}
 use Rattle.pddl_syntax.specs.Syntax.{keywords_of}
-use Rattle.pddl_syntax.proofs.Sizes.{size}
+use Rattle.pddl_syntax.specs.Sizes.{size}
 use Rattle.pddl_syntax.proofs.syntax.typed.keywords.Given as goal
 
 abbrev pub invariant-words : goal.invariant-words

@@ -3,7 +3,7 @@ use Rattle.pddl_syntax.specs.Forms.{name_forms, name_groups}
 use Rattle.pddl_syntax.specs.Levels.{here}
 use Rattle.pddl_syntax.specs.Optional.{with_front}
 use Rattle.pddl_syntax.specs.Syntax.{typed_names}
-use Rattle.pddl_syntax.proofs.Sizes.{size}
+use Rattle.pddl_syntax.specs.Sizes.{size}
 use Rattle.pddl_syntax.proofs.syntax.typed.typed_names.Given as goal
 
 abbrev pub invariant-words : goal.invariant-words

@@ -4,7 +4,7 @@ use Rattle.pddl_syntax.specs.Forms.{name_forms}
 use Rattle.pddl_syntax.specs.Levels.{here}
 use Rattle.pddl_syntax.specs.Optional.{with_front}
 use Rattle.pddl_syntax.specs.Syntax.{words_of}
-use Rattle.pddl_syntax.proofs.Sizes.{size}
+use Rattle.pddl_syntax.specs.Sizes.{size}
 use Rattle.pddl_syntax.proofs.syntax.variables.names.Given as goal
 
 abbrev pub invariant-names : goal.invariant-names

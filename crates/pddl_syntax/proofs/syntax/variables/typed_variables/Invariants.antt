@@ -3,7 +3,7 @@ use Rattle.pddl_syntax.specs.Forms.{variable_groups, word_forms}
 use Rattle.pddl_syntax.specs.Levels.{here}
 use Rattle.pddl_syntax.specs.Optional.{with_front}
 use Rattle.pddl_syntax.specs.Syntax.{typed_variables}
-use Rattle.pddl_syntax.proofs.Sizes.{size}
+use Rattle.pddl_syntax.specs.Sizes.{size}
 use Rattle.pddl_syntax.proofs.syntax.variables.typed_variables.Given as goal
 
 abbrev pub invariant-words : goal.invariant-words

@@ -1,0 +1,19 @@
+-- How many words and lists there are in trees.
+
+use Rattle.std.specs.Prelude.{ℕ, ◌+◌, List, [], ◌∷◌}
+use Rattle.pddl_syntax.specs.Trees.{Trees, none, word, list}
+use Rattle.pddl_syntax.specs.Levels.{Levels}
+
+abbrev pub size : Trees → ℕ
+size none = 0
+size (word w others) = 1 + size others
+size (list inside others) = 1 + size inside + size others
+
+-- in several lists of trees
+abbrev pub sizes : List Trees → ℕ
+sizes [] = 0
+sizes (trees ∷ more) = size trees + sizes more
+
+-- how many words and lists are still to come
+abbrev pub ahead : Levels → ℕ
+ahead levels = size levels.top + sizes levels.below

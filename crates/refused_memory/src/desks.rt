@@ -1,0 +1,88 @@
+//! A desk that is made, and steps that are replayed.
+
+use crate::seen::Seen;
+use crate::tasks::{Found, found_in, lamp};
+use crate::texts::STEPS;
+use intake_core::{Desk, Finding, Refusal, ReplayFault, Reply, StepsToRun, replay};
+use std::alloc::{AllocError, Global};
+use steps_text::{StepsRefusal, read_steps};
+use strips_judge::Task;
+
+/// A desk is made.
+pub(crate) fn desk_row(alloc: Global) -> Seen {
+    match lamp(alloc) {
+        Ok(task) => match Desk::make(alloc, &task, 1, 2) {
+            Ok(desk) => Seen::whole_if(desk.job(0).is_none()),
+            Err(AllocError) => Seen::Refused,
+        },
+        Err(seen) => seen,
+    }
+}
+
+/// Steps are read and replayed.
+pub(crate) fn replay_row(alloc: Global) -> Seen {
+    match lamp(alloc) {
+        Ok(task) => match read_steps(alloc, STEPS) {
+            Ok(read) => replayed(alloc, &task, read.steps),
+            Err(StepsRefusal::OutOfMemory) => Seen::Refused,
+            Err(StepsRefusal::Fault(_)) => Seen::Wrong,
+        },
+        Err(seen) => seen,
+    }
+}
+
+/// Replays steps. Where that is refused memory, the replies are the first ones.
+fn replayed(alloc: Global, task: &Task, steps: StepsToRun) -> Seen {
+    match replay(alloc, task, 1, 2, steps) {
+        Ok(replies) => {
+            Seen::whole_if(are_first(replies.as_slice()) && replies.as_slice().len() == 12)
+        }
+        Err(ReplayFault::OutOfMemory { replies }) => {
+            Seen::refused_if(are_first(replies.as_slice()))
+        }
+    }
+}
+
+/// Whether these are the first replies to the steps.
+fn are_first(replies: &[Reply]) -> bool {
+    for (place, reply) in replies.iter().enumerate() {
+        if !is_reply(place, reply) {
+            return false;
+        }
+    }
+    true
+}
+
+/// Whether this is the reply to the step at a place.
+fn is_reply(place: usize, reply: &Reply) -> bool {
+    match (place, reply) {
+        (0, Reply::Accepted(0)) => true,
+        (1, Reply::Accepted(1)) => true,
+        (2, Reply::Taken(0)) => true,
+        (3, Reply::Taken(1)) => true,
+        (4, Reply::Finished) => true,
+        (5, Reply::Refused(Refusal::NotReady(0))) => true,
+        (6, Reply::Finished) => true,
+        (7, Reply::Emitted(finding)) => is_valid(finding, 0),
+        (8, Reply::Emitted(finding)) => fails(finding, 1),
+        (9, Reply::NoJob) => true,
+        (10, Reply::ClosedNow) => true,
+        (11, Reply::Refused(Refusal::Complete)) => true,
+        _ => false,
+    }
+}
+
+/// Whether a finding says that the plan of this job is valid and has one step.
+pub(crate) fn is_valid(finding: &Finding, job: u32) -> bool {
+    finding.job.number == job && found_in(&finding.verdict) == Found::Valid { steps: 1 }
+}
+
+/// Whether a finding says that the plan of this job finds the lamp lit at its second step.
+fn fails(finding: &Finding, job: u32) -> bool {
+    let wanted = Found::Missing {
+        step: 2,
+        first: 1,
+        count: 1,
+    };
+    finding.job.number == job && found_in(&finding.verdict) == wanted
+}
