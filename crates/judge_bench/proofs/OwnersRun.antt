@@ -27,48 +27,22 @@ pub record AcceptedSoFar (slots planners : ℕ) (before view : View) (plans left
   pub room : length view.jobs + length left ≤ slots
   pub known : All (λ plan. plan.planner < planners) left
 
--- an emit that may have kept something changes nothing else
-pub record SameButEmissions (before later : View) : Type 0 where
-  pub jobs : later.jobs ≡ before.jobs
-  pub others : OnlyAccepts before later
-
-pub only_emits : (planner : ℕ) (found : Bool) (before later : View) → KeptNext planner found before later → SameButEmissions before later
-only_emits planner true before later is = record {
-  jobs = ap (λ (v : View). v.jobs) is;
-  others = record {
-    closed = ap (λ (v : View). v.closed) is;
-    seats_out = ap (λ (v : View). v.seats_out) is;
-    held = ap (λ (v : View). v.held) is;
-    finished = ap (λ (v : View). v.finished) is;
-  };
-}
-only_emits planner false before later ((missed, is), unknown) = record {
-  jobs = ap (λ (v : View). v.jobs) is;
-  others = record {
-    closed = ap (λ (v : View). v.closed) is;
-    seats_out = ap (λ (v : View). v.seats_out) is;
-    held = ap (λ (v : View). v.held) is;
-    finished = ap (λ (v : View). v.finished) is;
-  };
-}
-
 -- one plan more was accepted
 pub one_accepted : (slots planners : ℕ) (before view : View) (plans left : List SubmittedPlan) → AcceptedSoFar slots planners before view plans left
     → (plan : SubmittedPlan) (rest : List SubmittedPlan) → left ≡ plan ∷ rest
-    → (posted later : View) → posted ≡ with_posted view (job_of (length view.jobs) plan) → SameButEmissions posted later
+    → (later : View) → later ≡ with_posted view (job_of (length view.jobs) plan)
     → AcceptedSoFar slots planners before later plans rest
-one_accepted slots planners before view plans left so_far plan rest at posted later is same =
-    let jobs = same.jobs ∙ ap (λ (v : View). v.jobs) is in
+one_accepted slots planners before view plans left so_far plan rest at later is =
+    let jobs = ap (λ (v : View). v.jobs) is in
     let old = so_far.others in
-    let others = same.others in
     let count = ap length jobs ∙ length_push view.jobs (job_of (length view.jobs) plan) in
     let long = ap length at in
     let h = so_far.room in record {
       others = record {
-        closed = others.closed ∙ ap (λ (v : View). v.closed) is ∙ old.closed;
-        seats_out = others.seats_out ∙ ap (λ (v : View). v.seats_out) is ∙ old.seats_out;
-        held = others.held ∙ ap (λ (v : View). v.held) is ∙ old.held;
-        finished = others.finished ∙ ap (λ (v : View). v.finished) is ∙ old.finished;
+        closed = ap (λ (v : View). v.closed) is ∙ old.closed;
+        seats_out = ap (λ (v : View). v.seats_out) is ∙ old.seats_out;
+        held = ap (λ (v : View). v.held) is ∙ old.held;
+        finished = ap (λ (v : View). v.finished) is ∙ old.finished;
       };
       jobs = ap (λ l. l ++ jobs_from (length later.jobs) rest) jobs
           ∙ ap (λ n. (view.jobs ++ job_of (length view.jobs) plan ∷ []) ++ jobs_from n rest) (count ∙ add-one (length view.jobs))

@@ -21,7 +21,8 @@ pub(crate) struct Keeper {
 }
 
 impl Keeper {
-    /// Accepts all plans that are to come, and keeps what is found meanwhile: after each plan it looks once for the next finding of its planner.
+    /// Accepts all plans that are to come. What is found meanwhile stays in the slots: a look at a slot that a worker may be writing costs as much as
+    /// reading a short plan.
     pub(crate) fn accept_all<I: Intake>(
         &mut self,
         bench: &Bench,
@@ -38,9 +39,7 @@ impl Keeper {
         ensures kept { OnOk result (KeptFindings bench.now.setting.task.value bench.now.setting.planners self.new.owner.view self.new.findings) }
     {
         while let Some(submission) = intake.next()? {
-            let planner = submission.planner;
             self.accept(bench, submission);
-            self.keep_next(bench, planner)?;
         }
         Ok(())
     }

@@ -8,7 +8,7 @@
 //! 1. The calling thread makes a [`Bench`], with a slot for each plan that may come. It is the [`Owner`].
 //! 2. It starts the workers, each on a thread of its own with a [`WorkerSeat`]. A worker does [`work`]: it takes a job, asks the [`Gate`] whether
 //!    it is held, judges it, finishes it, and goes on with the next.
-//! 3. The owner asks the intake for one plan after another and accepts each as a job. Meanwhile it keeps the findings that are there.
+//! 3. The owner asks the intake for one plan after another and accepts each as a job. What is found meanwhile stays in the slots.
 //! 4. At the end of the intake it closes all planners and shuts the bench. Each worker ends once it has seen the shut and then finds no job.
 //! 5. The owner waits for all workers and takes their seats back. From then on it knows which jobs are finished. What they left, since memory ran
 //!    out for them, it judges itself, and it keeps the findings of each planner to the last.

@@ -1,9 +1,10 @@
 //! Places in a list or a text, in half the memory as long as they are near.
 //!
 //! The ends of words are a large part of a plan's memory, and hardly ever is one of them 2^32 or more. So places take four bytes each while all of
-//! them are less than that, and eight from then on.
+//! them are less than that, and eight from then on. The first few take no memory of their own, since a file may hold many plans of a step or two.
 ghost use Rattle.std.specs.Prelude.{◌≡◌, ◌<◌, ℕ, List, [], ◌∷◌, ◌++◌, length, slice_get, OnOk, OnErr, IfOk, Some};
 
+use smallvec::SmallVec;
 use std::alloc::{AllocError, Global};
 use std::marker::Model;
 
@@ -17,7 +18,7 @@ pub(crate) struct Places {
 #[derive(Debug, Drop)]
 enum Kept {
     /// All are less than 2^32.
-    Near(Vec<u32>),
+    Near(SmallVec<u32, 4>),
     /// Some may be more.
     Far(Vec<usize>),
 }
@@ -38,7 +39,7 @@ impl Places {
         ensures { result ≡ [] }
     {
         Places {
-            kept: Kept::Near(Vec::new(alloc)),
+            kept: Kept::Near(SmallVec::new(alloc)),
         }
     }
 
@@ -51,7 +52,9 @@ impl Places {
         match &mut self.kept {
             Kept::Near(near) => match u32::try_from(place) {
                 Ok(place) => near.push(place)?,
-                Err(_) => self.kept = Kept::Far(far_with(near, place)?),
+                Err(_) => {
+                    self.kept = Kept::Far(far_with(*near.allocator(), near.as_slice(), place)?)
+                }
             },
             Kept::Far(far) => far.push(place)?,
         }
@@ -76,18 +79,18 @@ impl Places {
         ensures { slice_get self.now number ≡ Some result }
     {
         match &self.kept {
-            Kept::Near(near) => near[number] as usize,
+            Kept::Near(near) => near.as_slice()[number] as usize,
             Kept::Far(far) => far[number],
         }
     }
 }
 
 /// Near places and one more.
-fn far_with(near: &Vec<u32>, place: usize) -> Result<Vec<usize>, AllocError>
-    ensures { IfOk result (λ far. far.items ≡ near.now.items ++ place ∷ []) }
+fn far_with(alloc: Global, near: &[u32], place: usize) -> Result<Vec<usize>, AllocError>
+    ensures { IfOk result (λ far. far.items ≡ near.now ++ place ∷ []) }
 {
-    let mut far = Vec::with_capacity(*near.allocator(), near.len() + 1)?;
-    for one in near.as_slice() {
+    let mut far = Vec::with_capacity(alloc, near.len() + 1)?;
+    for one in near {
         far.push(*one as usize)?;
     }
     far.push(place)?;

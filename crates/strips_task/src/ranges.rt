@@ -1,8 +1,10 @@
-//! The ranges of steps among words, in a quarter of the memory as long as each starts where the one before it ends.
+//! The ranges of steps among words, in a quarter of the memory as long as each starts where the one before it ends. The first few take no memory of
+//! their own.
 ghost use Rattle.std.specs.Prelude.{◌≡◌, ◌<◌, ◌≤◌, ℕ, List, [], ◌∷◌, ◌++◌, length, slice_get, slice_index, OnOk, OnErr, IfOk, IfSome, Some};
 ghost use Rattle.strips_task.specs.Ranges.{joined};
 
 use crate::StepRange;
+use smallvec::SmallVec;
 use std::alloc::{AllocError, Global};
 use std::marker::Model;
 
@@ -16,7 +18,7 @@ pub(crate) struct StepRanges {
 #[derive(Debug, Drop)]
 enum Kept {
     /// The first starts at 0, and each other one where the one before it ends: their ends, all less than 2^32.
-    Joined(Vec<u32>),
+    Joined(SmallVec<u32, 4>),
     /// Any ranges.
     Apart(Vec<StepRange>),
 }
@@ -38,7 +40,7 @@ impl StepRanges {
         ensures { result ≡ [] }
     {
         StepRanges {
-            kept: Kept::Joined(Vec::new(alloc)),
+            kept: Kept::Joined(SmallVec::new(alloc)),
         }
     }
 
@@ -51,7 +53,9 @@ impl StepRanges {
         match &mut self.kept {
             Kept::Joined(ends) => match joined_end(ends.as_slice(), range) {
                 Some(end) => ends.push(end)?,
-                None => self.kept = Kept::Apart(apart_with(ends, range)?),
+                None => {
+                    self.kept = Kept::Apart(apart_with(*ends.allocator(), ends.as_slice(), range)?)
+                }
             },
             Kept::Apart(ranges) => ranges.push(range)?,
         }
@@ -118,12 +122,12 @@ fn joined_end(ends: &[u32], range: StepRange) -> Option<u32>
 
 /// The ranges with these ends, and one more.
 #[tactic(auto, using(crate::proofs::JoinedRanges::joined_more, crate::proofs::JoinedRanges::joined_all))]
-fn apart_with(ends: &Vec<u32>, range: StepRange) -> Result<Vec<StepRange>, AllocError>
-    ensures { IfOk result (λ ranges. ranges.items ≡ joined 0 ends.now.items ++ range ∷ []) }
+fn apart_with(alloc: Global, ends: &[u32], range: StepRange) -> Result<Vec<StepRange>, AllocError>
+    ensures { IfOk result (λ ranges. ranges.items ≡ joined 0 ends.now ++ range ∷ []) }
 {
-    let mut ranges = Vec::with_capacity(*ends.allocator(), ends.len() + 1)?;
+    let mut ranges = Vec::with_capacity(alloc, ends.len() + 1)?;
     for number in 0..ends.len() {
-        ranges.push(joined_range(ends.as_slice(), number))?;
+        ranges.push(joined_range(ends, number))?;
     }
     ranges.push(range)?;
     Ok(ranges)

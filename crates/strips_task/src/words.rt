@@ -1,17 +1,20 @@
 //! Many words kept in one piece.
 //!
 //! Planners' files are the bulk of all memory, so the words of a plan stand in one buffer of folded bytes, each known by where it ends.
-ghost use Rattle.std.specs.Prelude.{◌≡◌, ◌+◌, ◌<◌, ℕ, List, [], ◌∷◌, ◌++◌, length, slice_get, OnOk, OnErr, Some, ◌≤◌, vec_len, vec_capacity, slice_index, ◌-◌, take, drop};
+ghost use Rattle.std.specs.Prelude.{◌≡◌, ◌+◌, ◌<◌, ℕ, List, [], ◌∷◌, ◌++◌, length, slice_get, OnOk, OnErr, Some, ◌≤◌, slice_index, ◌-◌, take, drop};
 ghost use Rattle.pddl_words.specs.Words.{folded};
+ghost use Rattle.smallvec.specs.SmallVec.{HasRoomFor};
 
 use crate::places::Places;
+use smallvec::SmallVec;
 use std::alloc::{AllocError, Global};
 use std::marker::Model;
 
 /// Words in lower case, in the order in which they were pushed. Contracts see the list of them.
 #[derive(Debug, Drop)]
 pub struct WordList {
-    bytes: Vec<u8>,
+    /// The words side by side. Those of a short plan take no memory of their own.
+    bytes: SmallVec<u8, 24>,
     ends: Places,
 }
 
@@ -32,7 +35,7 @@ impl WordList {
         ensures { result ≡ [] }
     {
         WordList {
-            bytes: Vec::new(alloc),
+            bytes: SmallVec::new(alloc),
             ends: Places::new(alloc),
         }
     }
@@ -42,8 +45,9 @@ impl WordList {
         ensures ok { OnOk result (self.new ≡ self.old ++ folded word.now ∷ []) }
         ensures err { OnErr result (self.new ≡ self.old) }
     {
+        let start = self.bytes.as_slice().len();
         self.bytes.reserve(word.len())?;
-        self.ends.push(self.bytes.len() + word.len())?;
+        self.ends.push(start + word.len())?;
         append_folded(&mut self.bytes, word);
         Ok(())
     }
@@ -65,9 +69,24 @@ impl WordList {
     }
 }
 
-/// Adds a word's bytes in lower case to a buffer that has room for them.
-fn append_folded(bytes: &mut Vec<u8>, word: &[u8])
-    requires { vec_len bytes.old + length word.now ≤ vec_capacity bytes.old }
+/// Adds a word's bytes in lower case to a buffer that has room for them. Hardly any word has upper case, and others are copied in one piece.
+#[tactic(auto, using(crate::proofs::FoldedWords::folded_already))]
+fn append_folded(bytes: &mut SmallVec<u8, 24>, word: &[u8])
+    requires { HasRoomFor bytes.old (length word.now) }
+    ensures { bytes.new.items ≡ bytes.old.items ++ folded word.now }
+{
+    if word.iter().any(|b| b.is_ascii_uppercase()) {
+        return append_byte_by_byte(bytes, word);
+    }
+    match bytes.extend_from_slice(word) {
+        Ok(()) => {}
+        Err(_) => unreachable!(),
+    }
+}
+
+/// Adds a word's bytes in lower case to a buffer that has room for them, one after the other.
+fn append_byte_by_byte(bytes: &mut SmallVec<u8, 24>, word: &[u8])
+    requires { HasRoomFor bytes.old (length word.now) }
     ensures { bytes.new.items ≡ bytes.old.items ++ folded word.now }
 {
     for byte in word {

@@ -6,9 +6,9 @@ pub loop-number-preserved : goal.loop-number-preserved
 loop-number-preserved c =
     c.in_ok-push.ensures.items
     ∙ ap (λ l. l ++ c.joined_range.result ∷ []) c.loop-number.invariant
-    ∙ sym (joined_more 0 c.args.ends.now.items c.loop-number.number c.joined_range.result (rw (sym c.as_slice.ensures.value) c.joined_range.ensures))
+    ∙ sym (joined_more 0 c.args.ends.now c.loop-number.number c.joined_range.result c.joined_range.ensures)
 
 pub returns : goal.returns
 returns c =
     c.in_ok-push-2.ensures.items
-    ∙ ap (λ l. l ++ c.args.range ∷ []) (c.loop-number.invariant ∙ joined_all 0 c.args.ends.now.items c.loop-number.number (omega (arith, c.loop-number-test.false, c.len-number-end.ensures)))
+    ∙ ap (λ l. l ++ c.args.range ∷ []) (c.loop-number.invariant ∙ joined_all 0 c.args.ends.now c.loop-number.number (omega (arith, c.loop-number-test.false)))

@@ -25,7 +25,7 @@ part_of-requires c =
     let bounds = end_within 0 c.self.inside.ends (length c.self.inside.bytes.items) c.args.place c.self.invariant (within c) in
     record {
       in_order = omega (arith, start_is c, end_is c, bounds.0);
-      within = omega (arith, end_is c, bounds.1, ap length c.as_slice.ensures.value);
+      within = omega (arith, end_is c, bounds.1, ap length c.as_slice.ensures);
     }
 
 pub returns : goal.returns
@@ -33,4 +33,4 @@ returns c =
     let d = c.before in
     ap (λ l. slice_get l c.args.place) (sym c.self.view_is)
     ∙ slice_get_parts c.self.inside.bytes.items 0 c.self.inside.ends c.args.place (within d)
-    ∙ ap Some (sym (c.part_of.ensures ∙ (λ j. take (end_is d j - start_is d j) (drop (start_is d j) (c.as_slice.ensures.value j)))))
+    ∙ ap Some (sym (c.part_of.ensures ∙ (λ j. take (end_is d j - start_is d j) (drop (start_is d j) (c.as_slice.ensures j)))))

@@ -11,9 +11,10 @@ bytes : (c : goal.After-append_folded) → c.append_folded.new.bytes.items ≡ c
 bytes c = c.append_folded.ensures ∙ ap (λ l. l ++ folded c.args.word.now) c.reserve.ensures.items
 
 -- so many bytes stand there then
-total : (c : goal.After-append_folded) → c.len.result + length c.args.word.now ≡ length c.append_folded.new.bytes.items
+total : (c : goal.After-append_folded) → length c.as_slice-start.result.now + length c.args.word.now ≡ length c.append_folded.new.bytes.items
 total c = omega (
   arith,
+  ap length c.as_slice-start.ensures,
   ap length (bytes c),
   length-append c.self.inside.bytes.items (folded c.args.word.now),
   length-map c.args.word.now to_ascii_lowercase,
