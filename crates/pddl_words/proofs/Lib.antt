@@ -1,2 +1,4 @@
 pub mod KindLaws
 mod NameTable
+pub mod DigitRuns
+pub mod DecimalLaws

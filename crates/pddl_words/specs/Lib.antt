@@ -1,2 +1,4 @@
 pub mod Words
 pub mod Kinds
+pub mod Decimals
+pub mod DecimalReading

@@ -1,4 +1,4 @@
-//! The words of PDDL: what kind of word a run of bytes is, and when two words are the same.
+//! The words of PDDL: what kind of word a run of bytes is, when two words are the same, and which number a word writes.
 //!
 //! A word comes as the bytes that stand in the text, unfolded. Nothing here takes memory.
 #![tactic(auto)]
@@ -7,6 +7,10 @@ ghost use Rattle.std.specs.Prelude.{◌≡◌};
 ghost use Rattle.pddl_words.specs.Words.{is_name, is_name_byte};
 ghost use Rattle.pddl_words.specs.Kinds.{kind_of_word, is_marked_name, is_same_word};
 ghost use Rattle.std.specs.List.{list_all};
+
+mod decimals;
+
+pub use decimals::{billionths, digits};
 
 /// What a word may stand for, judged by its spelling alone.
 #[derive(Clone, Copy, Debug, PartialEq, Eq)]

@@ -1,7 +1,7 @@
 mod Lines
 mod Bundles
 mod PartCounts
-mod DigitRuns
+mod MarkedNumbers
 mod DecimalLaws
 mod Names
 mod Steps

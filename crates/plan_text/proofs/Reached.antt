@@ -13,8 +13,8 @@ use Rattle.strips_task.specs.declared.steps.StepText.{StepText}
 use Rattle.strips_task.specs.Steps.{step_of}
 use Rattle.plan_text.specs.declared.want.Want.{Want}
 use Rattle.plan_text.specs.declared.want.Want.TheVariants.{Step, Number, Opening, Action, Argument}
-use Rattle.plan_text.specs.Decimals.{Decimal, IsDecimal}
-use Rattle.plan_text.specs.DecimalReading.{number_before}
+use Rattle.pddl_words.specs.Decimals.{Decimal, IsDecimal}
+use Rattle.plan_text.specs.MarkedNumbers.{number_before}
 use Rattle.plan_text.specs.PlanGrammar.{Symbol, left, right, word, stamp_word, bracket_word, perhaps, WrittenStep, step_symbols, IsStep, meant, IsPlanText, IsViable}
 use Rattle.plan_text.specs.PlanReading.{Reading, nothing_read, risen, stamped, numbered, followed, closed, by_want, read_on}
 use Rattle.plan_text.proofs.DecimalLaws.{IsNumberWord, number_found}

@@ -12,11 +12,12 @@ use Rattle.strips_task.specs.declared.steps.StepText.{StepText}
 use Rattle.strips_task.specs.Steps.{step_of}
 use Rattle.plan_text.specs.declared.want.Want.{Want}
 use Rattle.plan_text.specs.declared.want.Want.TheVariants.{Step, Number, Opening, Action, Argument}
-use Rattle.plan_text.specs.Decimals.{Decimal, IsDecimal, IsDigit, behind_whole, billionths}
-use Rattle.plan_text.specs.DecimalReading.{number_before}
+use Rattle.pddl_words.specs.Decimals.{Decimal, IsDecimal, IsDigit, behind_whole, billionths}
+use Rattle.plan_text.specs.MarkedNumbers.{number_before}
 use Rattle.plan_text.specs.PlanGrammar.{Symbol, left, right, word, stamp_word, bracket_word, perhaps, WrittenStep, step_symbols, IsStep, meant, IsPlanText}
 use Rattle.plan_text.specs.PlanReading.{Reading, nothing_read, begun, risen, stamped, numbered, followed, named, read_on}
-use Rattle.plan_text.proofs.DecimalLaws.{number_read, no_bracket}
+use Rattle.pddl_words.proofs.DecimalLaws.{no_bracket}
+use Rattle.plan_text.proofs.DecimalLaws.{number_read}
 use Rattle.plan_text.proofs.Stamps.{least_after, RisesAt, Rises, least_at, rises, want_after, want_at}
 
 abbrev pub reading : Want → ℕ → List StepText → List (List ℕ) → Reading

@@ -6,7 +6,7 @@ use Rattle.std.specs.List.{cons_option}
 use Rattle.std.specs.List.Sorted.{IsStrictlyIncreasing}
 use Rattle.plan_text.specs.declared.want.Want.{Want}
 use Rattle.plan_text.specs.declared.want.Want.TheVariants.{Step, Number}
-use Rattle.plan_text.specs.Decimals.{Decimal, billionths}
+use Rattle.pddl_words.specs.Decimals.{Decimal, billionths}
 use Rattle.plan_text.specs.PlanGrammar.{WrittenStep, stamps}
 
 -- the least value of a next stamp behind a stamp, or behind none

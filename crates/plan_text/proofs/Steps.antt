@@ -16,12 +16,12 @@ use Rattle.strips_task.specs.Steps.{step_of}
 use Rattle.plan_text.specs.declared.want.Want.{Want}
 use Rattle.plan_text.specs.declared.want.Want.TheVariants.{Step, Number, Opening, Action, Argument}
 use Rattle.plan_text.specs.declared.want.Expected.{Expected}
-use Rattle.plan_text.specs.DecimalReading.{number_before}
+use Rattle.plan_text.specs.MarkedNumbers.{number_before}
 use Rattle.plan_text.specs.PlanGrammar.{Symbol, left, right, word, symbol_of}
 use Rattle.plan_text.specs.PlanReading.{Reading, begun, risen, stamped, numbered, followed, named, by_want, read_on, nothing_read, at_end, behind, unreadable, plan_from, plan_of}
 use Rattle.plan_text.specs.Wants.{takes_name}
 use Rattle.plan_text.specs.PlanSteps.{reading, IsReady, LeadsTo, ReadsOn}
-use Rattle.plan_text.proofs.DigitRuns.{no_last}
+use Rattle.plan_text.proofs.MarkedNumbers.{no_last}
 
 pub plan_end : (text : List ℕ) (r : Reading) → plan_from text r [] ≡ at_end r.want text r.steps
 unfolding plan_from

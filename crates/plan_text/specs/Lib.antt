@@ -4,6 +4,5 @@ pub mod PlanFaults
 pub mod PlanSteps
 pub mod Bundle
 pub mod Separators
-pub mod Decimals
-pub mod DecimalReading
+pub mod MarkedNumbers
 pub mod Wants

@@ -8,7 +8,7 @@ use Rattle.pddl_words.specs.Words.{is_name, folded}
 use Rattle.pddl_tokens.specs.declared.spans.TokenKind.{TokenKind}
 use Rattle.pddl_tokens.specs.declared.spans.TokenKind.TheVariants.{Left, Right, Word}
 use Rattle.pddl_tokens.specs.Tokens.{Piece, token, bad}
-use Rattle.plan_text.specs.Decimals.{Decimal, IsDecimal, decimal_bytes, billionths}
+use Rattle.pddl_words.specs.Decimals.{Decimal, IsDecimal, decimal_bytes, billionths}
 use Rattle.strips_task.specs.declared.steps.StepText.{StepText}
 
 -- a token without its place

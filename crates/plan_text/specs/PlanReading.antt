@@ -10,7 +10,7 @@ use Rattle.strips_task.specs.declared.steps.StepText.{StepText}
 use Rattle.strips_task.specs.Steps.{step_of}
 use Rattle.plan_text.specs.declared.want.Want.{Want}
 use Rattle.plan_text.specs.declared.want.Want.TheVariants.{Step, Number, Opening, Action, Argument}
-use Rattle.plan_text.specs.DecimalReading.{number_before}
+use Rattle.plan_text.specs.MarkedNumbers.{number_before}
 use Rattle.plan_text.specs.PlanGrammar.{Symbol, left, right, word, symbol_of}
 
 -- what was read: what may come next, the least value of a next stamp in billionths, the finished steps, and the words of the open step

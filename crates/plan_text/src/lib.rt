@@ -17,7 +17,7 @@
 //! have to rise strictly as numbers, so `1:` and `1.0:` can't stand in one text; numbers in brackets are read and ignored. Lines and case
 //! say nothing, and there are at most 1,000,000 steps.
 //!
-//! [`read_plan`] takes a plan text token by token, each once. `want` holds what may come next, and `decimals` the numbers of stamps and
+//! [`read_plan`] takes a plan text token by token, each once. `want` holds what may come next, and `marked` the numbers of stamps and
 //! brackets. The words of a step go straight into the list of steps, in lower case; nothing is kept beside it, so a stamp or a number takes no
 //! memory. A text that is no plan text gives [`Plan::Unreadable`](strips_task::Plan) with the line of its first fault: a bad byte, or a
 //! token such that no plan text begins with the tokens up to and with it.
@@ -26,12 +26,11 @@
 //! is the one that the grammar gives it (`specs/PlanGrammar.antt`), and the fault is where that grammar is left (`specs/PlanFaults.antt`).
 #![tactic(auto)]
 
-mod decimals;
 pub mod laws;
+mod marked;
 mod parts;
 mod read;
 mod want;
 
-pub use decimals::digits;
 pub use parts::{Parts, count_parts};
 pub use read::read_plan;

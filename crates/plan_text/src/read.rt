@@ -5,7 +5,7 @@ ghost use Rattle.plan_text.specs.PlanGrammar.{left, right, word, symbol_of};
 ghost use Rattle.plan_text.specs.PlanReading.{plan_of, unreadable, at_end, begun, then_want, stamped, followed, named};
 ghost use Rattle.plan_text.specs.PlanSteps.{reading, IsReady, LeadsTo, ReadsOn};
 
-use crate::decimals::number_before;
+use crate::marked::number_before;
 use crate::want::{Expected, Want};
 use pddl_tokens::{Cursor, TextFault, TokenKind, WordKind, line_of, word_kind};
 use std::alloc::{AllocError, Global};

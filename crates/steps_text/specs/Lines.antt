@@ -4,7 +4,7 @@ use Rattle.std.specs.Prelude.{ℕ, Bool, true, ◌==◌, List, [], ◌∷◌, Op
 use Rattle.std.specs.Option.{option_and_then}
 use Rattle.std.specs.Str.{bytes_eq}
 use Rattle.steps_text.specs.Asked.{Asked, to_submit, to_close, to_take, to_hand_back, to_finish, to_emit}
-use Rattle.plan_text.specs.DecimalReading.{digits_of}
+use Rattle.pddl_words.specs.DecimalReading.{digits_of}
 use Rattle.plan_text.specs.PlanReading.{plan_of}
 use Rattle.steps_text.specs.Words.{without_crs, first_word, behind_word, is_bare}
 

@@ -6,7 +6,8 @@ ghost use Rattle.steps_text.specs.Meanings.{shown};
 
 use crate::words::{is_bare, split_word, without_crs};
 use intake_core::Step;
-use plan_text::{digits, read_plan};
+use pddl_words::digits;
+use plan_text::read_plan;
 use std::alloc::{AllocError, Global};
 use std::sync::Arc;
 

@@ -1,5 +1,5 @@
 use Rattle.std.proofs.Common.{arith, sym, ◌∙◌}
-use Rattle.pddl_tokens.proofs.Steps.{rest_whole}
+use Rattle.std.proofs.lemmas.List.{take_rest}
 use Rattle.plan_text.proofs.Bundles.{one_part_start, at_separator, behind_line, one_part}
 use Rattle.plan_text.proofs.parts.first_separator.Goals as goal
 
@@ -8,12 +8,12 @@ lines-init c = record { within = omega arith; one_part = one_part_start c.args.t
 
 pub returns-then-is_separator : goal.returns-then-is_separator
 returns-then-is_separator c =
-    at_separator _ _ _ _ (rest_whole c.args.text.now c.lines.start) c.lines-test.true c.lines.invariant.one_part c.line_len-size.ensures
+    at_separator _ _ _ _ (take_rest c.args.text.now c.lines.start) c.lines-test.true c.lines.invariant.one_part c.line_len-size.ensures
     (sym c.is_separator.ensures ∙ c.if-is_separator.true)
 
 pub lines-preserved : goal.lines-preserved
 lines-preserved c =
-    let behind = behind_line _ _ _ _ (rest_whole c.args.text.now c.lines.start) c.lines-test.true c.lines.invariant.one_part c.line_len-size.ensures (sym c.is_separator.ensures ∙ c.if-is_separator.false) in
+    let behind = behind_line _ _ _ _ (take_rest c.args.text.now c.lines.start) c.lines-test.true c.lines.invariant.one_part c.line_len-size.ensures (sym c.is_separator.ensures ∙ c.if-is_separator.false) in
     record { within = behind.0; one_part = behind.1 }
 
 pub returns : goal.returns

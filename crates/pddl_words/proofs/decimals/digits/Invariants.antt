@@ -1,8 +1,8 @@
 use Rattle.std.proofs.Common.{◌≡◌, ◌^◌, ◌<◌, true, take}
 use Rattle.std.specs.List.{list_all}
 use Rattle.std.specs.Char.{is_ascii_digit}
-use Rattle.plan_text.specs.Decimals.{digits_value}
-use Rattle.plan_text.proofs.decimals.digits.Given as goal
+use Rattle.pddl_words.specs.Decimals.{digits_value}
+use Rattle.pddl_words.proofs.decimals.digits.Given as goal
 
 -- what was read are digits, and their value
 abbrev pub invariant-loop-b : goal.invariant-loop-b

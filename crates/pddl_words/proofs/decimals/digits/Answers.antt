@@ -1,7 +1,7 @@
 use Rattle.std.proofs.Common.{◌<◌, arith, length, sym, ◌∙◌}
 use Rattle.std.proofs.lemmas.Bool.{eqb-true, eqb-false}
-use Rattle.plan_text.proofs.DigitRuns.{no_digit, too_many_digits, other_byte, walked}
-use Rattle.plan_text.proofs.decimals.digits.Goals as goal
+use Rattle.pddl_words.proofs.DigitRuns.{no_digit, too_many_digits, other_byte, walked}
+use Rattle.pddl_words.proofs.decimals.digits.Goals as goal
 
 pub returns-then-is_empty-clause-value : goal.returns-then-is_empty-clause-value
 returns-then-is_empty-clause-value c = no_digit c.args.bytes.now (eqb-true _ _ (sym c.is_empty.ensures ∙ c.if-is_empty.true))

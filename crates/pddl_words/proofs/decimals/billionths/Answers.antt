@@ -1,8 +1,8 @@
 use Rattle.std.proofs.Common.{◌+◌, arith, length, drop, Some, None, ◌∙◌}
-use Rattle.pddl_tokens.proofs.Steps.{rest_whole}
-use Rattle.plan_text.specs.DecimalReading.{digits_of}
-use Rattle.plan_text.proofs.DigitRuns.{billionths_at, no_whole, no_part, two_parts, one_part, sum_small}
-use Rattle.plan_text.proofs.decimals.billionths.Goals as goal
+use Rattle.std.proofs.lemmas.List.{take_rest}
+use Rattle.pddl_words.specs.DecimalReading.{digits_of}
+use Rattle.pddl_words.proofs.DigitRuns.{billionths_at, no_whole, no_part, two_parts, one_part, sum_small}
+use Rattle.pddl_words.proofs.decimals.billionths.Goals as goal
 
 pub returns-in_err-whole-in-Some-clause-value : goal.returns-in_err-whole-in-Some-clause-value
 returns-in_err-whole-in-Some-clause-value c =
@@ -13,7 +13,7 @@ returns-in_err-whole-in-Some-clause-value c =
 pub returns-in_err-part-in-Some-clause-value : goal.returns-in_err-part-in-Some-clause-value
 returns-in_err-part-in-Some-clause-value c =
     let rest = drop (c.in-Some.at + 1) c.args.number.now in
-    let none = rw (rest_whole c.args.number.now (c.in-Some.at + 1)) at c.in_err-part-in-Some.ensures.value in
+    let none = rw (take_rest c.args.number.now (c.in-Some.at + 1)) at c.in_err-part-in-Some.ensures.value in
     c.from_residual-in_err-part-in-Some.ensures ∙ no_part _ _ (length rest) none ∙ billionths_at c.args.number.now (Some c.in-Some.at) c.in-Some.ensures.value
 
 pub overflow_add-result : goal.overflow_add-result
@@ -31,7 +31,7 @@ returns-in_err-whole-in-None-clause-value c =
 
 pub returns-in_ok-part-in-Some-clause-value : goal.returns-in_ok-part-in-Some-clause-value
 returns-in_ok-part-in-Some-clause-value c =
-    let whole = rest_whole c.args.number.now (c.in-Some.at + 1) in
+    let whole = take_rest c.args.number.now (c.in-Some.at + 1) in
     let part = rw whole at c.in_ok-part-in-Some.ensures.value in
     let power = rw whole at c.pow.ensures in
     two_parts _ _ _ c.in_ok-whole-in-Some.whole c.in_ok-part-in-Some.part c.pow.result c.in_ok-whole-in-Some.ensures.value part power

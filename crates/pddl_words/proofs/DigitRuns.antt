@@ -1,16 +1,16 @@
 -- Digits as the reader of numbers meets them.
 
-use Rattle.std.proofs.Common.{◌≡◌, ℕ, suc, add-zero, ◌+◌, ◌-◌, ◌*◌, ◌^◌, ◌<◌, ◌≤◌, Bool, true, false, List, [], ◌∷◌, ◌++◌, length, take, get_or, Option, Some, None, refl, ap, ◌∙◌, sym, arith}
-use Rattle.std.specs.Prelude.{◌==◌, ◌&&◌, nat_le, cond, reverse}
+use Rattle.std.proofs.Common.{◌≡◌, ℕ, suc, add-zero, ◌+◌, ◌-◌, ◌*◌, ◌^◌, ◌<◌, ◌≤◌, Bool, true, false, List, length, take, get_or, Option, Some, None, refl, ap, ◌∙◌, sym, arith}
+use Rattle.std.specs.Prelude.{◌&&◌, nat_le, cond}
 use Rattle.std.specs.List.{list_all, position}
 use Rattle.std.proofs.Math.Nat.{mul-le-mul_right, one-le-pow, pow-le-pow_right}
 use Rattle.std.proofs.lemmas.Nat.{pow-add}
 use Rattle.std.specs.Char.{is_ascii_digit}
-use Rattle.std.proofs.lemmas.List.{take_all, reverse-append, reverse-reverse}
+use Rattle.std.proofs.lemmas.List.{take_all}
 use Rattle.std.proofs.lemmas.List.Folds.{list_all_at}
-use Rattle.std.proofs.lemmas.Bool.{eq-eqb, ne_eqb, le-leb, lt-leb, and_from, and_left, and_right}
-use Rattle.plan_text.specs.Decimals.{digits_value}
-use Rattle.plan_text.specs.DecimalReading.{digits_of, is_point, of_parts, billionths_by, billionths_of, number_from_end, number_before}
+use Rattle.std.proofs.lemmas.Bool.{le-leb, lt-leb, and_from, and_left, and_right}
+use Rattle.pddl_words.specs.Decimals.{digits_value}
+use Rattle.pddl_words.specs.DecimalReading.{digits_of, is_point, of_parts, billionths_by, billionths_of}
 
 by_test : (bytes : List ℕ) (t : Bool) → (nat_le 1 (length bytes) && (nat_le (length bytes) 9 && list_all is_ascii_digit bytes)) ≡ t → cond t (Some (digits_value bytes)) None ≡ digits_of bytes
 unfolding digits_of
@@ -75,25 +75,3 @@ pub sum_small : (w p size size' power : ℕ) → w < 10 ^ size' → size' ≤ 9 
 sum_small w p size size' power whole few part few' powers =
     let behind : p * power < 10 ^ 9 = rw powers (part_small p size part few') in
     omega (arith, whole_small w size' whole few, behind)
-
--- the number before the last byte
-before_last : (mark : ℕ) (word number : List ℕ) (last : ℕ) → word ≡ number ++ last ∷ [] → cond (last == mark) (billionths_of number) None ≡ number_before mark word
-unfolding number_before
-before_last mark word number last is =
-    sym (
-    ap (λ (w : List ℕ). number_from_end mark (reverse w)) is ∙ ap (number_from_end mark) (reverse-append number (last ∷ []))
-    ∙ ap (λ (n : List ℕ). cond (last == mark) (billionths_of n) None) (reverse-reverse number)
-    )
-
-pub no_last : (mark : ℕ) (word : List ℕ) → length word ≡ 0 → None ≡ number_before mark word
-unfolding number_before
-no_last mark [] none = refl
-no_last mark (b ∷ word) none = absurd (omega arith)
-
-pub ends_with_mark : (mark : ℕ) (word number : List ℕ) (last : ℕ) → word ≡ number ++ last ∷ [] → last ≡ mark → billionths_of number ≡ number_before mark word
-ends_with_mark mark word number last is same =
-    sym (ap (λ (t : Bool). cond t (billionths_of number) None) (eq-eqb last mark same)) ∙ before_last mark word number last is
-
-pub ends_otherwise : (mark : ℕ) (word number : List ℕ) (last : ℕ) → word ≡ number ++ last ∷ [] → (last ≡ mark → ⊥) → None ≡ number_before mark word
-ends_otherwise mark word number last is other =
-    sym (ap (λ (t : Bool). cond t (billionths_of number) None) (ne_eqb last mark other)) ∙ before_last mark word number last is

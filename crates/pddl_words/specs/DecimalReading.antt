@@ -1,9 +1,9 @@
--- How the number of a stamp or of brackets is read.
+-- How a number is read.
 
-use Rattle.std.specs.Prelude.{ℕ, ◌+◌, ◌-◌, ◌*◌, ◌^◌, Bool, ◌==◌, ◌&&◌, nat_le, List, [], ◌∷◌, length, take, drop, reverse, Option, Some, None, if◌then◌else◌}
+use Rattle.std.specs.Prelude.{ℕ, ◌+◌, ◌-◌, ◌*◌, ◌^◌, Bool, ◌==◌, ◌&&◌, nat_le, List, length, take, drop, Option, Some, None, if◌then◌else◌}
 use Rattle.std.specs.List.{list_all, position}
 use Rattle.std.specs.Char.{is_ascii_digit}
-use Rattle.plan_text.specs.Decimals.{digits_value}
+use Rattle.pddl_words.specs.Decimals.{digits_value}
 
 -- the number that 1 to 9 digits write
 unfoldable pub digits_of : List ℕ → Option ℕ
@@ -26,12 +26,3 @@ billionths_by bytes (Some point) = of_parts (digits_of (take point bytes)) (digi
 -- the number of some bytes, in billionths
 unfoldable pub billionths_of : List ℕ → Option ℕ
 billionths_of bytes = billionths_by bytes (position is_point bytes)
-
--- the number before a mark, by the bytes from the last on
-abbrev pub number_from_end : ℕ → List ℕ → Option ℕ
-number_from_end mark [] = None
-number_from_end mark (last ∷ bytes) = if last == mark then billionths_of (reverse bytes) else None
-
--- the number before a mark that ends a word
-unfoldable pub number_before : ℕ → List ℕ → Option ℕ
-number_before mark word = number_from_end mark (reverse word)

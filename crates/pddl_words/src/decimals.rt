@@ -1,7 +1,7 @@
-//! Numbers as stamps and brackets hold them: digits, and perhaps a point with digits behind it.
+//! Numbers as plans and domains write them: digits, and perhaps a point with digits behind it.
 
 ghost use Rattle.std.specs.Prelude.{◌≡◌, ◌<◌, ◌≤◌, ◌^◌, length, IfSome};
-ghost use Rattle.plan_text.specs.DecimalReading.{digits_of, is_point, billionths_of, number_before};
+ghost use Rattle.pddl_words.specs.DecimalReading.{digits_of, is_point, billionths_of};
 ghost use Rattle.std.specs.List.{position};
 
 /// How many digits may stand on either side of the point.
@@ -10,19 +10,9 @@ const MOST_DIGITS: usize = 9;
 /// How many billionths are one.
 const BILLION: u64 = 1_000_000_000;
 
-/// The number before a mark that ends a word, in billionths; `None` where the word is none of this form.
-pub(crate) fn number_before(mark: u8, word: &[u8]) -> Option<u64>
-    ensures value { result ≡ number_before mark word.now }
-    ensures small { IfSome result (λ value. value < 10 ^ 18) }
-{
-    match word.split_last() {
-        Some((last, number)) if *last == mark => billionths(number),
-        _ => None,
-    }
-}
-
-/// The number that the bytes are, in billionths.
-fn billionths(number: &[u8]) -> Option<u64>
+/// The number that the bytes write, in billionths: 1 to 9 digits, and perhaps a point with 1 to 9 digits behind it. `None` for any other bytes.
+/// Takes no memory.
+pub fn billionths(number: &[u8]) -> Option<u64>
     ensures value { result ≡ billionths_of number.now }
     ensures small { IfSome result (λ value. value < 10 ^ 18) }
 {

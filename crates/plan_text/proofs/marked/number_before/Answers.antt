@@ -1,6 +1,6 @@
 use Rattle.std.proofs.Common.{◌∙◌}
-use Rattle.plan_text.proofs.DigitRuns.{ends_with_mark, ends_otherwise, no_last}
-use Rattle.plan_text.proofs.decimals.number_before.Goals as goal
+use Rattle.plan_text.proofs.MarkedNumbers.{ends_with_mark, ends_otherwise, no_last}
+use Rattle.plan_text.proofs.marked.number_before.Goals as goal
 
 pub returns-in-Some-clause-value : goal.returns-in-Some-clause-value
 returns-in-Some-clause-value c = c.billionths.ensures.value ∙ ends_with_mark _ _ _ _ c.in-Some.ensures.cases.0 c.if-last-mark.true

@@ -1,4 +1,4 @@
--- Numbers as plan texts write them, in stamps before steps and in brackets behind them (this validator's choice of the usual format of planners).
+-- Numbers as plans and domains write them: digits, and perhaps a point with digits behind it (this validator's choice of the usual format of planners).
 
 use Rattle.std.specs.Prelude.{ℕ, ◌+◌, ◌-◌, ◌*◌, ◌^◌, ◌<◌, ◌≤◌, List, [], ◌∷◌, ◌++◌, length, fold, All, IsTrue}
 use Rattle.std.specs.Char.{is_ascii_digit}
