@@ -5,6 +5,8 @@ use Rattle.std.specs.List.{flat_map, filter_map, enumerate_from}
 use Rattle.std.specs.Option.{option_map}
 use Rattle.std.specs.Map.{keys_of}
 use Rattle.strips_task.specs.declared.atoms.Atom.{Atom}
+use Rattle.strips_task.specs.declared.atoms.GroundFormula.{GroundFormula}
+use Rattle.strips_task.specs.declared.atoms.GroundFormula.TheVariants as asked
 use Rattle.strips_task.specs.declared.atoms.GroundCond.{GroundCond}
 use Rattle.strips_task.specs.declared.plans.Plan.{Plan}
 use Rattle.strips_task.specs.declared.plans.Plan.TheVariants.{Steps, Unreadable}
@@ -28,9 +30,16 @@ abbrev pub atom_text : TaskParts → Atom → List ℕ
 atom_text task atom =
     codes "(" ++ name_at (keys_of task.preds) atom.pred ++ spaced (map (name_at (keys_of task.objects)) atom.args) ++ codes ")"
 
--- a condition: its atom, or `(not (p a b))`
+-- a formula: an atom, or an equality as `(= a b)`
+abbrev pub formula_text : TaskParts → GroundFormula → List ℕ
+formula_text task (asked.Atom atom) = atom_text task atom
+formula_text task (asked.Equal left right) =
+    codes "(= " ++ name_at (keys_of task.objects) left ++ codes " " ++ name_at (keys_of task.objects) right ++ codes ")"
+
+-- a condition: its formula, or `(not (p a b))`
 abbrev pub condition_text : TaskParts → GroundCond → List ℕ
-condition_text task cond = if cond.positive then atom_text task cond.atom else codes "(not " ++ atom_text task cond.atom ++ codes ")"
+condition_text task cond =
+    if cond.positive then formula_text task cond.formula else codes "(not " ++ formula_text task cond.formula ++ codes ")"
 
 -- conditions, each behind a space
 abbrev pub conditions_text : TaskParts → List GroundCond → List ℕ

@@ -3,13 +3,13 @@
 //! Each function adds its piece behind the text that is there. Names come from the task, by number.
 ghost use Rattle.std.specs.Prelude.{◌≡◌, ◌++◌, ◌∷◌, ℕ, List, ◌-◌, OnOk, map, slice_get};
 ghost use Rattle.std.specs.Map.{keys_of};
-ghost use Rattle.judge_engine.specs.Report.{name_at, spaced, atom_text, condition_text, conditions_text, step_text, why_text, failure_text, verdict_text};
+ghost use Rattle.judge_engine.specs.Report.{name_at, spaced, atom_text, formula_text, condition_text, conditions_text, step_text, why_text, failure_text, verdict_text};
 ghost use Rattle.strips_task.specs.StepView.{step_shown};
 
 use crate::text::Text;
 use std::alloc::AllocError;
 use strips_judge::{Verdict, Why};
-use strips_task::{Atom, GroundCond, Plan, StepList, StepView, Task};
+use strips_task::{Atom, GroundCond, GroundFormula, Plan, StepList, StepView, Task};
 
 /// Adds the name of the object with a number; a number that no object has adds nothing.
 fn push_object(text: &mut Text, task: &Task, number: u16) -> Result<(), AllocError>
@@ -52,15 +52,31 @@ fn push_atom(text: &mut Text, task: &Task, atom: &Atom) -> Result<(), AllocError
     text.push(b")")
 }
 
+/// Adds a formula: an atom, or an equality as `(= a b)`.
+fn push_formula(text: &mut Text, task: &Task, formula: &GroundFormula) -> Result<(), AllocError>
+    ensures { OnOk result (text.new ≡ text.old ++ formula_text task.now formula.now) }
+{
+    match formula {
+        GroundFormula::Atom(atom) => push_atom(text, task, atom),
+        GroundFormula::Equal(left, right) => {
+            text.push(b"(= ")?;
+            push_object(text, task, *left)?;
+            text.push(b" ")?;
+            push_object(text, task, *right)?;
+            text.push(b")")
+        }
+    }
+}
+
 /// Adds a condition.
 fn push_condition(text: &mut Text, task: &Task, cond: &GroundCond) -> Result<(), AllocError>
     ensures { OnOk result (text.new ≡ text.old ++ condition_text task.now cond.now) }
 {
     if cond.positive {
-        return push_atom(text, task, &cond.atom);
+        return push_formula(text, task, &cond.formula);
     }
     text.push(b"(not ")?;
-    push_atom(text, task, &cond.atom)?;
+    push_formula(text, task, &cond.formula)?;
     text.push(b")")
 }
 

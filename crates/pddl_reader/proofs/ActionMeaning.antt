@@ -1,6 +1,6 @@
 -- What actions stand for, one equation for each case.
 
-use Rattle.std.proofs.Common.{◌≡◌, ℕ, ◌++◌, true, false, List, [], ◌∷◌, Option, Some, None, unwrap_or, refl, append_assoc}
+use Rattle.std.proofs.Common.{◌≡◌, ℕ, ◌++◌, Bool, true, false, List, [], ◌∷◌, Option, Some, None, unwrap_or, refl, append_assoc}
 use Rattle.std.proofs.lemmas.List.{append-nil}
 use Rattle.pddl_words.specs.Words.{folded}
 use Rattle.strips_task.specs.declared.actions.Action.{Action}
@@ -10,7 +10,7 @@ use Rattle.pddl_reader.specs.declared.resolution.actions.Effects.{Effects}
 use Rattle.pddl_syntax.specs.declared.syntax.ActionSyntax.{ActionSyntax}
 use Rattle.pddl_syntax.specs.Optional.{guard, through}
 use Rattle.pddl_syntax.specs.Forms.{parts_form, action_syntax_form, action_forms}
-use Rattle.pddl_reader.specs.Declarations.{Known, may_declare, declared, condition_of, conditions_of}
+use Rattle.pddl_reader.specs.Declarations.{Known, may_declare, declared, is_positive, changed_pattern, conditions_of}
 use Rattle.pddl_reader.specs.Variables.{Parameters, parameters_of}
 use Rattle.pddl_reader.specs.Domain.{no_effects, lone_effect, both_effects, effects_before, effects_of, action_with, action_by, action_meant, Actions, declared_action, with_action_of, actions_from}
 use Rattle.pddl_syntax.specs.Syntax.{ActionForm, LiteralForm, action_form}
@@ -18,15 +18,15 @@ use Rattle.pddl_reader.proofs.DeclarationSteps.{may_declare_new}
 use Rattle.pddl_reader.proofs.KeptVariables.{few_parameters}
 use Rattle.pddl_reader.proofs.Through.{through_behind, through_item, through_end}
 
-pub effect_added : (effects : Effects) (effect : Cond) (add : List Pattern) → effect.positive ≡ true → add ≡ effects.add ++ effect.pattern ∷ [] →
-    record { add = add; del = effects.del } ≡ both_effects effects (lone_effect effect)
+pub effect_added : (effects : Effects) (positive : Bool) (pattern : Pattern) (add : List Pattern) → positive ≡ true → add ≡ effects.add ++ pattern ∷ [] →
+    record { add = add; del = effects.del } ≡ both_effects effects (lone_effect positive pattern)
 unfolding both_effects lone_effect
-effect_added effects effect add h e = rw (h, e, append-nil effects.del) refl
+effect_added effects positive pattern add h e = rw (h, e, append-nil effects.del) refl
 
-pub effect_deleted : (effects : Effects) (effect : Cond) (del : List Pattern) → effect.positive ≡ false → del ≡ effects.del ++ effect.pattern ∷ [] →
-    record { add = effects.add; del = del } ≡ both_effects effects (lone_effect effect)
+pub effect_deleted : (effects : Effects) (positive : Bool) (pattern : Pattern) (del : List Pattern) → positive ≡ false → del ≡ effects.del ++ pattern ∷ [] →
+    record { add = effects.add; del = del } ≡ both_effects effects (lone_effect positive pattern)
 unfolding both_effects lone_effect
-effect_deleted effects effect del h e = rw (h, e, append-nil effects.add) refl
+effect_deleted effects positive pattern del h e = rw (h, e, append-nil effects.add) refl
 
 -- effects behind those kept so far
 unfoldable pub effects_onto : Effects → Option Effects → Option Effects
@@ -50,34 +50,34 @@ pub onto_no_effects : (add del : List Pattern) (effects : Option Effects) → ad
 onto_no_effects add del effects h e = rw (h, e) (onto_nothing effects)
 
 -- the effects behind one more
-unfoldable pub effects_after : Effects → Option Cond → Option Effects → Option Effects
-effects_after front None others = None
-effects_after front (Some effect) others = effects_onto (both_effects front (lone_effect effect)) others
+unfoldable pub effects_after : Effects → Bool → Option Pattern → Option Effects → Option Effects
+effects_after front positive None others = None
+effects_after front positive (Some pattern) others = effects_onto (both_effects front (lone_effect positive pattern)) others
 
-onto_before : (front : Effects) (effect : Option Cond) (others : Option Effects) →
-    effects_onto front (effects_before effect others) ≡ effects_after front effect others
+onto_before : (front : Effects) (positive : Bool) (pattern : Option Pattern) (others : Option Effects) →
+    effects_onto front (effects_before positive pattern others) ≡ effects_after front positive pattern others
 unfolding effects_onto effects_before effects_after
-onto_before front None others = refl
-onto_before front (Some effect) None = refl
-onto_before front (Some effect) (Some others) = rw both_both refl
+onto_before front positive None others = refl
+onto_before front positive (Some pattern) None = refl
+onto_before front positive (Some pattern) (Some others) = rw both_both refl
 
 pub effects_item : (front : Effects) (known : Known) (p : Parameters) (l : LiteralForm) (ls : List LiteralForm) →
-    effects_onto front (effects_of known p (l ∷ ls)) ≡ effects_after front (condition_of known p l) (effects_of known p ls)
+    effects_onto front (effects_of known p (l ∷ ls)) ≡ effects_after front (is_positive l) (changed_pattern known p l) (effects_of known p ls)
 unfolding effects_of
-effects_item front known p l ls = onto_before front (condition_of known p l) (effects_of known p ls)
+effects_item front known p l ls = onto_before front (is_positive l) (changed_pattern known p l) (effects_of known p ls)
 
 pub effects_end : (front : Effects) (known : Known) (p : Parameters) → effects_onto front (effects_of known p []) ≡ Some front
 unfolding effects_of effects_onto
 effects_end front known p = rw both_none refl
 
-pub after_none : (front : Effects) (others : Option Effects) → effects_after front None others ≡ None
+pub after_none : (front : Effects) (positive : Bool) (others : Option Effects) → effects_after front positive None others ≡ None
 unfolding effects_after
-after_none front others = refl
+after_none front positive others = refl
 
-pub after_some : (front : Effects) (effect : Cond) (others : Option Effects) →
-    effects_after front (Some effect) others ≡ effects_onto (both_effects front (lone_effect effect)) others
+pub after_some : (front : Effects) (positive : Bool) (pattern : Pattern) (others : Option Effects) →
+    effects_after front positive (Some pattern) others ≡ effects_onto (both_effects front (lone_effect positive pattern)) others
 unfolding effects_after
-after_some front effect others = refl
+after_some front positive pattern others = refl
 
 pub ruleset effects_steps = (onto_no_effects, effects_item, effects_end, after_none, after_some)
 

@@ -1,32 +1,81 @@
 -- The declarations of a domain, one equation for each case.
 
-use Rattle.std.proofs.Common.{◌≡◌, ℕ, ◌<◌, ◌≤◌, ◌++◌, true, false, ◌&&◌, nat_lt, is_none, List, [], ◌∷◌, length, Option, Some, None, refl, arith, length-append}
+use Rattle.std.proofs.Common.{◌≡◌, ℕ, ◌<◌, ◌≤◌, ◌++◌, Bool, true, false, ◌&&◌, nat_lt, is_none, List, [], ◌∷◌, length, Option, Some, None, refl, arith, length-append}
 use Rattle.std.proofs.lemmas.List.{append-nil}
 use Rattle.std.proofs.lemmas.Bool.{ltb-true, and_parts}
 use Rattle.pddl_words.specs.Words.{folded}
 use Rattle.strips_task.specs.declared.actions.Cond.{Cond}
+use Rattle.strips_task.specs.declared.actions.Formula.TheVariants as asked
 use Rattle.strips_task.specs.declared.actions.Pattern.{Pattern}
+use Rattle.strips_task.specs.declared.actions.Term.{Term}
 use Rattle.strips_task.specs.Names.{number_named}
 use Rattle.pddl_syntax.specs.declared.syntax.PredicateSyntax.{PredicateSyntax}
 use Rattle.pddl_syntax.specs.Optional.{guard, through, with_front}
 use Rattle.pddl_syntax.specs.Forms.{predicate_form, predicate_forms}
-use Rattle.pddl_reader.specs.Declarations.{Known, Predicates, may_declare, declared, pattern_of, condition_of, conditions_of}
+use Rattle.pddl_reader.specs.Declarations.{Known, Predicates, may_declare, declared, pattern_of, term_named, equality_by, condition_of, conditions_of, changed_pattern}
 use Rattle.pddl_reader.specs.Domain.{declared_predicate, with_predicate, predicates_from}
 use Rattle.pddl_reader.specs.Variables.{Parameters, places_of}
 use Rattle.pddl_reader.proofs.Through.{through_behind, through_item, through_end}
-use Rattle.pddl_syntax.specs.Syntax.{LiteralForm, PredicateForm}
+use Rattle.pddl_syntax.specs.Syntax.{AtomForm, EqualityForm, AmountForm, ValueForm, LiteralForm, atom_literal, equality_literal, increase_literal, value_literal, PredicateForm}
 use Rattle.pddl_syntax.proofs.ListsOf.{with_front-followed_by, with_item, item_none, item_some, front_none}
 
-pub condition_none : (known : Known) (p : Parameters) (l : LiteralForm) → pattern_of known p l.atom ≡ None → condition_of known p l ≡ None
-unfolding condition_of
-condition_none known p l h = rw h refl
+pub without_left : (positive : Bool) (left right : Option Term) → left ≡ None → equality_by positive left right ≡ None
+unfolding equality_by
+without_left positive left right h = rw h refl
 
-pub condition_some : (known : Known) (p : Parameters) (l : LiteralForm) (pattern : Pattern) → pattern_of known p l.atom ≡ Some pattern →
-    condition_of known p l ≡ Some (record { positive = l.positive; pattern = pattern })
-unfolding condition_of
-condition_some known p l pattern h = rw h refl
+pub without_right : (positive : Bool) (left right : Option Term) (l : Term) → left ≡ Some l → right ≡ None → equality_by positive left right ≡ None
+unfolding equality_by
+without_right positive left right l h e = rw (h, e) refl
 
-pub ruleset condition_steps = (condition_none, condition_some)
+pub with_both : (positive : Bool) (left right : Option Term) (l r : Term) → left ≡ Some l → right ≡ Some r →
+    equality_by positive left right ≡ Some (record { positive = positive; formula = asked.Equal l r })
+unfolding equality_by
+with_both positive left right l r h e = rw (h, e) refl
+
+pub ruleset equality_steps = (without_left, without_right, with_both)
+
+pub condition_none : (known : Known) (p : Parameters) (positive : Bool) (atom : AtomForm) → pattern_of known p atom ≡ None →
+    condition_of known p (atom_literal positive atom) ≡ None
+unfolding condition_of
+condition_none known p positive atom h = rw h refl
+
+pub condition_some : (known : Known) (p : Parameters) (positive : Bool) (atom : AtomForm) (pattern : Pattern) → pattern_of known p atom ≡ Some pattern →
+    condition_of known p (atom_literal positive atom) ≡ Some (record { positive = positive; formula = asked.Atom pattern })
+unfolding condition_of
+condition_some known p positive atom pattern h = rw h refl
+
+pub equality_condition : (known : Known) (p : Parameters) (positive : Bool) (sides : EqualityForm) →
+    condition_of known p (equality_literal positive sides) ≡ equality_by positive (term_named known p sides.left) (term_named known p sides.right)
+unfolding condition_of
+equality_condition known p positive sides = refl
+
+pub increase_no_condition : (known : Known) (p : Parameters) (amount : AmountForm) → condition_of known p (increase_literal amount) ≡ None
+unfolding condition_of
+increase_no_condition known p amount = refl
+
+pub value_no_condition : (known : Known) (p : Parameters) (value : ValueForm) → condition_of known p (value_literal value) ≡ None
+unfolding condition_of
+value_no_condition known p value = refl
+
+pub ruleset condition_steps = (condition_none, condition_some, equality_condition, increase_no_condition, value_no_condition)
+
+pub changed_by_atom : (known : Known) (p : Parameters) (positive : Bool) (atom : AtomForm) → changed_pattern known p (atom_literal positive atom) ≡ pattern_of known p atom
+unfolding changed_pattern
+changed_by_atom known p positive atom = refl
+
+pub changed_by_equality : (known : Known) (p : Parameters) (positive : Bool) (sides : EqualityForm) → changed_pattern known p (equality_literal positive sides) ≡ None
+unfolding changed_pattern
+changed_by_equality known p positive sides = refl
+
+pub changed_by_increase : (known : Known) (p : Parameters) (amount : AmountForm) → changed_pattern known p (increase_literal amount) ≡ None
+unfolding changed_pattern
+changed_by_increase known p amount = refl
+
+pub changed_by_value : (known : Known) (p : Parameters) (value : ValueForm) → changed_pattern known p (value_literal value) ≡ None
+unfolding changed_pattern
+changed_by_value known p value = refl
+
+pub ruleset changed_steps = (changed_by_atom, changed_by_equality, changed_by_increase, changed_by_value)
 
 pub conditions_item : (front : List Cond) (known : Known) (p : Parameters) (l : LiteralForm) (ls : List LiteralForm) →
     with_front front (conditions_of known p (l ∷ ls)) ≡ with_item front (condition_of known p l) (conditions_of known p ls)

@@ -24,7 +24,7 @@ use Rattle.pddl_reader.proofs.TypeSteps.{AreFew, declared-few}
 use Rattle.pddl_reader.proofs.TypeTests.{tree_from}
 
 -- a place that is found is one of the list
-position-within : {A : Type 0} (test : A → Bool) (xs : List A) (i n : ℕ) → position_from test i xs ≡ Some n → n < i + length xs
+pub position-within : {A : Type 0} (test : A → Bool) (xs : List A) (i n : ℕ) → position_from test i xs ≡ Some n → n < i + length xs
 position-within test [] i n h = cc
 position-within {A} test (x ∷ xs) i n h = by (test x) (λ k. position-within test xs (i + 1) n k) h
   where

@@ -159,15 +159,26 @@ named_kept parents types is p group more kept h =
     named_kept_by parents p group.variables more (through parameter_named p.names group.variables) (alternatives_of types group.types)
     (λ ns e. parameters_counted p.names group.variables ns kept.few e) (λ ts e. alternatives_kept parents types group.types ts is e) kept h
 
+all_kept : (parents : List ℕ) (types : List (List ℕ)) (groups : List VariableGroup) (p : Parameters) → length types ≡ length parents →
+    parameters_of types groups ≡ Some p → AreParameters parents p
+unfolding parameters_of
+all_kept parents types groups p is h =
+    through_keeps (AreParameters parents) (group_named types) (named_kept parents types is) no_parameters groups p
+    (record { few = omega arith; paired = refl; typed = refl }) h
+
 -- the parameters of an action are such as a task may have
 pub parameters_kept : (parents : List ℕ) (types : List (List ℕ)) (groups : List VariableGroup) (p : Parameters) → length types ≡ length parents →
     parameters_of types groups ≡ Some p → are_variables parents p.types ≡ true
-unfolding parameters_of are_variables
+unfolding are_variables
 parameters_kept parents types groups p is h =
-    let kept = through_keeps (AreParameters parents) (group_named types) (named_kept parents types is) no_parameters groups p
-    (record { few = omega arith; paired = refl; typed = refl }) h in
+    let kept = all_kept parents types groups p is h in
     let few : length p.types ≤ 32 = rw kept.paired kept.few in
     rw (le-leb (length p.types) 32 few, kept.typed) refl
+
+-- each parameter has types
+pub parameters_paired : (parents : List ℕ) (types : List (List ℕ)) (groups : List VariableGroup) (p : Parameters) → length types ≡ length parents →
+    parameters_of types groups ≡ Some p → length p.types ≡ length p.names
+parameters_paired parents types groups p is h = (all_kept parents types groups p is h).paired
 
 words_counted : (ws : List Word) → length (word_forms ws) ≡ length ws
 unfolding word_forms

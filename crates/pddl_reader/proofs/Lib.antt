@@ -14,6 +14,7 @@ pub mod TermSteps
 pub mod AtomSteps
 pub mod KeptVariables
 pub mod FittingAtoms
+pub mod KnownTerms
 pub mod DeclarationSteps
 pub mod ActionMeaning
 pub mod WellFormedDomains

@@ -1,7 +1,7 @@
 -- What fits in a task fits beside more objects, too.
 
-use Rattle.std.proofs.Common.{◌≡◌, ℕ, ◌&&◌, Bool, true, nat_eq, List, [], ◌∷◌, length, map, Option, Some, None, refl, sym, ◌∙◌}
-use Rattle.std.proofs.lemmas.Bool.{and_parts}
+use Rattle.std.proofs.Common.{◌≡◌, ℕ, ◌+◌, ◌<◌, ◌&&◌, Bool, true, nat_eq, List, [], ◌∷◌, length, map, Option, Some, None, refl, ap, sym, ◌∙◌, arith, length-append}
+use Rattle.std.proofs.lemmas.Bool.{and_parts, ltb-true, lt-ltb}
 use Rattle.std.proofs.lemmas.List.{length-map, map-append}
 use Rattle.std.proofs.lemmas.Option.{slice_get_within}
 use Rattle.std.specs.List.{list_all, slice_get, zip}
@@ -10,9 +10,11 @@ use Rattle.std.specs.Option.{option_map}
 use Rattle.strips_task.specs.declared.actions.Term.{Term}
 use Rattle.strips_task.specs.declared.actions.Term.TheVariants.{Param, Object}
 use Rattle.strips_task.specs.declared.actions.Action.{Action}
+use Rattle.strips_task.specs.declared.actions.Formula.{Formula}
+use Rattle.strips_task.specs.declared.actions.Formula.TheVariants as asked
 use Rattle.strips_task.specs.declared.actions.Pattern.{Pattern}
 use Rattle.strips_task.specs.declared.tasks.TaskParts.{TaskParts}
-use Rattle.strips_task.specs.WellFormed.{are_variables, term_types, is_fitting, are_fitting, is_pattern, is_action}
+use Rattle.strips_task.specs.WellFormed.{are_variables, term_types, is_fitting, are_fitting, is_pattern, is_object, is_known, is_formula, is_action}
 use Rattle.strips_task.proofs.Numbered.{slice_get-more}
 use Rattle.pddl_reader.specs.Domain.{DomainValue, bare_task}
 use Rattle.pddl_reader.specs.Domains.{IsDomain}
@@ -77,6 +79,23 @@ pattern_stays task objects front params p h =
     are_fitting-weaker task.parents (term_types task params) (term_types (over task objects) params) (types_stay task objects front params) p.terms
     (slice_get (values_of task.preds) p.pred) h
 
+known_stays : (task : TaskParts) (objects : Objects) → IsFront task.objects objects → (params : List (List ℕ)) (t : Term) →
+    is_known task params t ≡ true → is_known (over task objects) params t ≡ true
+unfolding is_known is_object
+known_stays task objects front params (Param place) h = h
+known_stays task objects front params (Object n) h =
+    let within : n < length task.objects = ltb-true n (length task.objects) h in
+    let more : length objects ≡ length task.objects + length front.0 = ap length front.1 ∙ length-append task.objects front.0 in
+    lt-ltb n (length objects) (omega arith)
+
+formula_stays : (task : TaskParts) (objects : Objects) → IsFront task.objects objects → (params : List (List ℕ)) (f : Formula) →
+    is_formula task params f ≡ true → is_formula (over task objects) params f ≡ true
+unfolding is_formula
+formula_stays task objects front params (asked.Atom p) h = pattern_stays task objects front params p h
+formula_stays task objects front params (asked.Equal left right) h =
+    let sides = and_parts (is_known task params left) (is_known task params right) h in
+    rw (known_stays task objects front params left sides.0) (known_stays task objects front params right sides.1)
+
 pub four_parts : (a b c d : Bool) → (a && (b && (c && d))) ≡ true → (a ≡ true) × (b ≡ true) × (c ≡ true) × (d ≡ true)
 four_parts a b c d h =
     let one = and_parts a (b && (c && d)) h in
@@ -88,11 +107,11 @@ pub action_stays : (task : TaskParts) (objects : Objects) → IsFront task.objec
 unfolding is_action
 action_stays task objects front a h =
     let params = a.params in
-    let parts = four_parts (are_variables task.parents params) (list_all (λ cond. is_pattern task params cond.pattern) a.pre)
+    let parts = four_parts (are_variables task.parents params) (list_all (λ cond. is_formula task params cond.formula) a.pre)
     (list_all (is_pattern task params) a.add) (list_all (is_pattern task params) a.del) h in
-    let pre : list_all (λ cond. is_pattern (over task objects) params cond.pattern) a.pre ≡ true =
-    list_all-weaker (λ cond. is_pattern task params cond.pattern) (λ cond. is_pattern (over task objects) params cond.pattern)
-    (λ cond. pattern_stays task objects front params cond.pattern) a.pre parts.1 in
+    let pre : list_all (λ cond. is_formula (over task objects) params cond.formula) a.pre ≡ true =
+    list_all-weaker (λ cond. is_formula task params cond.formula) (λ cond. is_formula (over task objects) params cond.formula)
+    (λ cond. formula_stays task objects front params cond.formula) a.pre parts.1 in
     let add : list_all (is_pattern (over task objects) params) a.add ≡ true =
     list_all-weaker (is_pattern task params) (is_pattern (over task objects) params) (pattern_stays task objects front params) a.add parts.2 in
     let del : list_all (is_pattern (over task objects) params) a.del ≡ true =

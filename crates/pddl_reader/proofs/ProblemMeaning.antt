@@ -1,31 +1,79 @@
 -- What the syntax of a problem stands for, one equation for each case.
 
-use Rattle.std.proofs.Common.{◌≡◌, ◌++◌, Bool, true, false, List, [], ◌∷◌, Option, Some, None, unwrap_or, refl, append_assoc, if◌then◌else◌}
+use Rattle.std.proofs.Common.{◌≡◌, ℕ, ◌++◌, Bool, true, false, List, [], ◌∷◌, Option, Some, None, unwrap_or, refl, append_assoc, if◌then◌else◌}
 use Rattle.std.proofs.lemmas.List.{append-nil}
 use Rattle.std.specs.Global.{Vec}
 use Rattle.strips_task.specs.declared.atoms.Atom.{Atom}
 use Rattle.strips_task.specs.declared.atoms.GroundCond.{GroundCond}
+use Rattle.strips_task.specs.declared.atoms.GroundFormula.TheVariants as asked
 use Rattle.pddl_syntax.specs.declared.syntax.ProblemSyntax.{ProblemSyntax}
 use Rattle.pddl_syntax.specs.Optional.{followed_by, with_front}
 use Rattle.pddl_syntax.specs.Forms.{name_groups, problem_syntax_form}
 use Rattle.pddl_reader.specs.Parts.{part_items}
 use Rattle.pddl_syntax.specs.declared.syntax.NameGroup as groups
-use Rattle.pddl_reader.specs.Declarations.{Known, ground_of}
+use Rattle.pddl_reader.specs.Declarations.{Known, ground_of, is_positive, object_number}
 use Rattle.pddl_reader.specs.Domain.{DomainValue}
-use Rattle.pddl_reader.specs.Problem.{known_in, ground_condition_of, ground_conditions_of, initial_before, initial_of, task_value, task_with, domain_extended, problem_within, problem_of}
-use Rattle.pddl_syntax.specs.Syntax.{LiteralForm}
+use Rattle.pddl_reader.specs.Problem.{known_in, ground_equality_by, ground_condition_of, ground_conditions_of, initial_before, initial_atom, initial_of, task_value, task_with, domain_extended, problem_within, problem_of}
+use Rattle.pddl_syntax.specs.Syntax.{AtomForm, EqualityForm, AmountForm, ValueForm, LiteralForm, atom_literal, equality_literal, increase_literal, value_literal}
 use Rattle.pddl_syntax.proofs.ListsOf.{with_item, item_none, item_some, front_none, with_front-followed_by}
 
-pub condition_none : (known : Known) (l : LiteralForm) → ground_of known l.atom ≡ None → ground_condition_of known l ≡ None
-unfolding ground_condition_of
-condition_none known l h = rw h refl
+pub without_left : (positive : Bool) (left right : Option ℕ) → left ≡ None → ground_equality_by positive left right ≡ None
+unfolding ground_equality_by
+without_left positive left right h = rw h refl
 
-pub condition_some : (known : Known) (l : LiteralForm) (atom : Atom) → ground_of known l.atom ≡ Some atom →
-    ground_condition_of known l ≡ Some (record { positive = l.positive; atom = atom })
-unfolding ground_condition_of
-condition_some known l atom h = rw h refl
+pub without_right : (positive : Bool) (left right : Option ℕ) (l : ℕ) → left ≡ Some l → right ≡ None → ground_equality_by positive left right ≡ None
+unfolding ground_equality_by
+without_right positive left right l h e = rw (h, e) refl
 
-pub ruleset condition_steps = (condition_none, condition_some)
+pub with_both : (positive : Bool) (left right : Option ℕ) (l r : ℕ) → left ≡ Some l → right ≡ Some r →
+    ground_equality_by positive left right ≡ Some (record { positive = positive; formula = asked.Equal l r })
+unfolding ground_equality_by
+with_both positive left right l r h e = rw (h, e) refl
+
+pub ruleset equality_steps = (without_left, without_right, with_both)
+
+pub condition_none : (known : Known) (positive : Bool) (atom : AtomForm) → ground_of known atom ≡ None → ground_condition_of known (atom_literal positive atom) ≡ None
+unfolding ground_condition_of
+condition_none known positive atom h = rw h refl
+
+pub condition_some : (known : Known) (positive : Bool) (a : AtomForm) (atom : Atom) → ground_of known a ≡ Some atom →
+    ground_condition_of known (atom_literal positive a) ≡ Some (record { positive = positive; formula = asked.Atom atom })
+unfolding ground_condition_of
+condition_some known positive a atom h = rw h refl
+
+pub equality_condition : (known : Known) (positive : Bool) (sides : EqualityForm) →
+    ground_condition_of known (equality_literal positive sides)
+    ≡ ground_equality_by positive (object_number known.objects sides.left) (object_number known.objects sides.right)
+unfolding ground_condition_of
+equality_condition known positive sides = refl
+
+pub increase_no_condition : (known : Known) (amount : AmountForm) → ground_condition_of known (increase_literal amount) ≡ None
+unfolding ground_condition_of
+increase_no_condition known amount = refl
+
+pub value_no_condition : (known : Known) (value : ValueForm) → ground_condition_of known (value_literal value) ≡ None
+unfolding ground_condition_of
+value_no_condition known value = refl
+
+pub ruleset condition_steps = (condition_none, condition_some, equality_condition, increase_no_condition, value_no_condition)
+
+pub initial_by_atom : (known : Known) (positive : Bool) (atom : AtomForm) → initial_atom known (atom_literal positive atom) ≡ ground_of known atom
+unfolding initial_atom
+initial_by_atom known positive atom = refl
+
+pub initial_by_equality : (known : Known) (positive : Bool) (sides : EqualityForm) → initial_atom known (equality_literal positive sides) ≡ None
+unfolding initial_atom
+initial_by_equality known positive sides = refl
+
+pub initial_by_increase : (known : Known) (amount : AmountForm) → initial_atom known (increase_literal amount) ≡ None
+unfolding initial_atom
+initial_by_increase known amount = refl
+
+pub initial_by_value : (known : Known) (value : ValueForm) → initial_atom known (value_literal value) ≡ None
+unfolding initial_atom
+initial_by_value known value = refl
+
+pub ruleset initial_atom_steps = (initial_by_atom, initial_by_equality, initial_by_increase, initial_by_value)
 
 pub conditions_item : (front : List GroundCond) (known : Known) (l : LiteralForm) (ls : List LiteralForm) →
     with_front front (ground_conditions_of known (l ∷ ls)) ≡ with_item front (ground_condition_of known l) (ground_conditions_of known ls)
@@ -44,9 +92,9 @@ initial_as true front atom others = with_front (front ++ atom ∷ []) others
 initial_as false front atom others = with_front front others
 
 -- the initial atoms behind one more literal
-unfoldable pub initial_after : List Atom → Option GroundCond → Option (List Atom) → Option (List Atom)
-initial_after front None others = None
-initial_after front (Some given) others = initial_as given.positive front given.atom others
+unfoldable pub initial_after : List Atom → Bool → Option Atom → Option (List Atom) → Option (List Atom)
+initial_after front positive None others = None
+initial_after front positive (Some atom) others = initial_as positive front atom others
 
 initial_read_as : (positive : Bool) (front : List Atom) (atom : Atom) (others : Option (List Atom)) →
     with_front front (if positive then followed_by (Some atom) others else others) ≡ initial_as positive front atom others
@@ -55,34 +103,34 @@ initial_read_as true front atom None = refl
 initial_read_as true front atom (Some xs) = rw append_assoc refl
 initial_read_as false front atom others = refl
 
-initial_read : (front : List Atom) (given : Option GroundCond) (others : Option (List Atom)) →
-    with_front front (initial_before given others) ≡ initial_after front given others
+initial_read : (front : List Atom) (positive : Bool) (atom : Option Atom) (others : Option (List Atom)) →
+    with_front front (initial_before positive atom others) ≡ initial_after front positive atom others
 unfolding initial_before initial_after with_front
-initial_read front None others = refl
-initial_read front (Some given) others = initial_read_as given.positive front given.atom others
+initial_read front positive None others = refl
+initial_read front positive (Some atom) others = initial_read_as positive front atom others
 
 pub initial_item : (front : List Atom) (known : Known) (l : LiteralForm) (ls : List LiteralForm) →
-    with_front front (initial_of known (l ∷ ls)) ≡ initial_after front (ground_condition_of known l) (initial_of known ls)
+    with_front front (initial_of known (l ∷ ls)) ≡ initial_after front (is_positive l) (initial_atom known l) (initial_of known ls)
 unfolding initial_of
-initial_item front known l ls = initial_read front (ground_condition_of known l) (initial_of known ls)
+initial_item front known l ls = initial_read front (is_positive l) (initial_atom known l) (initial_of known ls)
 
 pub initial_end : (front : List Atom) (known : Known) → with_front front (initial_of known []) ≡ Some front
 unfolding initial_of with_front
 initial_end front known = rw append-nil refl
 
-pub after_none : (front : List Atom) (others : Option (List Atom)) → initial_after front None others ≡ None
+pub after_none : (front : List Atom) (positive : Bool) (others : Option (List Atom)) → initial_after front positive None others ≡ None
 unfolding initial_after
-after_none front others = refl
+after_none front positive others = refl
 
-pub after_positive : (front : List Atom) (given : GroundCond) (others : Option (List Atom)) → given.positive ≡ true →
-    initial_after front (Some given) others ≡ with_front (front ++ given.atom ∷ []) others
+pub after_positive : (front : List Atom) (positive : Bool) (atom : Atom) (others : Option (List Atom)) → positive ≡ true →
+    initial_after front positive (Some atom) others ≡ with_front (front ++ atom ∷ []) others
 unfolding initial_after initial_as
-after_positive front given others h = rw h refl
+after_positive front positive atom others h = rw h refl
 
-pub after_negated : (front : List Atom) (given : GroundCond) (others : Option (List Atom)) → given.positive ≡ false →
-    initial_after front (Some given) others ≡ with_front front others
+pub after_negated : (front : List Atom) (positive : Bool) (atom : Atom) (others : Option (List Atom)) → positive ≡ false →
+    initial_after front positive (Some atom) others ≡ with_front front others
 unfolding initial_after initial_as
-after_negated front given others h = rw h refl
+after_negated front positive atom others h = rw h refl
 
 pub ruleset initial_steps = (front_none, initial_item, initial_end, after_none, after_positive, after_negated)
 

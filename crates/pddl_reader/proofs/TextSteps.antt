@@ -6,6 +6,7 @@ use Rattle.pddl_reader.specs.Domain.{DomainValue, domain_of}
 use Rattle.pddl_syntax.specs.Levels.{trees}
 use Rattle.pddl_reader.specs.Problem.{problem_of}
 use Rattle.pddl_syntax.specs.Syntax.{DomainForm, ProblemForm, domain_syntax, problem_syntax}
+use Rattle.pddl_syntax.specs.declared.dialect.Dialect.TheVariants.{Strips}
 use Rattle.pddl_reader.specs.Texts.{unless_fault, domain_of_text, problem_of_text}
 use Rattle.pddl_syntax.specs.Trees.{text_fault}
 
@@ -13,11 +14,11 @@ pub domain_fault : (text : List ℕ) (e : ReadFault) → text_fault text ≡ Som
 unfolding domain_of_text unless_fault
 domain_fault text e h = rw h refl
 
-pub domain_no_syntax : (text : List ℕ) → text_fault text ≡ None → domain_syntax (trees text) ≡ None → domain_of_text text ≡ None
+pub domain_no_syntax : (text : List ℕ) → text_fault text ≡ None → domain_syntax Strips (trees text) ≡ None → domain_of_text text ≡ None
 unfolding domain_of_text unless_fault
 domain_no_syntax text h e = rw (h, e) refl
 
-pub domain_form_of : (text : List ℕ) (form : DomainForm) → text_fault text ≡ None → domain_syntax (trees text) ≡ Some form → domain_of_text text ≡ domain_of form
+pub domain_form_of : (text : List ℕ) (form : DomainForm) → text_fault text ≡ None → domain_syntax Strips (trees text) ≡ Some form → domain_of_text text ≡ domain_of form
 unfolding domain_of_text unless_fault
 domain_form_of text form h e = rw (h, e) refl
 
@@ -27,11 +28,11 @@ pub problem_fault : (domain : DomainValue) (text : List ℕ) (e : ReadFault) →
 unfolding problem_of_text unless_fault
 problem_fault domain text e h = rw h refl
 
-pub problem_no_syntax : (domain : DomainValue) (text : List ℕ) → text_fault text ≡ None → problem_syntax (trees text) ≡ None → problem_of_text domain text ≡ None
+pub problem_no_syntax : (domain : DomainValue) (text : List ℕ) → text_fault text ≡ None → problem_syntax Strips (trees text) ≡ None → problem_of_text domain text ≡ None
 unfolding problem_of_text unless_fault
 problem_no_syntax domain text h e = rw (h, e) refl
 
-pub problem_form_of : (domain : DomainValue) (text : List ℕ) (form : ProblemForm) → text_fault text ≡ None → problem_syntax (trees text) ≡ Some form →
+pub problem_form_of : (domain : DomainValue) (text : List ℕ) (form : ProblemForm) → text_fault text ≡ None → problem_syntax Strips (trees text) ≡ Some form →
     problem_of_text domain text ≡ problem_of domain form
 unfolding problem_of_text unless_fault
 problem_form_of domain text form h e = rw (h, e) refl

@@ -9,18 +9,21 @@ use Rattle.std.specs.Map.{keys_of, values_of}
 use Rattle.pddl_words.specs.Words.{folded}
 use Rattle.strips_task.specs.declared.actions.Action.{Action}
 use Rattle.strips_task.specs.declared.actions.Cond.{Cond}
+use Rattle.strips_task.specs.declared.actions.Formula.TheVariants as asked
 use Rattle.strips_task.specs.declared.actions.Pattern.{Pattern}
+use Rattle.strips_task.specs.declared.actions.Term.{Term}
 use Rattle.strips_task.specs.declared.tasks.TaskParts.{TaskParts}
 use Rattle.strips_task.specs.Names.{are_distinct}
 use Rattle.strips_task.specs.Types.{IsTypeTree}
-use Rattle.strips_task.specs.WellFormed.{are_variables, is_pattern, is_action}
+use Rattle.strips_task.specs.WellFormed.{are_variables, is_pattern, is_known, is_formula, is_action}
 use Rattle.strips_task.proofs.NameNumbers.{entries_distinct}
 use Rattle.pddl_reader.specs.declared.resolution.actions.Effects.{Effects}
 use Rattle.pddl_syntax.specs.Optional.{guard, followed_by}
-use Rattle.pddl_reader.specs.Declarations.{Predicates, may_declare, declared, pattern_of, condition, condition_of, conditions_of}
+use Rattle.pddl_reader.specs.Declarations.{Predicates, may_declare, declared, pattern_of, condition, term_named, equality_by, condition_of, conditions_of, is_positive, changed_pattern}
 use Rattle.pddl_reader.specs.Variables.{Parameters, places_of, parameters_of}
-use Rattle.pddl_reader.proofs.FittingAtoms.{known_of, pattern_fits}
-use Rattle.pddl_reader.proofs.KeptVariables.{places_kept, parameters_kept}
+use Rattle.pddl_reader.proofs.FittingAtoms.{known_of, pattern_fits, changed_fits}
+use Rattle.pddl_reader.proofs.KnownTerms.{term_known}
+use Rattle.pddl_reader.proofs.KeptVariables.{places_kept, parameters_kept, parameters_paired}
 use Rattle.pddl_reader.proofs.Through.{through_keeps}
 use Rattle.pddl_reader.specs.Domain.{DomainValue, declared_predicate, known_by, action_by, with_predicate, predicates_from, no_effects, lone_effect, both_effects, effects_before, effects_of, action_with, action_meant, Actions, declared_action, with_action_of, actions_from, head, head_typed, head_of, domain_value, domain_with, bare_task}
 use Rattle.pddl_reader.specs.Domains.{IsDomain}
@@ -29,7 +32,7 @@ use Rattle.pddl_reader.specs.TypeOrder.{types_of}
 use Rattle.pddl_reader.specs.declared.resolution.domain.Head.{Head}
 use Rattle.pddl_reader.specs.declared.resolution.types.KnownTypes.{KnownTypes}
 use Rattle.pddl_reader.proofs.KeptObjects.{AreObjects, AreKnown, known_types, objects_kept, no_objects}
-use Rattle.pddl_syntax.specs.Syntax.{LiteralForm, PredicateForm, ActionForm, DomainForm}
+use Rattle.pddl_syntax.specs.Syntax.{LiteralForm, atom_literal, equality_literal, increase_literal, value_literal, PredicateForm, ActionForm, DomainForm}
 use Rattle.pddl_reader.proofs.DeclarationSteps.{may_declare_new, may_declare_length}
 
 no_names_distinct : are_distinct [] ≡ true
@@ -83,38 +86,61 @@ kept_predicates parents types is table ps more kept h =
     through_keeps (λ t. IsKept (are_variables parents) t) (with_predicate types) (predicate_kept parents types is) table ps more kept h
 
 condition_fits_by : (task : TaskParts) (params : List (List ℕ)) (positive : Bool) (pattern : Option Pattern) (c : Cond) →
-    ((p : Pattern) → pattern ≡ Some p → is_pattern task params p ≡ true) → option_map (condition positive) pattern ≡ Some c → is_pattern task params c.pattern ≡ true
+    ((p : Pattern) → pattern ≡ Some p → is_pattern task params p ≡ true) → option_map (condition positive) pattern ≡ Some c → is_formula task params c.formula ≡ true
+unfolding is_formula
 condition_fits_by task params positive None c fits h = cc
 condition_fits_by task params positive (Some p) c fits h =
-    let P : Cond → Type 0 = λ c. is_pattern task params c.pattern ≡ true in
+    let P : Cond → Type 0 = λ c. is_formula task params c.formula ≡ true in
     let e : condition positive p ≡ c = cc in
     subst P e (fits p refl)
 
-condition_fits : (task : TaskParts) (q : Parameters) (l : LiteralForm) (c : Cond) → condition_of (known_of task) q l ≡ Some c → is_pattern task q.types c.pattern ≡ true
+equality_fits_by : (task : TaskParts) (params : List (List ℕ)) (positive : Bool) (left right : Option Term) (c : Cond) →
+    ((t : Term) → left ≡ Some t → is_known task params t ≡ true) → ((t : Term) → right ≡ Some t → is_known task params t ≡ true) →
+    equality_by positive left right ≡ Some c → is_formula task params c.formula ≡ true
+unfolding equality_by is_formula
+equality_fits_by task params positive None right c lefts rights h = cc
+equality_fits_by task params positive (Some l) None c lefts rights h = cc
+equality_fits_by task params positive (Some l) (Some r) c lefts rights h =
+    let P : Cond → Type 0 = λ c. is_formula task params c.formula ≡ true in
+    let e : record { positive = positive; formula = asked.Equal l r } ≡ c = cc in
+    subst P e (rw (lefts l refl, rights r refl) refl)
+
+-- each parameter has types
+abbrev IsPaired : Parameters → Type 0
+IsPaired q = length q.types ≡ length q.names
+
+condition_fits : (task : TaskParts) (q : Parameters) → IsPaired q → (l : LiteralForm) (c : Cond) → condition_of (known_of task) q l ≡ Some c →
+    is_formula task q.types c.formula ≡ true
 unfolding condition_of
-condition_fits task q l c h = condition_fits_by task q.types l.positive (pattern_of (known_of task) q l.atom) c (pattern_fits task q l.atom) h
+condition_fits task q paired (atom_literal positive atom) c h =
+    condition_fits_by task q.types positive (pattern_of (known_of task) q atom) c (pattern_fits task q atom) h
+condition_fits task q paired (equality_literal positive sides) c h =
+    equality_fits_by task q.types positive (term_named (known_of task) q sides.left) (term_named (known_of task) q sides.right) c
+    (term_known task q paired sides.left) (term_known task q paired sides.right) h
+condition_fits task q paired (increase_literal amount) c h = cc
+condition_fits task q paired (value_literal value) c h = cc
 
 conditions_fit_by : (task : TaskParts) (q : Parameters) (c : Option Cond) (cs : Option (List Cond)) (all : List Cond) →
-    ((x : Cond) → c ≡ Some x → is_pattern task q.types x.pattern ≡ true) →
-    ((xs : List Cond) → cs ≡ Some xs → list_all (λ c. is_pattern task q.types c.pattern) xs ≡ true) →
-    followed_by c cs ≡ Some all → list_all (λ c. is_pattern task q.types c.pattern) all ≡ true
+    ((x : Cond) → c ≡ Some x → is_formula task q.types x.formula ≡ true) →
+    ((xs : List Cond) → cs ≡ Some xs → list_all (λ c. is_formula task q.types c.formula) xs ≡ true) →
+    followed_by c cs ≡ Some all → list_all (λ c. is_formula task q.types c.formula) all ≡ true
 unfolding followed_by
 conditions_fit_by task q None cs all first rest h = cc
 conditions_fit_by task q (Some x) None all first rest h = cc
 conditions_fit_by task q (Some x) (Some xs) all first rest h =
-    let P : List Cond → Type 0 = λ cs. list_all (λ c. is_pattern task q.types c.pattern) cs ≡ true in
+    let P : List Cond → Type 0 = λ cs. list_all (λ c. is_formula task q.types c.formula) cs ≡ true in
     let e : x ∷ xs ≡ all = cc in
     subst P e (rw (first x refl, rest xs refl) refl)
 
-conditions_fit : (task : TaskParts) (q : Parameters) (ls : List LiteralForm) (cs : List Cond) → conditions_of (known_of task) q ls ≡ Some cs →
-    list_all (λ c. is_pattern task q.types c.pattern) cs ≡ true
+conditions_fit : (task : TaskParts) (q : Parameters) → IsPaired q → (ls : List LiteralForm) (cs : List Cond) → conditions_of (known_of task) q ls ≡ Some cs →
+    list_all (λ c. is_formula task q.types c.formula) cs ≡ true
 unfolding conditions_of
-conditions_fit task q [] cs h =
-    let P : List Cond → Type 0 = λ cs. list_all (λ c. is_pattern task q.types c.pattern) cs ≡ true in
+conditions_fit task q paired [] cs h =
+    let P : List Cond → Type 0 = λ cs. list_all (λ c. is_formula task q.types c.formula) cs ≡ true in
     let e : [] ≡ cs = cc in
     subst P e refl
-conditions_fit task q (l ∷ ls) cs h =
-    conditions_fit_by task q (condition_of (known_of task) q l) (conditions_of (known_of task) q ls) cs (condition_fits task q l) (λ xs e. conditions_fit task q ls xs e) h
+conditions_fit task q paired (l ∷ ls) cs h =
+    conditions_fit_by task q (condition_of (known_of task) q l) (conditions_of (known_of task) q ls) cs (condition_fits task q paired l) (λ xs e. conditions_fit task q paired ls xs e) h
 
 -- the patterns of effects fit
 record AreFitting (task : TaskParts) (q : Parameters) (effects : Effects) : Type 0 where
@@ -122,22 +148,22 @@ record AreFitting (task : TaskParts) (q : Parameters) (effects : Effects) : Type
   dels : list_all (is_pattern task q.types) effects.del ≡ true
 
 lone_fits_by : (task : TaskParts) (q : Parameters) (positive : Bool) (p : Pattern) (e : Effects) → is_pattern task q.types p ≡ true → AreFitting task q e →
-    AreFitting task q (both_effects (lone_effect (record { positive = positive; pattern = p })) e)
+    AreFitting task q (both_effects (lone_effect positive p) e)
 unfolding both_effects lone_effect
 lone_fits_by task q true p e fit rest = record { adds = rw (fit, rest.adds) refl; dels = rest.dels }
 lone_fits_by task q false p e fit rest = record { adds = rest.adds; dels = rw (fit, rest.dels) refl }
 
-effects_fit_by : (task : TaskParts) (q : Parameters) (c : Option Cond) (es : Option Effects) (all : Effects) →
-    ((x : Cond) → c ≡ Some x → is_pattern task q.types x.pattern ≡ true) →
+effects_fit_by : (task : TaskParts) (q : Parameters) (positive : Bool) (pattern : Option Pattern) (es : Option Effects) (all : Effects) →
+    ((p : Pattern) → pattern ≡ Some p → is_pattern task q.types p ≡ true) →
     ((e : Effects) → es ≡ Some e → AreFitting task q e) →
-    effects_before c es ≡ Some all → AreFitting task q all
+    effects_before positive pattern es ≡ Some all → AreFitting task q all
 unfolding effects_before
-effects_fit_by task q None es all first rest h = cc
-effects_fit_by task q (Some x) None all first rest h = cc
-effects_fit_by task q (Some x) (Some e) all first rest h =
+effects_fit_by task q positive None es all first rest h = cc
+effects_fit_by task q positive (Some p) None all first rest h = cc
+effects_fit_by task q positive (Some p) (Some e) all first rest h =
     let P : Effects → Type 0 = λ e. AreFitting task q e in
-    let is : both_effects (lone_effect x) e ≡ all = cc in
-    subst P is (lone_fits_by task q x.positive x.pattern e (first x refl) (rest e refl))
+    let is : both_effects (lone_effect positive p) e ≡ all = cc in
+    subst P is (lone_fits_by task q positive p e (first p refl) (rest e refl))
 
 effects_fit : (task : TaskParts) (q : Parameters) (ls : List LiteralForm) (es : Effects) → effects_of (known_of task) q ls ≡ Some es → AreFitting task q es
 unfolding effects_of no_effects
@@ -149,10 +175,10 @@ effects_fit task q [] es h =
     none_fit : AreFitting task q no_effects
     none_fit = record { adds = refl; dels = refl }
 effects_fit task q (l ∷ ls) es h =
-    effects_fit_by task q (condition_of (known_of task) q l) (effects_of (known_of task) q ls) es (condition_fits task q l) (λ xs e. effects_fit task q ls xs e) h
+    effects_fit_by task q (is_positive l) (changed_pattern (known_of task) q l) (effects_of (known_of task) q ls) es (changed_fits task q l) (λ xs e. effects_fit task q ls xs e) h
 
 action_fits_by : (task : TaskParts) (q : Parameters) (pre : Option (List Cond)) (es : Option Effects) (action : Action) → are_variables task.parents q.types ≡ true →
-    ((cs : List Cond) → pre ≡ Some cs → list_all (λ c. is_pattern task q.types c.pattern) cs ≡ true) →
+    ((cs : List Cond) → pre ≡ Some cs → list_all (λ c. is_formula task q.types c.formula) cs ≡ true) →
     ((e : Effects) → es ≡ Some e → AreFitting task q e) →
     action_with q.types pre es ≡ Some action → is_action task action ≡ true
 unfolding action_with is_action
@@ -165,18 +191,19 @@ action_fits_by task q (Some cs) (Some e) action typed pres effs h =
     subst P is (rw (typed, pres cs refl, fit.adds, fit.dels) refl)
 
 action_fits_with : (task : TaskParts) (a : ActionForm) (q : Option Parameters) (action : Action) → ((r : Parameters) → q ≡ Some r → are_variables task.parents r.types ≡ true) →
-    action_by (known_of task) a q ≡ Some action → is_action task action ≡ true
+    ((r : Parameters) → q ≡ Some r → IsPaired r) → action_by (known_of task) a q ≡ Some action → is_action task action ≡ true
 unfolding action_by
-action_fits_with task a None action typed h = cc
-action_fits_with task a (Some q) action typed h =
+action_fits_with task a None action typed paired h = cc
+action_fits_with task a (Some q) action typed paired h =
     action_fits_by task q (conditions_of (known_of task) q a.precondition) (effects_of (known_of task) q a.effect) action (typed q refl)
-    (conditions_fit task q a.precondition) (effects_fit task q a.effect) h
+    (conditions_fit task q (paired q refl) a.precondition) (effects_fit task q a.effect) h
 
 action_fits : (task : TaskParts) (types : List (List ℕ)) → length types ≡ length task.parents → (a : ActionForm) (action : Action) →
     action_meant types (known_of task) a ≡ Some action → is_action task action ≡ true
 unfolding action_meant
 action_fits task types is a action h =
-    action_fits_with task a (parameters_of types a.parameters) action (λ r e. parameters_kept task.parents types a.parameters r is e) h
+    action_fits_with task a (parameters_of types a.parameters) action (λ r e. parameters_kept task.parents types a.parameters r is e)
+    (λ r e. parameters_paired task.parents types a.parameters r is e) h
 
 declared_action_kept : (task : TaskParts) (table more : Actions) (name : List ℕ) (action : Option Action) →
     ((a : Action) → action ≡ Some a → is_action task a ≡ true) → IsKept (is_action task) table → declared_action table name action ≡ Some more → IsKept (is_action task) more

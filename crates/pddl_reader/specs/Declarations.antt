@@ -1,6 +1,6 @@
 -- Tables of declared names, and the atoms that use them.
 
-use Rattle.std.specs.Prelude.{if◌then◌else◌, ℕ, Bool, false, ◌&&◌, nat_eq, nat_lt, is_none, List, [], ◌∷◌, ◌++◌, length, slice_get, Option, Some, None}
+use Rattle.std.specs.Prelude.{if◌then◌else◌, ℕ, Bool, true, false, ◌&&◌, nat_eq, nat_lt, is_none, List, [], ◌∷◌, ◌++◌, length, slice_get, Option, Some, None}
 use Rattle.std.specs.Option.{option_map}
 use Rattle.std.specs.Map.{values_of}
 use Rattle.pddl_words.specs.Words.{folded}
@@ -12,10 +12,11 @@ use Rattle.strips_task.specs.WellFormed.{is_fitting}
 use Rattle.pddl_syntax.specs.Heads.{is_variable}
 use Rattle.pddl_reader.specs.Objects.{Objects}
 use Rattle.pddl_reader.specs.Variables.{Parameters, parameter_number}
+use Rattle.strips_task.specs.declared.actions.Formula.TheVariants as asked
 use Rattle.strips_task.specs.declared.actions.Cond.{Cond}
 use Rattle.strips_task.specs.Names.{number_named}
 use Rattle.pddl_syntax.specs.Optional.{guard, followed_by}
-use Rattle.pddl_syntax.specs.Syntax.{AtomForm, LiteralForm}
+use Rattle.pddl_syntax.specs.Syntax.{AtomForm, LiteralForm, atom_literal, equality_literal, increase_literal, value_literal}
 
 -- the declared predicates: for each its name and, for each argument, the types of which it may be
 abbrev pub Predicates : Type 0
@@ -121,11 +122,35 @@ ground_of known atom = ground_by known atom.terms (predicate_number known.predic
 
 -- a condition on a pattern
 abbrev pub condition : Bool → Pattern → Cond
-condition positive pattern = record { positive = positive; pattern = pattern }
+condition positive pattern = record { positive = positive; formula = asked.Atom pattern }
+
+-- a condition that two terms, where both are known, stand for the same object or for two. They may be of any types
+unfoldable pub equality_by : Bool → Option Term → Option Term → Option Cond
+equality_by positive None right = None
+equality_by positive (Some left) None = None
+equality_by positive (Some left) (Some right) = Some (record { positive = positive; formula = asked.Equal left right })
 
 -- the condition that a literal of an action stands for
 unfoldable pub condition_of : Known → Parameters → LiteralForm → Option Cond
-condition_of known parameters literal = option_map (condition literal.positive) (pattern_of known parameters literal.atom)
+condition_of known parameters (atom_literal positive atom) = option_map (condition positive) (pattern_of known parameters atom)
+condition_of known parameters (equality_literal positive sides) =
+    equality_by positive (term_named known parameters sides.left) (term_named known parameters sides.right)
+condition_of known parameters (increase_literal amount) = None
+condition_of known parameters (value_literal value) = None
+
+-- whether a literal is not negated
+unfoldable pub is_positive : LiteralForm → Bool
+is_positive (atom_literal positive atom) = positive
+is_positive (equality_literal positive sides) = positive
+is_positive (increase_literal amount) = true
+is_positive (value_literal value) = true
+
+-- the pattern that a literal of an effect adds or deletes; a literal that is no atom changes none
+unfoldable pub changed_pattern : Known → Parameters → LiteralForm → Option Pattern
+changed_pattern known parameters (atom_literal positive atom) = pattern_of known parameters atom
+changed_pattern known parameters (equality_literal positive sides) = None
+changed_pattern known parameters (increase_literal amount) = None
+changed_pattern known parameters (value_literal value) = None
 
 -- the conditions that literals stand for, in text order
 unfoldable pub conditions_of : Known → Parameters → List LiteralForm → Option (List Cond)

@@ -1,11 +1,12 @@
 -- The domain that syntax stands for (PDDL 2.1, Fox and Long 2003, sections 2 and 3; the limits are this validator's choice).
 
-use Rattle.std.specs.Prelude.{ℕ, List, [], ◌∷◌, ◌++◌, Option, Some, None, if◌then◌else◌}
+use Rattle.std.specs.Prelude.{ℕ, Bool, List, [], ◌∷◌, ◌++◌, Option, Some, None, if◌then◌else◌}
 use Rattle.std.specs.Map.{keys_of}
 use Rattle.std.specs.Option.{option_map}
 use Rattle.pddl_words.specs.Words.{folded}
 use Rattle.strips_task.specs.declared.actions.Action.{Action}
 use Rattle.strips_task.specs.declared.actions.Cond.{Cond}
+use Rattle.strips_task.specs.declared.actions.Pattern.{Pattern}
 use Rattle.strips_task.specs.declared.tasks.TaskParts.{TaskParts}
 use Rattle.strips_task.specs.WellFormed.{most_predicates, most_actions}
 use Rattle.pddl_reader.specs.declared.resolution.actions.Effects.{Effects}
@@ -13,7 +14,7 @@ use Rattle.pddl_reader.specs.declared.resolution.domain.Head.{Head}
 use Rattle.pddl_reader.specs.declared.resolution.types.KnownTypes.{KnownTypes}
 use Rattle.pddl_reader.specs.Objects.{Objects, objects_from}
 use Rattle.pddl_reader.specs.TypeOrder.{types_of}
-use Rattle.pddl_reader.specs.Declarations.{Predicates, declared, Known, condition_of, conditions_of}
+use Rattle.pddl_reader.specs.Declarations.{Predicates, declared, Known, is_positive, changed_pattern, conditions_of}
 use Rattle.pddl_syntax.specs.Optional.{through}
 use Rattle.pddl_reader.specs.Variables.{Parameters, parameters_of, places_of}
 use Rattle.pddl_syntax.specs.Syntax.{LiteralForm, PredicateForm, ActionForm, DomainForm}
@@ -44,24 +45,24 @@ predicates_from types table predicates = through (with_predicate types) table pr
 unfoldable pub no_effects : Effects
 no_effects = record { add = []; del = [] }
 
--- one effect: a positive literal adds, a negated one deletes
-unfoldable pub lone_effect : Cond → Effects
-lone_effect effect =
-    (if effect.positive then record { add = effect.pattern ∷ []; del = [] } else record { add = []; del = effect.pattern ∷ [] })
+-- one effect: a positive literal adds its pattern, a negated one deletes it
+unfoldable pub lone_effect : Bool → Pattern → Effects
+lone_effect positive pattern = (if positive then record { add = pattern ∷ []; del = [] } else record { add = []; del = pattern ∷ [] })
 
 -- effects behind others
 unfoldable pub both_effects : Effects → Effects → Effects
 both_effects first second = record { add = first.add ++ second.add; del = first.del ++ second.del }
 
 -- one more effect before others, where there are all of them
-unfoldable pub effects_before : Option Cond → Option Effects → Option Effects
-effects_before None others = None
-effects_before (Some effect) others = option_map (both_effects (lone_effect effect)) others
+unfoldable pub effects_before : Bool → Option Pattern → Option Effects → Option Effects
+effects_before positive None others = None
+effects_before positive (Some pattern) others = option_map (both_effects (lone_effect positive pattern)) others
 
 -- the effects that literals stand for
 unfoldable pub effects_of : Known → Parameters → List LiteralForm → Option Effects
 effects_of known parameters [] = Some no_effects
-effects_of known parameters (literal ∷ literals) = effects_before (condition_of known parameters literal) (effects_of known parameters literals)
+effects_of known parameters (literal ∷ literals) =
+    effects_before (is_positive literal) (changed_pattern known parameters literal) (effects_of known parameters literals)
 
 -- an action with parameters of these types
 unfoldable pub action_with : List (List ℕ) → Option (List Cond) → Option Effects → Option Action

@@ -7,6 +7,7 @@ use Rattle.pddl_syntax.specs.declared.fault.ReadFault.{ReadFault}
 use Rattle.pddl_reader.specs.Domain.{DomainValue, domain_of}
 use Rattle.pddl_syntax.specs.Levels.{trees}
 use Rattle.pddl_reader.specs.Problem.{problem_of}
+use Rattle.pddl_syntax.specs.declared.dialect.Dialect.TheVariants.{Strips}
 use Rattle.pddl_syntax.specs.Syntax.{domain_syntax, problem_syntax}
 use Rattle.pddl_syntax.specs.Trees.{text_fault}
 
@@ -17,8 +18,8 @@ unless_fault (Some fault) value = None
 
 -- the domain that a text stands for
 unfoldable pub domain_of_text : List ℕ → Option DomainValue
-domain_of_text text = unless_fault (text_fault text) (option_and_then domain_of (domain_syntax (trees text)))
+domain_of_text text = unless_fault (text_fault text) (option_and_then domain_of (domain_syntax Strips (trees text)))
 
 -- the task that a text stands for beside a domain
 unfoldable pub problem_of_text : DomainValue → List ℕ → Option TaskParts
-problem_of_text domain text = unless_fault (text_fault text) (option_and_then (problem_of domain) (problem_syntax (trees text)))
+problem_of_text domain text = unless_fault (text_fault text) (option_and_then (problem_of domain) (problem_syntax Strips (trees text)))

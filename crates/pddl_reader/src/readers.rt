@@ -8,7 +8,7 @@ ghost use Rattle.pddl_syntax.specs.Trees.{text_fault};
 
 use crate::resolution::domain::{Domain, resolve_domain};
 use crate::resolution::problem::resolve_problem;
-use pddl_syntax::{ReadFault, check_text, domain_text, problem_text};
+use pddl_syntax::{Dialect, ReadFault, check_text, domain_text, problem_text};
 use std::alloc::Global;
 use strips_task::{Seed, Task};
 
@@ -21,7 +21,7 @@ pub fn read_domain(alloc: Global, seed: Seed, text: &[u8]) -> Result<Domain, Rea
     ensures fault { (e : read_fault.ReadFault) → text_fault text.now ≡ Some e → result ≡ Err e }
 {
     check_text(text)?;
-    let syntax = domain_text(alloc, text)?;
+    let syntax = domain_text(alloc, Dialect::Strips, text)?;
     resolve_domain(alloc, seed, &syntax)
 }
 
@@ -33,6 +33,6 @@ pub fn read_problem(alloc: Global, domain: Domain, text: &[u8]) -> Result<Task, 
     ensures fault { (e : read_fault.ReadFault) → text_fault text.now ≡ Some e → result ≡ Err e }
 {
     check_text(text)?;
-    let syntax = problem_text(alloc, text)?;
+    let syntax = problem_text(alloc, Dialect::Strips, text)?;
     resolve_problem(alloc, domain, &syntax)
 }

@@ -5,6 +5,7 @@
 pub(crate) mod actions;
 pub(crate) mod atoms;
 pub(crate) mod domain;
+pub(crate) mod literals;
 pub(crate) mod names;
 pub(crate) mod objects;
 pub(crate) mod parts;

@@ -1,6 +1,6 @@
 -- What one token does to the levels of a walk.
 
-use Rattle.std.proofs.Common.{ℕ, ◌≡◌, List, [], ◌∷◌, Option, Some, None, Result, Ok, Err, IsSome, refl, sym, subst}
+use Rattle.std.proofs.Common.{ℕ, ◌≡◌, true, false, List, [], ◌∷◌, Option, Some, None, Result, Ok, Err, IsSome, refl, sym, subst}
 use Rattle.std.specs.Option.{option_map, option_and_then}
 use Rattle.pddl_tokens.specs.declared.spans.Span.{Span}
 use Rattle.pddl_tokens.specs.declared.spans.Token.{Token}
@@ -10,7 +10,7 @@ use Rattle.pddl_tokens.specs.declared.spans.TextFault.{TextFault}
 use Rattle.pddl_tokens.specs.declared.spans.TextFault.TheVariants.{TooLong, BadByte}
 use Rattle.pddl_tokens.specs.Tokens.{Piece, token, bad}
 use Rattle.pddl_tokens.specs.Tokens.{Takes}
-use Rattle.pddl_syntax.specs.Trees.{Trees, none, word, list}
+use Rattle.pddl_syntax.specs.Trees.{Trees, none, word, list, begins_with_list}
 use Rattle.pddl_syntax.specs.Levels.{Levels, before_word, before_left, before_right, levels, or_end, here, behind}
 
 -- the levels before a word, where there are some behind it
@@ -84,5 +84,19 @@ goes_on (Ok (Some t)) old new takes h = some_behind_token t.kind t.span t.text.n
 goes_on (Ok None) old new takes h = let P : List Piece → Type 0 = λ ps. IsSome (levels ps) in subst P (sym takes.1) refl
 goes_on (Err (BadByte at)) old new takes h = let P : List Piece → Type 0 = λ ps. IsSome (levels ps) in subst P (sym takes.1) h
 goes_on (Err TooLong) old new takes h = absurd takes
+
+pub list_first : (k f : Trees) → begins_with_list (list k f) ≡ true
+unfolding begins_with_list
+list_first k f = refl
+
+pub word_first : (w : List ℕ) (f : Trees) → begins_with_list (word w f) ≡ false
+unfolding begins_with_list
+word_first w f = refl
+
+pub none_first : begins_with_list none ≡ false
+unfolding begins_with_list
+none_first = refl
+
+pub ruleset list_steps = (list_first, word_first, none_first)
 
 pub ruleset walk_steps = (word_step, left_step, right_step, end_step, no_bad_byte, goes_on)

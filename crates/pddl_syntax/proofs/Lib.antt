@@ -16,3 +16,6 @@ pub mod Balanced
 pub mod Ahead
 pub mod LiteralSteps
 pub mod Memory
+pub mod FunctionSteps
+pub mod KnownSteps
+pub mod DialectLaws

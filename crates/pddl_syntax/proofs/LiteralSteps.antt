@@ -1,23 +1,23 @@
 -- The literals of a formula that is walked over a second time, one equation for each case.
 
-use Rattle.std.proofs.Common.{◌≡◌, ℕ, zero, suc, ◌+◌, ◌-◌, ◌<◌, ◌≤◌, ◌≢◌, Bool, true, false, if◌then◌else◌, List, [], ◌∷◌, Option, Some, None, Result, Ok, Err, IsSome, is_some, unwrap_or, refl, sym, ◌∙◌, ap, arith, subst, append_assoc}
+use Rattle.std.proofs.Common.{◌≡◌, ℕ, zero, suc, ◌+◌, ◌-◌, ◌<◌, ◌≤◌, Bool, true, false, if◌then◌else◌, List, [], ◌∷◌, Option, Some, None, Result, Ok, Err, IsSome, is_some, unwrap_or, refl, sym, ◌∙◌, ap, arith, subst, append_assoc}
 use Rattle.std.proofs.lemmas.List.{append-nil}
 use Rattle.std.specs.Option.{option_map}
-use Rattle.pddl_syntax.specs.declared.fault.FaultKind.TheVariants.{OutOfMemory}
 use Rattle.pddl_syntax.specs.declared.fault.ReadFault.{ReadFault}
 use Rattle.pddl_syntax.specs.declared.heads.Scope.{Scope}
-use Rattle.pddl_syntax.specs.declared.heads.Scope.TheVariants as scope
+use Rattle.pddl_syntax.specs.declared.heads.Place.TheVariants as place
+use Rattle.pddl_syntax.specs.declared.dialect.Dialect.{Dialect}
 use Rattle.pddl_syntax.specs.declared.syntax.LiteralSyntax.{LiteralSyntax}
-use Rattle.pddl_syntax.specs.ReadFault.{out_of_memory}
-use Rattle.pddl_syntax.specs.Heads.{is_and, formula_head}
+use Rattle.pddl_syntax.specs.Forms.{literal_form}
+use Rattle.pddl_syntax.specs.Heads.{is_and, formula_head, literal_head, scope_at}
 use Rattle.pddl_syntax.specs.Optional.{with_front, joined, followed_by}
 use Rattle.pddl_tokens.specs.Tokens.{pieces, pieces_from}
 use Rattle.pddl_syntax.specs.Trees.{Trees, none, word, list, fault_from, text_fault}
 use Rattle.pddl_syntax.specs.Levels.{behind}
-use Rattle.pddl_syntax.specs.Syntax.{LiteralForm, alone, literal_of, formula_in, conjuncts_of, lists_of, init_item_in, is_formula, are_initial}
-use Rattle.pddl_syntax.specs.Remaining.{ReadsNext, literals_in, literals_left}
+use Rattle.pddl_syntax.specs.Syntax.{LiteralForm, alone, literal_of, formula_in, conjuncts_of, lists_of, init_item_in}
+use Rattle.pddl_syntax.specs.Presence.{is_formula, are_initial}
+use Rattle.pddl_syntax.specs.Remaining.{ReadsNext, TakesNext, literals_in, literals_left}
 use Rattle.pddl_syntax.proofs.Ahead.{sizes_behind}
-use Rattle.pddl_syntax.proofs.Memory.{only_memory}
 
 joined_nothing : (literals : Option (List LiteralForm)) → joined literals (Some []) ≡ literals
 unfolding joined with_front
@@ -133,16 +133,14 @@ is_literal : (read : Option LiteralForm) → IsSome (option_map alone read) → 
 is_literal None h = cc
 is_literal (Some l) h = refl
 
--- a literal that is there is read, unless memory runs out
-pub left_fault : (scope : Scope) (depth : ℕ) (w : List ℕ) (f : Trees) (below : List Trees) (e : ReadFault) → 0 < depth → is_and w ≡ false →
-    IsSome (literals_left scope depth (word w f) below) → (e.kind ≡ OutOfMemory → e ≡ out_of_memory) → (e.kind ≢ OutOfMemory → literal_of scope w f ≡ None) →
-    e ≡ out_of_memory
+-- the word with which what is left of a formula begins heads a literal, unless it is `and`
+pub literal_there : (scope : Scope) (depth : ℕ) (w : List ℕ) (f : Trees) (below : List Trees) → 0 < depth → is_and w ≡ false →
+    IsSome (literals_left scope depth (word w f) below) → IsSome (literal_of scope w f)
 unfolding literals_left
-left_fault scope zero w f below e h a s memory other = absurd (omega arith)
-left_fault scope (suc depth) w f below e h a s memory other =
+literal_there scope zero w f below h a s = absurd (omega arith)
+literal_there scope (suc depth) w f below h a s =
     let rest = literals_left scope depth (behind below).top (behind below).below in
-    let read = is_literal (literal_of scope w f) (subst IsSome (left_word scope w f a) (is_first (literals_in scope (word w f)) rest s)) in
-    only_memory (literal_of scope w f) e read memory other
+    is_literal (literal_of scope w f) (subst IsSome (left_word scope w f a) (is_first (literals_in scope (word w f)) rest s))
 
 pub ruleset reading_steps = (none_left, nothing_left, left_close, left_open, left_and, left_literal, sizes_behind)
 
@@ -175,7 +173,14 @@ unfolding followed_by
 next_one l old None h e = cc
 next_one l old (Some ls) h e = rw e refl
 
-pub ruleset next_steps = (still_there, next_one)
+-- what is read of literals that may be there is taken where they are
+pub taken : (result : Result (Option LiteralSyntax) ReadFault) (old new : Option (List LiteralForm)) → IsSome old → ReadsNext result old new →
+    TakesNext result (unwrap_or old []) (unwrap_or new [])
+taken (Ok (Some l)) old new h e = next_one (literal_form l) old new h e
+taken (Ok None) old new h e = (rw e.0 refl, rw e.1 refl)
+taken (Err e) old new h f = (f.0, rw f.1 refl)
+
+pub ruleset next_steps = (still_there)
 
 pub formula_kept : (scope : Scope) (f : Trees) → is_formula scope f ≡ true → IsSome (literals_in scope f)
 unfolding is_formula
@@ -203,69 +208,69 @@ no_formula scope f h = nothing_there (formula_in scope f) h
 
 pub ruleset formula_steps = (formula_kept, formula_so, no_formula)
 
-and_no_literal : (w : List ℕ) (f : Trees) → is_and w ≡ true → literal_of scope.Problem w f ≡ None
-unfolding is_and literal_of formula_head
-and_no_literal w f e = rw e refl
+and_no_literal : (dialect : Dialect) (w : List ℕ) (f : Trees) → is_and w ≡ true → literal_of (scope_at dialect place.Initial) w f ≡ None
+unfolding is_and literal_of formula_head literal_head
+and_no_literal dialect w f e = rw e refl
 
 -- no initial atom begins with `and`
-absurd_and : {A : Type 0} (w : List ℕ) (f : Trees) (l : LiteralForm) → is_and w ≡ true → literal_of scope.Problem w f ≡ Some l → A
-absurd_and w f l e h = none_some (literal_of scope.Problem w f) (and_no_literal w f e) h
+absurd_and : (dialect : Dialect) {A : Type 0} (w : List ℕ) (f : Trees) (l : LiteralForm) → is_and w ≡ true → literal_of (scope_at dialect place.Initial) w f ≡ Some l → A
+absurd_and dialect w f l e h = none_some (literal_of (scope_at dialect place.Initial) w f) (and_no_literal dialect w f e) h
   where
     none_some : {A : Type 0} (read : Option LiteralForm) → read ≡ None → read ≡ Some l → A
     none_some None e h = cc
     none_some (Some m) e h = cc
 
 -- an initial atom is a formula, which gives it alone
-initial_formula : (k : Trees) (l : LiteralForm) → init_item_in k ≡ Some l → formula_in scope.Problem k ≡ Some (l ∷ [])
+initial_formula : (dialect : Dialect) (k : Trees) (l : LiteralForm) → init_item_in dialect k ≡ Some l → formula_in (scope_at dialect place.Initial) k ≡ Some (l ∷ [])
 unfolding init_item_in formula_in
-initial_formula none l h = cc
-initial_formula (word w f) l h = by (is_and w) refl
+initial_formula dialect none l h = cc
+initial_formula dialect (word w f) l h = by (is_and w) refl
   where
-    by : (test : Bool) → is_and w ≡ test → (if test then conjuncts_of scope.Problem f else option_map alone (literal_of scope.Problem w f)) ≡ Some (l ∷ [])
-    by true e = absurd_and w f l e h
+    by : (test : Bool) → is_and w ≡ test → (if test then conjuncts_of (scope_at dialect place.Initial) f else option_map alone (literal_of (scope_at dialect place.Initial) w f)) ≡ Some (l ∷ [])
+    by true e = absurd_and dialect w f l e h
     by false e = rw h refl
-initial_formula (list j f) l h = cc
+initial_formula dialect (list j f) l h = cc
 
-initial_conjuncts : (f : Trees) (ls : List LiteralForm) → lists_of init_item_in f ≡ Some ls → conjuncts_of scope.Problem f ≡ Some ls
+initial_conjuncts : (dialect : Dialect) (f : Trees) (ls : List LiteralForm) → lists_of (init_item_in dialect) f ≡ Some ls → conjuncts_of (scope_at dialect place.Initial) f ≡ Some ls
 unfolding lists_of conjuncts_of followed_by joined with_front
-initial_conjuncts none ls h = h
-initial_conjuncts (word w f) ls h = cc
-initial_conjuncts (list k f) ls h = by (init_item_in k) (lists_of init_item_in f) refl refl (λ more. initial_conjuncts f more) h
+initial_conjuncts dialect none ls h = h
+initial_conjuncts dialect (word w f) ls h = cc
+initial_conjuncts dialect (list k f) ls h = by (init_item_in dialect k) (lists_of (init_item_in dialect) f) refl refl (λ more. initial_conjuncts dialect f more) h
   where
-    by : (item : Option LiteralForm) (others : Option (List LiteralForm)) → init_item_in k ≡ item → lists_of init_item_in f ≡ others →
-        ((more : List LiteralForm) → lists_of init_item_in f ≡ Some more → conjuncts_of scope.Problem f ≡ Some more) →
-        followed_by item others ≡ Some ls → joined (formula_in scope.Problem k) (conjuncts_of scope.Problem f) ≡ Some ls
+    by : (item : Option LiteralForm) (others : Option (List LiteralForm)) → init_item_in dialect k ≡ item → lists_of (init_item_in dialect) f ≡ others →
+        ((more : List LiteralForm) → lists_of (init_item_in dialect) f ≡ Some more → conjuncts_of (scope_at dialect place.Initial) f ≡ Some more) →
+        followed_by item others ≡ Some ls → joined (formula_in (scope_at dialect place.Initial) k) (conjuncts_of (scope_at dialect place.Initial) f) ≡ Some ls
     by None others e i rest h = cc
     by (Some l) None e i rest h = cc
-    by (Some l) (Some more) e i rest h = rw (initial_formula k l e, rest more i) h
+    by (Some l) (Some more) e i rest h = rw (initial_formula dialect k l e, rest more i) h
 
-initial_left : (f : Trees) → IsSome (lists_of init_item_in f) → literals_in scope.Problem f ≡ lists_of init_item_in f
-initial_left f h = by (lists_of init_item_in f) refl h
+initial_left : (dialect : Dialect) (f : Trees) → IsSome (lists_of (init_item_in dialect) f) → literals_in (scope_at dialect place.Initial) f ≡ lists_of (init_item_in dialect) f
+initial_left dialect f h = by (lists_of (init_item_in dialect) f) refl h
   where
-    by : (read : Option (List LiteralForm)) → lists_of init_item_in f ≡ read → IsSome read → literals_in scope.Problem f ≡ read
+    by : (read : Option (List LiteralForm)) → lists_of (init_item_in dialect) f ≡ read → IsSome read → literals_in (scope_at dialect place.Initial) f ≡ read
     by None e h = cc
     by (Some ls) e h =
-        let conjuncts = initial_conjuncts f ls e in
-        conjuncts_left scope.Problem f (rw conjuncts refl) ∙ conjuncts
+        let conjuncts = initial_conjuncts dialect f ls e in
+        conjuncts_left (scope_at dialect place.Initial) f (rw conjuncts refl) ∙ conjuncts
 
-pub initial_kept : (f : Trees) → are_initial f ≡ true → IsSome (literals_in scope.Problem f)
+pub initial_kept : (dialect : Dialect) (f : Trees) → are_initial dialect f ≡ true → IsSome (literals_in (scope_at dialect place.Initial) f)
 unfolding are_initial
-initial_kept f h = by (lists_of init_item_in f) h (initial_left f)
+initial_kept dialect f h = by (lists_of (init_item_in dialect) f) h (initial_left dialect f)
   where
-    by : (read : Option (List LiteralForm)) → is_some read ≡ true → (IsSome read → literals_in scope.Problem f ≡ read) → IsSome (literals_in scope.Problem f)
+    by : (read : Option (List LiteralForm)) → is_some read ≡ true → (IsSome read → literals_in (scope_at dialect place.Initial) f ≡ read) → IsSome (literals_in (scope_at dialect place.Initial) f)
     by None h same = cc
     by (Some ls) h same = rw (same refl) refl
 
-pub initial_so : (f : Trees) → are_initial f ≡ true → lists_of init_item_in f ≡ literals_in scope.Problem f
+pub initial_so : (dialect : Dialect) (f : Trees) → are_initial dialect f ≡ true → lists_of (init_item_in dialect) f ≡ literals_in (scope_at dialect place.Initial) f
 unfolding are_initial
-initial_so f h = by (lists_of init_item_in f) h (initial_left f)
+initial_so dialect f h = by (lists_of (init_item_in dialect) f) h (initial_left dialect f)
   where
-    by : (read : Option (List LiteralForm)) → is_some read ≡ true → (IsSome read → literals_in scope.Problem f ≡ read) → read ≡ literals_in scope.Problem f
+    by : (read : Option (List LiteralForm)) → is_some read ≡ true → (IsSome read → literals_in (scope_at dialect place.Initial) f ≡ read) → read ≡ literals_in (scope_at dialect place.Initial) f
     by None h same = cc
     by (Some ls) h same = sym (same refl)
 
-pub no_initial : (f : Trees) → are_initial f ≡ false → lists_of init_item_in f ≡ None
+pub no_initial : (dialect : Dialect) (f : Trees) → are_initial dialect f ≡ false → lists_of (init_item_in dialect) f ≡ None
 unfolding are_initial
-no_initial f h = nothing_there (lists_of init_item_in f) h
+no_initial dialect f h = nothing_there (lists_of (init_item_in dialect) f) h
 
 pub ruleset initial_steps = (initial_kept, initial_so, no_initial)

@@ -3,29 +3,31 @@
 use Rattle.std.proofs.Common.{◌≡◌, ℕ, ◌&&◌, Bool, true, false, List, [], Option, Some, None, is_some, unwrap_or, refl}
 use Rattle.std.specs.Global.{Vec}
 use Rattle.std.specs.Option.{option_map, option_and_then}
-use Rattle.pddl_syntax.specs.declared.heads.Scope.TheVariants as scope
+use Rattle.pddl_syntax.specs.declared.dialect.Dialect.{Dialect}
+use Rattle.pddl_syntax.specs.declared.heads.Place.TheVariants as place
 use Rattle.pddl_syntax.specs.declared.heads.ProblemSection.{ProblemSection}
 use Rattle.pddl_syntax.specs.declared.heads.ProblemSection.TheVariants.{Domain, Requirements, Objects, Init, Goal, Metric, Length}
 use Rattle.pddl_syntax.specs.declared.syntax.NameGroup as groups
 use Rattle.pddl_syntax.specs.declared.walk.NameWord.{NameWord}
-use Rattle.pddl_syntax.specs.Heads.{problem_section}
+use Rattle.pddl_syntax.specs.Heads.{problem_section, scope_at}
 use Rattle.pddl_syntax.specs.Keywords.{define_word, problem_word}
 use Rattle.pddl_syntax.specs.Optional.{guard, followed_by}
 use Rattle.pddl_syntax.specs.Forms.{name_groups, problem_sections_form}
 use Rattle.pddl_syntax.specs.Trees.{Trees, none, word, list}
-use Rattle.pddl_syntax.specs.Syntax.{NameGroup, keywords_of, typed_names, with_problem_requirements, with_objects, with_metric, with_length, LiteralForm, ProblemForm, ProblemSections, ended, end_of, first_list, behind_word, lone_name, header_of, lists_of, literal_of, init_item_in, are_initial, formula_in, goal_of, no_problem_sections, with_domain, with_init, with_goal, is_problem_section_given, problem_section_by, problem_section_headed, problem_section_in, problem_sections_of, problem_form, problem_by, problem_body, problem_in, problem_syntax}
+use Rattle.pddl_syntax.specs.Syntax.{NameGroup, keywords_of, typed_names, with_problem_requirements, with_objects, with_metric, with_length, LiteralForm, ProblemForm, ProblemSections, ended, end_of, first_list, behind_word, lone_name, header_of, lists_of, init_item_in, formula_in, goal_of, no_problem_sections, with_domain, with_init, with_goal, is_problem_section_given, problem_section_by, problem_section_headed, problem_section_in, problem_sections_of, problem_form, problem_by, problem_body, problem_in, problem_syntax}
+use Rattle.pddl_syntax.specs.Presence.{is_literal, is_init_item, are_initial}
 
-pub init_item_none : init_item_in none ≡ None
-unfolding init_item_in
-init_item_none = refl
+pub init_item_none : (dialect : Dialect) → is_init_item dialect none ≡ false
+unfolding is_init_item init_item_in
+init_item_none dialect = refl
 
-pub init_item_list : (k f : Trees) → init_item_in (list k f) ≡ None
-unfolding init_item_in
-init_item_list k f = refl
+pub init_item_list : (dialect : Dialect) (k f : Trees) → is_init_item dialect (list k f) ≡ false
+unfolding is_init_item init_item_in
+init_item_list dialect k f = refl
 
-pub init_item_word : (w : List ℕ) (f : Trees) → init_item_in (word w f) ≡ literal_of scope.Problem w f
-unfolding init_item_in
-init_item_word w f = refl
+pub init_item_word : (dialect : Dialect) (w : List ℕ) (f : Trees) → is_init_item dialect (word w f) ≡ is_literal (scope_at dialect place.Initial) w f
+unfolding is_init_item is_literal init_item_in
+init_item_word dialect w f = refl
 
 pub ruleset init_item_steps = (init_item_none, init_item_list, init_item_word)
 
@@ -35,163 +37,163 @@ is_some-followed_by None others = refl
 is_some-followed_by (Some l) None = refl
 is_some-followed_by (Some l) (Some ls) = refl
 
-initial_list : (k f : Trees) → are_initial (list k f) ≡ is_some (init_item_in k) && are_initial f
+initial_list : (dialect : Dialect) (k f : Trees) → are_initial dialect (list k f) ≡ is_init_item dialect k && are_initial dialect f
+unfolding are_initial is_init_item lists_of
+initial_list dialect k f = is_some-followed_by (init_item_in dialect k) (lists_of (init_item_in dialect) f)
+
+pub initial_end : (dialect : Dialect) → are_initial dialect none ≡ true
 unfolding are_initial lists_of
-initial_list k f = is_some-followed_by (init_item_in k) (lists_of init_item_in f)
+initial_end dialect = refl
 
-pub initial_end : are_initial none ≡ true
+pub initial_word : (dialect : Dialect) (w : List ℕ) (f : Trees) → are_initial dialect (word w f) ≡ false
 unfolding are_initial lists_of
-initial_end = refl
+initial_word dialect w f = refl
 
-pub initial_word : (w : List ℕ) (f : Trees) → are_initial (word w f) ≡ false
-unfolding are_initial lists_of
-initial_word w f = refl
+pub initial_first : (dialect : Dialect) (k f : Trees) → is_init_item dialect k ≡ true → are_initial dialect (list k f) ≡ are_initial dialect f
+initial_first dialect k f h = rw (initial_list dialect k f, h) refl
 
-pub initial_first : (k f : Trees) (l : LiteralForm) → init_item_in k ≡ Some l → are_initial (list k f) ≡ are_initial f
-initial_first k f l h = rw (initial_list k f, h) refl
-
-pub initial_no_first : (k f : Trees) → init_item_in k ≡ None → are_initial (list k f) ≡ false
-initial_no_first k f h = rw (initial_list k f, h) refl
+pub initial_no_first : (dialect : Dialect) (k f : Trees) → is_init_item dialect k ≡ false → are_initial dialect (list k f) ≡ false
+initial_no_first dialect k f h = rw (initial_list dialect k f, h) refl
 
 pub ruleset init_steps = (initial_end, initial_word, initial_first, initial_no_first)
 
-pub goal_no_list : (f : Trees) → first_list f ≡ None → goal_of f ≡ None
+pub goal_no_list : (dialect : Dialect) (f : Trees) → first_list f ≡ None → goal_of dialect f ≡ None
 unfolding goal_of first_list
-goal_no_list none h = refl
-goal_no_list (word w f) h = refl
-goal_no_list (list k f) h = cc
+goal_no_list dialect none h = refl
+goal_no_list dialect (word w f) h = refl
+goal_no_list dialect (list k f) h = cc
 
-pub goal_refused : (k f : Trees) → formula_in scope.Problem k ≡ None → goal_of (list k f) ≡ None
+pub goal_refused : (dialect : Dialect) (k f : Trees) → formula_in (scope_at dialect place.Goal) k ≡ None → goal_of dialect (list k f) ≡ None
 unfolding goal_of ended
-goal_refused k none h = h
-goal_refused k (word w f) h = refl
-goal_refused k (list j f) h = refl
+goal_refused dialect k none h = h
+goal_refused dialect k (word w f) h = refl
+goal_refused dialect k (list j f) h = refl
 
-pub goal_more : (k f : Trees) → end_of f ≡ None → goal_of (list k f) ≡ None
+pub goal_more : (dialect : Dialect) (k f : Trees) → end_of f ≡ None → goal_of dialect (list k f) ≡ None
 unfolding goal_of end_of ended
-goal_more k none h = cc
-goal_more k (word w f) h = refl
-goal_more k (list j f) h = refl
+goal_more dialect k none h = cc
+goal_more dialect k (word w f) h = refl
+goal_more dialect k (list j f) h = refl
 
-pub goal_alone : (k f : Trees) → end_of f ≡ Some tt → goal_of (list k f) ≡ formula_in scope.Problem k
+pub goal_alone : (dialect : Dialect) (k f : Trees) → end_of f ≡ Some tt → goal_of dialect (list k f) ≡ formula_in (scope_at dialect place.Goal) k
 unfolding goal_of end_of ended
-goal_alone k none h = refl
-goal_alone k (word w f) h = cc
-goal_alone k (list j f) h = cc
+goal_alone dialect k none h = refl
+goal_alone dialect k (word w f) h = cc
+goal_alone dialect k (list j f) h = cc
 
 pub ruleset goal_steps = (goal_no_list, goal_refused, goal_more, goal_alone)
 
-pub domain_body : (given : ProblemSections) (k : Trees) (value : List ℕ) → lone_name k ≡ Some value →
-    problem_section_by Domain given k ≡ Some (with_domain given value)
+pub domain_body : (dialect : Dialect) (given : ProblemSections) (k : Trees) (value : List ℕ) → lone_name k ≡ Some value →
+    problem_section_by dialect Domain given k ≡ Some (with_domain given value)
 unfolding problem_section_by
-domain_body given k value h = rw h refl
+domain_body dialect given k value h = rw h refl
 
-pub no_domain_body : (given : ProblemSections) (k : Trees) → lone_name k ≡ None → problem_section_by Domain given k ≡ None
+pub no_domain_body : (dialect : Dialect) (given : ProblemSections) (k : Trees) → lone_name k ≡ None → problem_section_by dialect Domain given k ≡ None
 unfolding problem_section_by
-no_domain_body given k h = rw h refl
+no_domain_body dialect given k h = rw h refl
 
-pub requirements_body : (given : ProblemSections) (k : Trees) → keywords_of k ≡ Some tt → problem_section_by Requirements given k ≡ Some (with_problem_requirements given)
+pub requirements_body : (dialect : Dialect) (given : ProblemSections) (k : Trees) → keywords_of k ≡ Some tt → problem_section_by dialect Requirements given k ≡ Some (with_problem_requirements given)
 unfolding problem_section_by
-requirements_body given k h = rw h refl
+requirements_body dialect given k h = rw h refl
 
-pub no_requirements_body : (given : ProblemSections) (k : Trees) → keywords_of k ≡ None → problem_section_by Requirements given k ≡ None
+pub no_requirements_body : (dialect : Dialect) (given : ProblemSections) (k : Trees) → keywords_of k ≡ None → problem_section_by dialect Requirements given k ≡ None
 unfolding problem_section_by
-no_requirements_body given k h = rw h refl
+no_requirements_body dialect given k h = rw h refl
 
-pub objects_body : (given : ProblemSections) (k : Trees) (value : List NameGroup) → typed_names [] k ≡ Some value →
-    problem_section_by Objects given k ≡ Some (with_objects given value)
+pub objects_body : (dialect : Dialect) (given : ProblemSections) (k : Trees) (value : List NameGroup) → typed_names [] k ≡ Some value →
+    problem_section_by dialect Objects given k ≡ Some (with_objects given value)
 unfolding problem_section_by
-objects_body given k value h = rw h refl
+objects_body dialect given k value h = rw h refl
 
-pub no_objects_body : (given : ProblemSections) (k : Trees) → typed_names [] k ≡ None → problem_section_by Objects given k ≡ None
+pub no_objects_body : (dialect : Dialect) (given : ProblemSections) (k : Trees) → typed_names [] k ≡ None → problem_section_by dialect Objects given k ≡ None
 unfolding problem_section_by
-no_objects_body given k h = rw h refl
+no_objects_body dialect given k h = rw h refl
 
-pub metric_body : (given : ProblemSections) (k : Trees) → problem_section_by Metric given k ≡ Some (with_metric given)
+pub metric_body : (dialect : Dialect) (given : ProblemSections) (k : Trees) → problem_section_by dialect Metric given k ≡ Some (with_metric given)
 unfolding problem_section_by
-metric_body given k = refl
+metric_body dialect given k = refl
 
-pub length_body : (given : ProblemSections) (k : Trees) → problem_section_by Length given k ≡ Some (with_length given)
+pub length_body : (dialect : Dialect) (given : ProblemSections) (k : Trees) → problem_section_by dialect Length given k ≡ Some (with_length given)
 unfolding problem_section_by
-length_body given k = refl
+length_body dialect given k = refl
 
-pub init_body : (given : ProblemSections) (k : Trees) (value : List LiteralForm) → lists_of init_item_in k ≡ Some value →
-    problem_section_by Init given k ≡ Some (with_init given value)
+pub init_body : (dialect : Dialect) (given : ProblemSections) (k : Trees) (value : List LiteralForm) → lists_of (init_item_in dialect) k ≡ Some value →
+    problem_section_by dialect Init given k ≡ Some (with_init given value)
 unfolding problem_section_by
-init_body given k value h = rw h refl
+init_body dialect given k value h = rw h refl
 
-pub no_init_body : (given : ProblemSections) (k : Trees) → lists_of init_item_in k ≡ None → problem_section_by Init given k ≡ None
+pub no_init_body : (dialect : Dialect) (given : ProblemSections) (k : Trees) → lists_of (init_item_in dialect) k ≡ None → problem_section_by dialect Init given k ≡ None
 unfolding problem_section_by
-no_init_body given k h = rw h refl
+no_init_body dialect given k h = rw h refl
 
-pub goal_body : (given : ProblemSections) (k : Trees) (value : List LiteralForm) → goal_of k ≡ Some value →
-    problem_section_by Goal given k ≡ Some (with_goal given value)
+pub goal_body : (dialect : Dialect) (given : ProblemSections) (k : Trees) (value : List LiteralForm) → goal_of dialect k ≡ Some value →
+    problem_section_by dialect Goal given k ≡ Some (with_goal given value)
 unfolding problem_section_by
-goal_body given k value h = rw h refl
+goal_body dialect given k value h = rw h refl
 
-pub no_goal_body : (given : ProblemSections) (k : Trees) → goal_of k ≡ None → problem_section_by Goal given k ≡ None
+pub no_goal_body : (dialect : Dialect) (given : ProblemSections) (k : Trees) → goal_of dialect k ≡ None → problem_section_by dialect Goal given k ≡ None
 unfolding problem_section_by
-no_goal_body given k h = rw h refl
+no_goal_body dialect given k h = rw h refl
 
 pub ruleset body_steps = (requirements_body, no_requirements_body, objects_body, no_objects_body, metric_body, length_body, domain_body, no_domain_body, init_body, no_init_body, goal_body, no_goal_body)
 
-pub section_none : (given : ProblemSections) → problem_section_in given none ≡ None
+pub section_none : (dialect : Dialect) (given : ProblemSections) → problem_section_in dialect given none ≡ None
 unfolding problem_section_in
-section_none given = refl
+section_none dialect given = refl
 
-pub section_list : (given : ProblemSections) (k f : Trees) → problem_section_in given (list k f) ≡ None
+pub section_list : (dialect : Dialect) (given : ProblemSections) (k f : Trees) → problem_section_in dialect given (list k f) ≡ None
 unfolding problem_section_in
-section_list given k f = refl
+section_list dialect given k f = refl
 
-pub section_word : (given : ProblemSections) (w : List ℕ) (f : Trees) → problem_section_in given (word w f) ≡ problem_section_headed (problem_section w) given f
+pub section_word : (dialect : Dialect) (given : ProblemSections) (w : List ℕ) (f : Trees) → problem_section_in dialect given (word w f) ≡ problem_section_headed dialect (problem_section w) given f
 unfolding problem_section_in
-section_word given w f = refl
+section_word dialect given w f = refl
 
-pub no_section_headed : (given : ProblemSections) (f : Trees) → problem_section_headed None given f ≡ None
+pub no_section_headed : (dialect : Dialect) (given : ProblemSections) (f : Trees) → problem_section_headed dialect None given f ≡ None
 unfolding problem_section_headed
-no_section_headed given f = refl
+no_section_headed dialect given f = refl
 
-pub section_again : (headed : ProblemSection) (given : ProblemSections) (f : Trees) → is_problem_section_given headed given ≡ true →
-    problem_section_headed (Some headed) given f ≡ None
+pub section_again : (dialect : Dialect) (headed : ProblemSection) (given : ProblemSections) (f : Trees) → is_problem_section_given headed given ≡ true →
+    problem_section_headed dialect (Some headed) given f ≡ None
 unfolding problem_section_headed guard
-section_again headed given f h = rw h refl
+section_again dialect headed given f h = rw h refl
 
-pub section_due : (headed : ProblemSection) (given : ProblemSections) (f : Trees) → is_problem_section_given headed given ≡ false →
-    problem_section_headed (Some headed) given f ≡ problem_section_by headed given f
+pub section_due : (dialect : Dialect) (headed : ProblemSection) (given : ProblemSections) (f : Trees) → is_problem_section_given headed given ≡ false →
+    problem_section_headed dialect (Some headed) given f ≡ problem_section_by dialect headed given f
 unfolding problem_section_headed guard
-section_due headed given f h = rw h refl
+section_due dialect headed given f h = rw h refl
 
 pub ruleset section_steps = (section_none, section_list, section_word, no_section_headed, section_again, section_due)
 
 -- what is read behind a section
-unfoldable pub sections_behind : Option ProblemSections → Trees → Option ProblemSections
-sections_behind None others = None
-sections_behind (Some given) others = problem_sections_of given others
+unfoldable pub sections_behind : Dialect → Option ProblemSections → Trees → Option ProblemSections
+sections_behind dialect None others = None
+sections_behind dialect (Some given) others = problem_sections_of dialect given others
 
-sections_read : (given : Option ProblemSections) (f : Trees) → option_and_then (λ more. problem_sections_of more f) given ≡ sections_behind given f
+sections_read : (dialect : Dialect) (given : Option ProblemSections) (f : Trees) → option_and_then (λ more. problem_sections_of dialect more f) given ≡ sections_behind dialect given f
 unfolding sections_behind
-sections_read None f = refl
-sections_read (Some given) f = refl
+sections_read dialect None f = refl
+sections_read dialect (Some given) f = refl
 
-pub sections_end : (given : ProblemSections) → problem_sections_of given none ≡ Some given
+pub sections_end : (dialect : Dialect) (given : ProblemSections) → problem_sections_of dialect given none ≡ Some given
 unfolding problem_sections_of
-sections_end given = refl
+sections_end dialect given = refl
 
-pub sections_word : (given : ProblemSections) (w : List ℕ) (f : Trees) → problem_sections_of given (word w f) ≡ None
+pub sections_word : (dialect : Dialect) (given : ProblemSections) (w : List ℕ) (f : Trees) → problem_sections_of dialect given (word w f) ≡ None
 unfolding problem_sections_of
-sections_word given w f = refl
+sections_word dialect given w f = refl
 
-pub sections_list : (given : ProblemSections) (k f : Trees) → problem_sections_of given (list k f) ≡ sections_behind (problem_section_in given k) f
+pub sections_list : (dialect : Dialect) (given : ProblemSections) (k f : Trees) → problem_sections_of dialect given (list k f) ≡ sections_behind dialect (problem_section_in dialect given k) f
 unfolding problem_sections_of
-sections_list given k f = sections_read (problem_section_in given k) f
+sections_list dialect given k f = sections_read dialect (problem_section_in dialect given k) f
 
-pub no_sections_behind : (f : Trees) → sections_behind None f ≡ None
+pub no_sections_behind : (dialect : Dialect) (f : Trees) → sections_behind dialect None f ≡ None
 unfolding sections_behind
-no_sections_behind f = refl
+no_sections_behind dialect f = refl
 
-pub some_sections_behind : (given : ProblemSections) (f : Trees) → sections_behind (Some given) f ≡ problem_sections_of given f
+pub some_sections_behind : (dialect : Dialect) (given : ProblemSections) (f : Trees) → sections_behind dialect (Some given) f ≡ problem_sections_of dialect given f
 unfolding sections_behind
-some_sections_behind given f = refl
+some_sections_behind dialect given f = refl
 
 pub no_sections_form : problem_sections_form (record { domain = None; requirements = false; objects = None; init = None; goal = None; metric = false; length = false }) ≡ no_problem_sections
 unfolding problem_sections_form no_problem_sections
@@ -200,36 +202,36 @@ no_sections_form = refl
 pub ruleset sections_steps = (no_sections_form, sections_end, sections_word, sections_list, no_sections_behind, some_sections_behind)
 
 -- what is read behind `define`
-unfoldable pub body_behind : Option Trees → Option ProblemForm
-body_behind None = None
-body_behind (Some f) = problem_body f
+unfoldable pub body_behind : Dialect → Option Trees → Option ProblemForm
+body_behind dialect None = None
+body_behind dialect (Some f) = problem_body dialect f
 
-body_read : (f : Option Trees) → option_and_then problem_body f ≡ body_behind f
+body_read : (dialect : Dialect) (f : Option Trees) → option_and_then (problem_body dialect) f ≡ body_behind dialect f
 unfolding body_behind
-body_read None = refl
-body_read (Some f) = refl
+body_read dialect None = refl
+body_read dialect (Some f) = refl
 
-pub problem_behind : (f : Trees) → problem_in f ≡ body_behind (behind_word define_word f)
+pub problem_behind : (dialect : Dialect) (f : Trees) → problem_in dialect f ≡ body_behind dialect (behind_word define_word f)
 unfolding problem_in
-problem_behind f = body_read (behind_word define_word f)
+problem_behind dialect f = body_read dialect (behind_word define_word f)
 
-pub body_behind_none : body_behind None ≡ None
+pub body_behind_none : (dialect : Dialect) → body_behind dialect None ≡ None
 unfolding body_behind
-body_behind_none = refl
+body_behind_none dialect = refl
 
-pub body_behind_some : (f : Trees) → body_behind (Some f) ≡ problem_body f
+pub body_behind_some : (dialect : Dialect) (f : Trees) → body_behind dialect (Some f) ≡ problem_body dialect f
 unfolding body_behind
-body_behind_some f = refl
+body_behind_some dialect f = refl
 
-pub no_body_list : (f : Trees) → first_list f ≡ None → problem_body f ≡ None
+pub no_body_list : (dialect : Dialect) (f : Trees) → first_list f ≡ None → problem_body dialect f ≡ None
 unfolding problem_body first_list
-no_body_list none h = refl
-no_body_list (word w f) h = refl
-no_body_list (list k f) h = cc
+no_body_list dialect none h = refl
+no_body_list dialect (word w f) h = refl
+no_body_list dialect (list k f) h = cc
 
-pub body_list : (k f : Trees) → problem_body (list k f) ≡ problem_by (header_of problem_word k) (problem_sections_of no_problem_sections f)
+pub body_list : (dialect : Dialect) (k f : Trees) → problem_body dialect (list k f) ≡ problem_by (header_of problem_word k) (problem_sections_of dialect no_problem_sections f)
 unfolding problem_body
-body_list k f = refl
+body_list dialect k f = refl
 
 pub by_no_name : (given : Option ProblemSections) → problem_by None given ≡ None
 unfolding problem_by
@@ -266,28 +268,28 @@ by_all name r m l domain objects init goal = refl
 
 pub ruleset problem_steps = (problem_behind, body_behind_none, body_behind_some, no_body_list, body_list, by_no_name, by_no_sections, by_no_domain, by_no_goal, by_all)
 
-pub problem_no_list : (f : Trees) → first_list f ≡ None → problem_syntax f ≡ None
+pub problem_no_list : (dialect : Dialect) (f : Trees) → first_list f ≡ None → problem_syntax dialect f ≡ None
 unfolding problem_syntax first_list
-problem_no_list none h = refl
-problem_no_list (word w f) h = refl
-problem_no_list (list k f) h = cc
+problem_no_list dialect none h = refl
+problem_no_list dialect (word w f) h = refl
+problem_no_list dialect (list k f) h = cc
 
-pub problem_refused : (k f : Trees) → problem_in k ≡ None → problem_syntax (list k f) ≡ None
+pub problem_refused : (dialect : Dialect) (k f : Trees) → problem_in dialect k ≡ None → problem_syntax dialect (list k f) ≡ None
 unfolding problem_syntax ended
-problem_refused k none h = h
-problem_refused k (word w f) h = refl
-problem_refused k (list j f) h = refl
+problem_refused dialect k none h = h
+problem_refused dialect k (word w f) h = refl
+problem_refused dialect k (list j f) h = refl
 
-pub problem_more : (k f : Trees) → end_of f ≡ None → problem_syntax (list k f) ≡ None
+pub problem_more : (dialect : Dialect) (k f : Trees) → end_of f ≡ None → problem_syntax dialect (list k f) ≡ None
 unfolding problem_syntax end_of ended
-problem_more k none h = cc
-problem_more k (word w f) h = refl
-problem_more k (list j f) h = refl
+problem_more dialect k none h = cc
+problem_more dialect k (word w f) h = refl
+problem_more dialect k (list j f) h = refl
 
-pub problem_alone : (k f : Trees) → end_of f ≡ Some tt → problem_syntax (list k f) ≡ problem_in k
+pub problem_alone : (dialect : Dialect) (k f : Trees) → end_of f ≡ Some tt → problem_syntax dialect (list k f) ≡ problem_in dialect k
 unfolding problem_syntax end_of ended
-problem_alone k none h = refl
-problem_alone k (word w f) h = cc
-problem_alone k (list j f) h = cc
+problem_alone dialect k none h = refl
+problem_alone dialect k (word w f) h = cc
+problem_alone dialect k (list j f) h = cc
 
 pub ruleset problem_text_steps = (problem_no_list, problem_refused, problem_more, problem_alone)

@@ -5,7 +5,12 @@ use Rattle.std.specs.Option.{option_map}
 use Rattle.pddl_syntax.specs.declared.walk.Word.{Word}
 use Rattle.pddl_syntax.specs.declared.walk.NameWord.{NameWord}
 use Rattle.pddl_syntax.specs.declared.syntax.AtomSyntax.{AtomSyntax}
+use Rattle.pddl_syntax.specs.declared.syntax.EqualitySyntax.{EqualitySyntax}
+use Rattle.pddl_syntax.specs.declared.syntax.AmountSyntax.{AmountSyntax}
+use Rattle.pddl_syntax.specs.declared.syntax.AmountSyntax.TheVariants as amounts
+use Rattle.pddl_syntax.specs.declared.syntax.ValueSyntax.{ValueSyntax}
 use Rattle.pddl_syntax.specs.declared.syntax.LiteralSyntax.{LiteralSyntax}
+use Rattle.pddl_syntax.specs.declared.syntax.LiteralSyntax.TheVariants as literals
 use Rattle.pddl_syntax.specs.declared.syntax.PredicateSyntax.{PredicateSyntax}
 use Rattle.pddl_syntax.specs.declared.syntax.NameGroup as groups
 use Rattle.pddl_syntax.specs.declared.syntax.VariableGroup as variables
@@ -15,7 +20,7 @@ use Rattle.pddl_syntax.specs.declared.syntax.DomainSections as domain
 use Rattle.pddl_syntax.specs.declared.syntax.DomainSyntax.{DomainSyntax}
 use Rattle.pddl_syntax.specs.declared.syntax.ProblemSections as problem
 use Rattle.pddl_syntax.specs.declared.syntax.ProblemSyntax.{ProblemSyntax}
-use Rattle.pddl_syntax.specs.Syntax.{NameGroup, VariableGroup, AtomForm, LiteralForm, PredicateForm, ActionForm, ActionParts, DomainForm, DomainSections, ProblemForm, ProblemSections, action_form, domain_form}
+use Rattle.pddl_syntax.specs.Syntax.{NameGroup, VariableGroup, AtomForm, EqualityForm, AmountForm, number_amount, function_amount, ValueForm, LiteralForm, atom_literal, equality_literal, increase_literal, value_literal, PredicateForm, ActionForm, ActionParts, DomainForm, DomainSections, ProblemForm, ProblemSections, action_form, domain_form}
 
 -- the bytes of a word
 abbrev pub word_form : Word → List ℕ
@@ -45,8 +50,21 @@ variable_groups gs = map variable_group_form gs
 abbrev pub atom_form : AtomSyntax → AtomForm
 atom_form a = record { predicate = a.predicate.text.now; terms = word_forms a.terms.items }
 
+abbrev pub equality_form : EqualitySyntax → EqualityForm
+equality_form e = record { left = e.left.text.now; right = e.right.text.now }
+
+abbrev pub amount_form : AmountSyntax → AmountForm
+amount_form (amounts.Number n) = number_amount n
+amount_form (amounts.Function f) = function_amount (atom_form f)
+
+abbrev pub value_form : ValueSyntax → ValueForm
+value_form v = record { function = atom_form v.function; value = v.value }
+
 abbrev pub literal_form : LiteralSyntax → LiteralForm
-literal_form l = record { positive = l.positive; atom = atom_form l.atom }
+literal_form (literals.Atom positive a) = atom_literal positive (atom_form a)
+literal_form (literals.Equality positive e) = equality_literal positive (equality_form e)
+literal_form (literals.Increase by) = increase_literal (amount_form by.amount)
+literal_form (literals.Value v) = value_literal (value_form v)
 
 abbrev pub predicate_form : PredicateSyntax → PredicateForm
 predicate_form p = record { name = p.name.text.now; variables = p.variables }
@@ -73,6 +91,7 @@ domain_sections_form s = record {
   types = option_map (λ v. name_groups v.items) s.types;
   constants = option_map (λ v. name_groups v.items) s.constants;
   predicates = option_map (λ v. predicate_forms v.items) s.predicates;
+  functions = option_map (λ v. predicate_forms v.items) s.functions;
   actions = action_forms s.actions.items;
 }
 

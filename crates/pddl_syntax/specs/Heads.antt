@@ -1,21 +1,26 @@
 -- What the first word of a list says of it.
 
-use Rattle.std.specs.Prelude.{ℕ, List, Bool, true, false, ◌||◌, Option, Some, None, if◌then◌else◌}
+use Rattle.std.specs.Prelude.{ℕ, List, Bool, true, false, ◌||◌, ◌&&◌, Option, Some, None, if◌then◌else◌}
 use Rattle.pddl_words.specs.Words.{is_name}
 use Rattle.pddl_words.specs.declared.WordKind.{WordKind}
 use Rattle.pddl_words.specs.declared.WordKind.TheVariants.{Name, Variable, Keyword, Dash, Other}
 use Rattle.pddl_words.specs.Kinds.{is_same_word, kind_of_word}
+use Rattle.pddl_syntax.specs.declared.dialect.Dialect.{Dialect}
+use Rattle.pddl_syntax.specs.declared.dialect.Dialect.TheVariants as dialect
+use Rattle.pddl_syntax.specs.declared.heads.Place.{Place}
+use Rattle.pddl_syntax.specs.declared.heads.Place.TheVariants as place
 use Rattle.pddl_syntax.specs.declared.heads.Scope.{Scope}
-use Rattle.pddl_syntax.specs.declared.heads.Scope.TheVariants as scope
 use Rattle.pddl_syntax.specs.declared.heads.FormulaHead.{FormulaHead}
 use Rattle.pddl_syntax.specs.declared.heads.FormulaHead.TheVariants as formula
+use Rattle.pddl_syntax.specs.declared.heads.LiteralHead.{LiteralHead}
+use Rattle.pddl_syntax.specs.declared.heads.LiteralHead.TheVariants as head
 use Rattle.pddl_syntax.specs.declared.heads.DomainSection.{DomainSection}
 use Rattle.pddl_syntax.specs.declared.heads.DomainSection.TheVariants as section
 use Rattle.pddl_syntax.specs.declared.heads.ActionPart.{ActionPart}
 use Rattle.pddl_syntax.specs.declared.heads.ActionPart.TheVariants as part
 use Rattle.pddl_syntax.specs.declared.heads.ProblemSection.{ProblemSection}
 use Rattle.pddl_syntax.specs.declared.heads.ProblemSection.TheVariants as problem
-use Rattle.pddl_syntax.specs.Keywords.{and_word, not_word, either_word, dash_word, is_other_reserved, requirements_keyword, types_keyword, constants_keyword, predicates_keyword, action_keyword, parameters_keyword, precondition_keyword, effect_keyword, domain_keyword, objects_keyword, init_keyword, goal_keyword, metric_keyword, length_keyword}
+use Rattle.pddl_syntax.specs.Keywords.{and_word, not_word, either_word, dash_word, equals_word, increase_word, is_change, is_other_reserved, functions_keyword, requirements_keyword, types_keyword, constants_keyword, predicates_keyword, action_keyword, parameters_keyword, precondition_keyword, effect_keyword, domain_keyword, objects_keyword, init_keyword, goal_keyword, metric_keyword, length_keyword}
 
 -- whether a word heads a conjunction
 unfoldable pub is_and : List ℕ → Bool
@@ -53,12 +58,22 @@ is_variable_kind Other = false
 unfoldable pub is_variable : List ℕ → Bool
 is_variable w = is_variable_kind (kind_of_word w)
 
--- Term = N | V in actions, N in problems
-unfoldable pub is_term : Scope → List ℕ → Bool
-is_term scope.Action w = is_name w || is_variable w
-is_term scope.Problem w = is_name w
+-- a place in a text of a dialect
+abbrev pub scope_at : Dialect → Place → Scope
+scope_at dialect place = record { dialect = dialect; place = place }
 
--- what a word heads where a formula, an effect, an initial atom or the declaration of a predicate is due
+-- Term = N | V in actions, N in problems
+unfoldable pub is_term : Place → List ℕ → Bool
+is_term place.Precondition w = is_name w || is_variable w
+is_term place.Effect w = is_name w || is_variable w
+is_term place.Initial w = is_name w
+is_term place.Goal w = is_name w
+
+-- any word, where it is known that it may stand
+abbrev pub is_any : List ℕ → Bool
+is_any w = true
+
+-- what a word heads where a formula, an effect, an initial atom, a function or the declaration of a predicate or a function is due
 unfoldable pub formula_head : List ℕ → FormulaHead
 formula_head w =
     if is_same_word w and_word then formula.And
@@ -67,15 +82,59 @@ formula_head w =
     else (if is_name w then formula.Name
     else formula.Other)))
 
+-- what `=` heads, before a list or not: terms are compared in preconditions and goals, and functions get their values among the initial atoms
+abbrev pub equals_head : Dialect → Place → Bool → LiteralHead
+equals_head dialect.Strips place opens = head.Reserved
+equals_head dialect.Ipc place.Precondition opens = head.Equality
+equals_head dialect.Ipc place.Goal opens = head.Equality
+equals_head dialect.Ipc place.Initial opens = (if opens then head.Value else head.Reserved)
+equals_head dialect.Ipc place.Effect opens = head.Reserved
+
+-- whether numbers are changed at a place
+abbrev pub has_changes : Dialect → Place → Bool
+has_changes dialect.Strips place = false
+has_changes dialect.Ipc place.Precondition = false
+has_changes dialect.Ipc place.Effect = true
+has_changes dialect.Ipc place.Initial = false
+has_changes dialect.Ipc place.Goal = false
+
+-- what a name heads, before a list or not: it is a predicate, unless it changes a number, which is always that of a list
+abbrev pub name_head : Scope → List ℕ → Bool → LiteralHead
+name_head scope w opens =
+    if has_changes scope.dialect scope.place && (is_change w && opens) then (if is_same_word w increase_word then head.Increase else head.Reserved)
+    else head.Atom
+
+-- what a reserved word besides `and` and `not` heads, before a list or not
+abbrev pub reserved_head : Scope → List ℕ → Bool → LiteralHead
+reserved_head scope w opens = if is_same_word w equals_word then equals_head scope.dialect scope.place opens else head.Reserved
+
+-- what a word heads where a literal is due, from what it heads elsewhere
+abbrev pub head_by : FormulaHead → Scope → List ℕ → Bool → LiteralHead
+head_by formula.And scope w opens = head.Reserved
+head_by formula.Not scope w opens = head.Not
+head_by formula.Reserved scope w opens = reserved_head scope w opens
+head_by formula.Name scope w opens = name_head scope w opens
+head_by formula.Other scope w opens = head.Other
+
+-- what a word heads where a literal is due; a list follows it directly, or none does
+unfoldable pub literal_head : Scope → List ℕ → Bool → LiteralHead
+literal_head scope w opens = head_by (formula_head w) scope w opens
+
+-- whether domains have functions
+abbrev pub has_functions : Dialect → Bool
+has_functions dialect.Strips = false
+has_functions dialect.Ipc = true
+
 -- the section of a domain that a keyword heads, if any
-unfoldable pub domain_section : List ℕ → Option DomainSection
-domain_section w =
+unfoldable pub domain_section : Dialect → List ℕ → Option DomainSection
+domain_section dialect w =
     if is_same_word w requirements_keyword then Some section.Requirements
     else (if is_same_word w types_keyword then Some section.Types
     else (if is_same_word w constants_keyword then Some section.Constants
     else (if is_same_word w predicates_keyword then Some section.Predicates
     else (if is_same_word w action_keyword then Some section.Action
-    else None))))
+    else (if has_functions dialect && is_same_word w functions_keyword then Some section.Functions
+    else None)))))
 
 -- the part of an action that a keyword names, if any
 unfoldable pub action_part : List ℕ → Option ActionPart

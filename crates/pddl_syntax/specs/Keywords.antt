@@ -24,6 +24,22 @@ either_word = codes "either"
 abbrev pub object_word : List ℕ
 object_word = codes "object"
 
+-- what compares two terms, or gives a function its value
+abbrev pub equals_word : List ℕ
+equals_word = codes "="
+
+-- what raises a number by an amount
+abbrev pub increase_word : List ℕ
+increase_word = codes "increase"
+
+-- the function without variables that counts what a plan costs
+abbrev pub total_cost_word : List ℕ
+total_cost_word = codes "total-cost"
+
+-- the type of numbers
+abbrev pub number_word : List ℕ
+number_word = codes "number"
+
 -- what stands before a type
 abbrev pub dash_word : List ℕ
 dash_word = codes "-"
@@ -48,6 +64,9 @@ length_keyword = codes ":length"
 
 abbrev pub predicates_keyword : List ℕ
 predicates_keyword = codes ":predicates"
+
+abbrev pub functions_keyword : List ℕ
+functions_keyword = codes ":functions"
 
 abbrev pub action_keyword : List ℕ
 action_keyword = codes ":action"
@@ -82,9 +101,15 @@ is_quantifier w = is_same_word w (codes "exists") || is_same_word w (codes "fora
 -- the words that compare
 unfoldable pub is_comparison : List ℕ → Bool
 is_comparison w =
-    is_same_word w (codes "=") || is_same_word w (codes "<") || is_same_word w (codes ">") || is_same_word w (codes "<=") ||
+    is_same_word w equals_word || is_same_word w (codes "<") || is_same_word w (codes ">") || is_same_word w (codes "<=") ||
     is_same_word w (codes ">=")
 
 -- the words besides `and` and `not` that name no predicate
 unfoldable pub is_other_reserved : List ℕ → Bool
 is_other_reserved w = is_connective w || is_quantifier w || is_comparison w
+
+-- the words that change a number (PDDL 2.1, Fox and Long 2003, section 3)
+unfoldable pub is_change : List ℕ → Bool
+is_change w =
+    is_same_word w increase_word || is_same_word w (codes "decrease") || is_same_word w (codes "assign") || is_same_word w (codes "scale-up") ||
+    is_same_word w (codes "scale-down")

@@ -9,6 +9,8 @@ pub mod Keywords
 pub mod Heads
 pub mod Optional
 pub mod Syntax
+pub mod Presence
 pub mod Reading
 pub mod Forms
 pub mod Remaining
+pub mod Dialects

@@ -8,9 +8,10 @@ use Rattle.pddl_syntax.specs.declared.walk.NameWord.{NameWord}
 use Rattle.pddl_syntax.specs.Keywords.{object_word}
 use Rattle.pddl_syntax.specs.ReadFault.{out_of_memory}
 use Rattle.pddl_syntax.specs.Trees.{Trees, word, list}
+use Rattle.pddl_syntax.specs.declared.walk.Word.{Word}
 use Rattle.smallvec.specs.SmallVec.{SmallVec}
 use Rattle.pddl_syntax.specs.Forms.{name_forms}
-use Rattle.pddl_syntax.specs.Syntax.{leading_name, typing, typing_of}
+use Rattle.pddl_syntax.specs.Syntax.{leading_name, leading_word, typing, typing_of}
 use Rattle.pddl_syntax.specs.Levels.{Levels, behind}
 
 -- a fault is want of memory, which has no place, or it says that the fact holds
@@ -26,6 +27,15 @@ ReadsList view (Err e) read old new = Refuses e (read old.top ≡ None)
 abbrev pub PassesList : Result (Unit {0}) ReadFault → (Trees → Bool) → Levels → Levels → Type 0
 PassesList (Ok _) test old new = (test old.top ≡ true) × (new ≡ behind old.below)
 PassesList (Err e) test old new = Refuses e (test old.top ≡ false)
+
+-- as `ReadsList`, where what is read is known to be there: it is read again, unless memory runs out
+abbrev pub ReadsAgain : {X Y : Type 0} → (X → Y) → Result X ReadFault → (Trees → Option Y) → Levels → Levels → Type 0
+ReadsAgain view (Ok x) read old new = (read old.top ≡ Some (view x)) × (new ≡ behind old.below)
+ReadsAgain view (Err e) read old new = e ≡ out_of_memory
+
+-- as `ReadsList`, where what is read is known to be there and takes no memory
+abbrev pub Rereads : {Y : Type 0} → Y → (Trees → Option Y) → Levels → Levels → Type 0
+Rereads x read old new = (read old.top ≡ Some x) × (new ≡ behind old.below)
 
 -- as `ReadsList`, where the answer is put into `after`
 abbrev pub ReadsInto : {Y : Type 0} → Result (Unit {0}) ReadFault → (Trees → Option Y) → Levels → Levels → Y → Type 0
@@ -46,6 +56,19 @@ Enters (Err e) read old new = Refuses e (read old.top ≡ None)
 abbrev pub TakesName : Result NameWord ReadFault → Levels → Levels → Type 0
 TakesName (Ok name) old new = (old.top ≡ word name.text.now new.top) × (is_name name.text.now ≡ true) × (new.below ≡ old.below)
 TakesName (Err e) old new = Refuses e (leading_name old.top ≡ None)
+
+-- the walk steps over the word at the front
+abbrev pub Passes : Word → Levels → Levels → Type 0
+Passes w old new = (old.top ≡ word w.text.now new.top) × (new.below ≡ old.below)
+
+-- the walk steps over the name at the front
+abbrev pub PassesName : NameWord → Levels → Levels → Type 0
+PassesName name old new = (old.top ≡ word name.text.now new.top) × (new.below ≡ old.below)
+
+-- the walk steps over the word at the front, which passes the test
+abbrev pub TakesWord : Result Word ReadFault → (List ℕ → Bool) → Levels → Levels → Type 0
+TakesWord (Ok w) test old new = (old.top ≡ word w.text.now new.top) × (test w.text.now ≡ true) × (new.below ≡ old.below)
+TakesWord (Err e) test old new = Refuses e (leading_word test old.top ≡ None)
 
 -- the walk steps over the types at the front
 abbrev pub TakesTypes : Result (SmallVec NameWord) ReadFault → Levels → Levels → Type 0

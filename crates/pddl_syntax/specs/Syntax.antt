@@ -1,10 +1,11 @@
 -- The grammar of domains and problems: which syntax a tree has (PDDL 2.1, Fox and Long 2003, appendix A; this validator's part
 -- of it is described in docs).
 
-use Rattle.std.specs.Prelude.{ℕ, List, [], ◌∷◌, ◌++◌, Bool, true, false, Option, Some, None, is_some, not, unwrap_or, if◌then◌else◌}
+use Rattle.std.specs.Prelude.{ℕ, List, [], ◌∷◌, ◌++◌, Bool, true, false, ◌&&◌, Option, Some, None, is_some, not, unwrap_or, if◌then◌else◌}
 use Rattle.std.specs.Option.{option_map, option_and_then}
 use Rattle.pddl_words.specs.Words.{is_name}
 use Rattle.pddl_words.specs.Kinds.{is_same_word}
+use Rattle.pddl_words.specs.DecimalReading.{billionths_of}
 use Rattle.pddl_syntax.specs.declared.heads.FormulaHead.{FormulaHead}
 use Rattle.pddl_syntax.specs.declared.heads.FormulaHead.TheVariants as formula
 use Rattle.pddl_syntax.specs.declared.heads.DomainSection.{DomainSection}
@@ -13,29 +14,49 @@ use Rattle.pddl_syntax.specs.declared.heads.ActionPart.{ActionPart}
 use Rattle.pddl_syntax.specs.declared.heads.ActionPart.TheVariants as part
 use Rattle.pddl_syntax.specs.declared.heads.ProblemSection.{ProblemSection}
 use Rattle.pddl_syntax.specs.declared.heads.ProblemSection.TheVariants as problem
-use Rattle.pddl_syntax.specs.Keywords.{define_word, domain_word, problem_word, either_word, object_word}
+use Rattle.pddl_syntax.specs.Keywords.{define_word, domain_word, problem_word, either_word, object_word, total_cost_word, number_word}
+use Rattle.pddl_syntax.specs.declared.dialect.Dialect.{Dialect}
+use Rattle.pddl_syntax.specs.declared.heads.Place.TheVariants as place
 use Rattle.pddl_syntax.specs.declared.heads.Scope.{Scope}
-use Rattle.pddl_syntax.specs.declared.heads.Scope.TheVariants as scope
-use Rattle.pddl_syntax.specs.Heads.{is_and, is_dash, is_keyword, is_term, is_variable, formula_head, domain_section, action_part, problem_section}
+use Rattle.pddl_syntax.specs.declared.heads.LiteralHead.{LiteralHead}
+use Rattle.pddl_syntax.specs.declared.heads.LiteralHead.TheVariants as head
+use Rattle.pddl_syntax.specs.Heads.{is_and, is_dash, is_keyword, is_term, is_variable, scope_at, formula_head, literal_head, domain_section, action_part, problem_section}
 use Rattle.pddl_syntax.specs.Optional.{guard, followed_by, joined}
-use Rattle.pddl_syntax.specs.Trees.{Trees, none, word, list}
+use Rattle.pddl_syntax.specs.Trees.{Trees, none, word, list, begins_with_list}
 
--- an atom as written: the words of its predicate and of its terms
+-- an atom as written: the words of its predicate and of its terms. A function with its terms reads alike
 pub record AtomForm : Type 0 where
   pub predicate : List ℕ
   pub terms : List (List ℕ)
 
--- an atom, or the negation of one
-pub record LiteralForm : Type 0 where
-  pub positive : Bool
-  pub atom : AtomForm
+-- the two terms that are to be the same
+pub record EqualityForm : Type 0 where
+  pub left : List ℕ
+  pub right : List ℕ
+
+-- what a number is raised by: a number of billionths, or the value of a function
+pub data AmountForm : Type 0 where
+  number_amount : ℕ → AmountForm
+  function_amount : AtomForm → AmountForm
+
+-- a function and its value, in billionths
+pub record ValueForm : Type 0 where
+  pub function : AtomForm
+  pub value : ℕ
+
+-- an atom or an equality, with whether it is to hold; an amount by which `total-cost` is raised; or the value of a function
+pub data LiteralForm : Type 0 where
+  atom_literal : Bool → AtomForm → LiteralForm
+  equality_literal : Bool → EqualityForm → LiteralForm
+  increase_literal : AmountForm → LiteralForm
+  value_literal : ValueForm → LiteralForm
 
 -- a group of a list of typed variables: its variables, and the names of the types of which they may be
 pub record VariableGroup : Type 0 where
   pub variables : List (List ℕ)
   pub types : List (List ℕ)
 
--- the declaration of a predicate
+-- the declaration of a predicate or a function
 pub record PredicateForm : Type 0 where
   pub name : List ℕ
   pub variables : List VariableGroup
@@ -58,6 +79,7 @@ pub record DomainForm : Type 0 where
   pub types : List NameGroup
   pub constants : List NameGroup
   pub predicates : List PredicateForm
+  pub functions : List PredicateForm
   pub actions : List ActionForm
 
 -- a problem
@@ -80,6 +102,7 @@ pub record DomainSections : Type 0 where
   pub types : Option (List NameGroup)
   pub constants : Option (List NameGroup)
   pub predicates : Option (List PredicateForm)
+  pub functions : Option (List PredicateForm)
   pub actions : List ActionForm
 
 -- the sections of a problem that are given; of the requirements, the metric and the length it only counts that they are
@@ -226,9 +249,9 @@ typing_of (list inside others) = option_map (typing others) (either_in inside)
 abbrev pub atom_with : List ℕ → List (List ℕ) → AtomForm
 atom_with predicate terms = record { predicate = predicate; terms = terms }
 
--- an atom: its predicate, and its terms
-unfoldable pub atom_of : Scope → List ℕ → Trees → Option AtomForm
-atom_of scope predicate terms = option_map (atom_with predicate) (words_of (is_term scope) terms)
+-- an atom: its predicate, and its terms, each of which passes the test
+unfoldable pub atom_of : (List ℕ → Bool) → List ℕ → Trees → Option AtomForm
+atom_of test predicate terms = option_map (atom_with predicate) (words_of test terms)
 
 -- what a name that is no reserved word heads
 abbrev pub name_by : {A : Type 0} → FormulaHead → Option A → Option A
@@ -238,39 +261,115 @@ name_by formula.Not value = None
 name_by formula.Reserved value = None
 name_by formula.Other value = None
 
--- Atom = `(N` Term*`)`, where N is no reserved word
-unfoldable pub atom_in : Scope → Trees → Option AtomForm
-atom_in scope none = None
-atom_in scope (word w terms) = name_by (formula_head w) (atom_of scope w terms)
-atom_in scope (list inside others) = None
+-- `(N` Term*`)`, where N is no reserved word: a function with its terms
+unfoldable pub function_in : (List ℕ → Bool) → Trees → Option AtomForm
+function_in test none = None
+function_in test (word w terms) = name_by (formula_head w) (atom_of test w terms)
+function_in test (list inside others) = None
 
--- a literal with its sign
-abbrev pub literal : Bool → AtomForm → LiteralForm
-literal positive atom = record { positive = positive; atom = atom }
+-- the word at the front, if it passes the test
+unfoldable pub leading_word : (List ℕ → Bool) → Trees → Option (List ℕ)
+leading_word test none = None
+leading_word test (word w others) = guard (test w) (Some w)
+leading_word test (list inside others) = None
 
--- what `not` negates: one atom
+-- an equality of a left side and a right one
+abbrev pub equality_with : List ℕ → List ℕ → EqualityForm
+equality_with left right = record { left = left; right = right }
+
+-- the right side, alone
+unfoldable pub right_side : (List ℕ → Bool) → List ℕ → Trees → Option EqualityForm
+right_side test left none = None
+right_side test left (word right others) = guard (test right) (ended others (Some (equality_with left right)))
+right_side test left (list inside others) = None
+
+-- Term Term, behind `=`
+unfoldable pub equality_of : (List ℕ → Bool) → Trees → Option EqualityForm
+equality_of test none = None
+equality_of test (word left others) = guard (test left) (right_side test left others)
+equality_of test (list inside others) = None
+
+-- NUMBER alone: 1 to 9 digits, and possibly a point and 1 to 9 digits (this validator's choice)
+unfoldable pub number_of : Trees → Option ℕ
+number_of none = None
+number_of (word w others) = ended others (billionths_of w)
+number_of (list inside others) = None
+
+-- Amount alone = NUMBER | `(N` Term*`)`
+unfoldable pub amount_of : (List ℕ → Bool) → Trees → Option AmountForm
+amount_of test none = None
+amount_of test (word w others) = option_map number_amount (number_of (word w others))
+amount_of test (list inside others) = ended others (option_map function_amount (function_in test inside))
+
+-- `total-cost` alone
+unfoldable pub target_of : Trees → Option (Unit {0})
+target_of none = None
+target_of (word w others) = guard (is_same_word w total_cost_word) (end_of others)
+target_of (list inside others) = None
+
+-- `(total-cost)` Amount, behind `increase`
+unfoldable pub increase_of : (List ℕ → Bool) → Trees → Option AmountForm
+increase_of test none = None
+increase_of test (word w others) = None
+increase_of test (list target others) = option_and_then (λ _. amount_of test others) (target_of target)
+
+-- a value of a function
+abbrev pub value_with : AtomForm → ℕ → ValueForm
+value_with function value = record { function = function; value = value }
+
+-- a function with its value, where there are both
+abbrev pub value_by : Option AtomForm → Option ℕ → Option ValueForm
+value_by None number = None
+value_by (Some function) number = option_map (value_with function) number
+
+-- `(N` Name*`)` NUMBER, behind `=`
+unfoldable pub value_of : (List ℕ → Bool) → Trees → Option ValueForm
+value_of test none = None
+value_of test (word w others) = None
+value_of test (list inside others) = value_by (function_in test inside) (number_of others)
+
+-- a literal that may be negated, with its sign, behind the word that heads it
+abbrev pub signed_by : Bool → LiteralHead → (List ℕ → Bool) → List ℕ → Trees → Option LiteralForm
+signed_by positive head.Atom test w others = option_map (atom_literal positive) (atom_of test w others)
+signed_by positive head.Equality test w others = option_map (equality_literal positive) (equality_of test others)
+signed_by positive head.Not test w others = None
+signed_by positive head.Value test w others = None
+signed_by positive head.Increase test w others = None
+signed_by positive head.Reserved test w others = None
+signed_by positive head.Other test w others = None
+
+-- what stands in the parentheses behind `not`: an atom or an equality
+unfoldable pub negated_in : Scope → Trees → Option LiteralForm
+negated_in scope none = None
+negated_in scope (word w others) = signed_by false (literal_head scope w (begins_with_list others)) (is_term scope.place) w others
+negated_in scope (list inside others) = None
+
+-- what `not` negates
 unfoldable pub negated_of : Scope → Trees → Option LiteralForm
 negated_of scope none = None
 negated_of scope (word w others) = None
-negated_of scope (list inside others) = ended others (option_map (literal false) (atom_in scope inside))
+negated_of scope (list inside others) = ended others (negated_in scope inside)
 
 -- what a word heads where a literal may stand
-abbrev pub literal_by : FormulaHead → Option AtomForm → Option LiteralForm → Option LiteralForm
-literal_by formula.Name atom negated = option_map (literal true) atom
-literal_by formula.Not atom negated = negated
-literal_by formula.And atom negated = None
-literal_by formula.Reserved atom negated = None
-literal_by formula.Other atom negated = None
+abbrev pub literal_by : LiteralHead → Scope → List ℕ → Trees → Option LiteralForm
+literal_by head.Atom scope w others = signed_by true head.Atom (is_term scope.place) w others
+literal_by head.Equality scope w others = signed_by true head.Equality (is_term scope.place) w others
+literal_by head.Not scope w others = negated_of scope others
+literal_by head.Value scope w others = option_map value_literal (value_of (is_term scope.place) others)
+literal_by head.Increase scope w others = option_map increase_literal (increase_of (is_term scope.place) others)
+literal_by head.Reserved scope w others = None
+literal_by head.Other scope w others = None
 
--- Literal = Atom | `(not` Atom`)`, from its first word
+-- Literal = `(N` Term*`)` | `(not (N` Term*`))`, and where the dialect has them `(= ` Term Term`)`, `(not (= ` Term Term`))`,
+-- `(increase (total-cost) `Amount`)` and `(= (N ` Name*`) ` NUMBER`)`, from its first word
 unfoldable pub literal_of : Scope → List ℕ → Trees → Option LiteralForm
-literal_of scope w others = literal_by (formula_head w) (atom_of scope w others) (negated_of scope others)
+literal_of scope w others = literal_by (literal_head scope w (begins_with_list others)) scope w others
 
 -- InitItem = Literal
-unfoldable pub init_item_in : Trees → Option LiteralForm
-init_item_in none = None
-init_item_in (word w others) = literal_of scope.Problem w others
-init_item_in (list inside others) = None
+unfoldable pub init_item_in : Dialect → Trees → Option LiteralForm
+init_item_in dialect none = None
+init_item_in dialect (word w others) = literal_of (scope_at dialect place.Initial) w others
+init_item_in dialect (list inside others) = None
 
 -- a literal as a conjunction
 abbrev pub alone : LiteralForm → List LiteralForm
@@ -288,23 +387,11 @@ unfoldable mutual
   conjuncts_of scope (word w others) = None
   conjuncts_of scope (list inside others) = joined (formula_in scope inside) (conjuncts_of scope others)
 
--- whether there is a formula
-unfoldable pub is_formula : Scope → Trees → Bool
-is_formula scope trees = is_some (formula_in scope trees)
-
--- whether there are conjuncts
-unfoldable pub are_conjuncts : Scope → Trees → Bool
-are_conjuncts scope trees = is_some (conjuncts_of scope trees)
-
--- whether there are initial atoms
-unfoldable pub are_initial : Trees → Bool
-are_initial trees = is_some (lists_of init_item_in trees)
-
--- a predicate with its variables
+-- a predicate or a function with its variables
 abbrev pub predicate_with : List ℕ → List VariableGroup → PredicateForm
 predicate_with name variables = record { name = name; variables = variables }
 
--- a predicate: its name, and its variables
+-- a predicate or a function: its name, and its variables
 unfoldable pub predicate_of : List ℕ → Trees → Option PredicateForm
 predicate_of w variables = option_map (predicate_with w) (typed_variables [] variables)
 
@@ -313,6 +400,19 @@ unfoldable pub predicate_in : Trees → Option PredicateForm
 predicate_in none = None
 predicate_in (word w variables) = name_by (formula_head w) (predicate_of w variables)
 predicate_in (list inside others) = None
+
+-- functions `(N` Typed(V)`)`, and behind some of them possibly `- number`; whether there is one since the last `number`
+unfoldable mutual
+  pub functions_of : Bool → Trees → Option (List PredicateForm)
+  functions_of some none = Some []
+  functions_of some (word w others) = guard (some && is_dash w) (functions_typed others)
+  functions_of some (list inside others) = followed_by (predicate_in inside) (functions_of true others)
+
+  -- the type behind the dash, and the functions behind it
+  pub functions_typed : Trees → Option (List PredicateForm)
+  functions_typed none = None
+  functions_typed (word w others) = guard (is_same_word w number_word) (functions_of false others)
+  functions_typed (list inside others) = None
 
 -- an action of which no part is given
 unfoldable pub no_parts : ActionParts
@@ -334,23 +434,23 @@ is_part_given part.Precondition given = is_some given.precondition
 is_part_given part.Effect given = is_some given.effect
 
 -- the parts with this one, whose value is the list
-unfoldable pub part_by : ActionPart → ActionParts → Trees → Option ActionParts
-part_by part.Parameters given value = option_map (with_parameters given) (typed_variables [] value)
-part_by part.Precondition given value = option_map (with_precondition given) (formula_in scope.Action value)
-part_by part.Effect given value = option_map (with_effect given) (formula_in scope.Action value)
+unfoldable pub part_by : Dialect → ActionPart → ActionParts → Trees → Option ActionParts
+part_by dialect part.Parameters given value = option_map (with_parameters given) (typed_variables [] value)
+part_by dialect part.Precondition given value = option_map (with_precondition given) (formula_in (scope_at dialect place.Precondition) value)
+part_by dialect part.Effect given value = option_map (with_effect given) (formula_in (scope_at dialect place.Effect) value)
 
 -- the parts with the one that a word names, each at most once
-unfoldable pub part_named : Option ActionPart → ActionParts → Trees → Option ActionParts
-part_named None given value = None
-part_named (Some named) given value = guard (not (is_part_given named given)) (part_by named given value)
+unfoldable pub part_named : Dialect → Option ActionPart → ActionParts → Trees → Option ActionParts
+part_named dialect None given value = None
+part_named dialect (Some named) given value = guard (not (is_part_given named given)) (part_by dialect named given value)
 
 -- ActPart = `:parameters (`Typed(V)`)` | `:precondition` Formula | `:effect` Effect, in any order
-unfoldable pub parts_of : ActionParts → Trees → Option ActionParts
-parts_of given none = Some given
-parts_of given (word w none) = None
-parts_of given (word w (word v others)) = None
-parts_of given (word w (list value others)) = option_and_then (λ more. parts_of more others) (part_named (action_part w) given value)
-parts_of given (list inside others) = None
+unfoldable pub parts_of : Dialect → ActionParts → Trees → Option ActionParts
+parts_of dialect given none = Some given
+parts_of dialect given (word w none) = None
+parts_of dialect given (word w (word v others)) = None
+parts_of dialect given (word w (list value others)) = option_and_then (λ more. parts_of dialect more others) (part_named dialect (action_part w) given value)
+parts_of dialect given (list inside others) = None
 
 -- an action with its name; a part that is not given holds nothing
 unfoldable pub action_form : List ℕ → ActionParts → ActionForm
@@ -362,14 +462,14 @@ action_form name parts = record {
 }
 
 -- `(:action N` ActPart*`)`, behind the keyword
-unfoldable pub action_of : Trees → Option ActionForm
-action_of none = None
-action_of (word name parts) = guard (is_name name) (option_map (action_form name) (parts_of no_parts parts))
-action_of (list inside others) = None
+unfoldable pub action_of : Dialect → Trees → Option ActionForm
+action_of dialect none = None
+action_of dialect (word name parts) = guard (is_name name) (option_map (action_form name) (parts_of dialect no_parts parts))
+action_of dialect (list inside others) = None
 
 -- a domain of which no section is given
 unfoldable pub no_domain_sections : DomainSections
-no_domain_sections = record { requirements = false; types = None; constants = None; predicates = None; actions = [] }
+no_domain_sections = record { requirements = false; types = None; constants = None; predicates = None; functions = None; actions = [] }
 
 abbrev pub with_requirements : DomainSections → DomainSections
 with_requirements given = record given { requirements = true }
@@ -383,6 +483,9 @@ with_constants given value = record given { constants = Some value }
 abbrev pub with_predicates : DomainSections → List PredicateForm → DomainSections
 with_predicates given value = record given { predicates = Some value }
 
+abbrev pub with_functions : DomainSections → List PredicateForm → DomainSections
+with_functions given value = record given { functions = Some value }
+
 abbrev pub with_action : DomainSections → ActionForm → DomainSections
 with_action given value = record given { actions = given.actions ++ value ∷ [] }
 
@@ -392,32 +495,35 @@ is_domain_section_given section.Requirements given = given.requirements
 is_domain_section_given section.Types given = is_some given.types
 is_domain_section_given section.Constants given = is_some given.constants
 is_domain_section_given section.Predicates given = is_some given.predicates
+is_domain_section_given section.Functions given = is_some given.functions
 is_domain_section_given section.Action given = false
 
 -- the sections with this one
-unfoldable pub domain_section_by : DomainSection → DomainSections → Trees → Option DomainSections
-domain_section_by section.Requirements given trees = option_map (λ _. with_requirements given) (keywords_of trees)
-domain_section_by section.Types given trees = option_map (with_types given) (typed_names [] trees)
-domain_section_by section.Constants given trees = option_map (with_constants given) (typed_names [] trees)
-domain_section_by section.Predicates given trees = option_map (with_predicates given) (lists_of predicate_in trees)
-domain_section_by section.Action given trees = option_map (with_action given) (action_of trees)
+unfoldable pub domain_section_by : Dialect → DomainSection → DomainSections → Trees → Option DomainSections
+domain_section_by dialect section.Requirements given trees = option_map (λ _. with_requirements given) (keywords_of trees)
+domain_section_by dialect section.Types given trees = option_map (with_types given) (typed_names [] trees)
+domain_section_by dialect section.Constants given trees = option_map (with_constants given) (typed_names [] trees)
+domain_section_by dialect section.Predicates given trees = option_map (with_predicates given) (lists_of predicate_in trees)
+domain_section_by dialect section.Functions given trees = option_map (with_functions given) (functions_of false trees)
+domain_section_by dialect section.Action given trees = option_map (with_action given) (action_of dialect trees)
 
 -- the sections with the one that a word heads, each at most once but actions
-unfoldable pub domain_section_headed : Option DomainSection → DomainSections → Trees → Option DomainSections
-domain_section_headed None given trees = None
-domain_section_headed (Some headed) given trees = guard (not (is_domain_section_given headed given)) (domain_section_by headed given trees)
+unfoldable pub domain_section_headed : Dialect → Option DomainSection → DomainSections → Trees → Option DomainSections
+domain_section_headed dialect None given trees = None
+domain_section_headed dialect (Some headed) given trees = guard (not (is_domain_section_given headed given)) (domain_section_by dialect headed given trees)
 
--- DomSection = `(:requirements K*)` | `(:types Typed(N))` | `(:constants Typed(N))` | `(:predicates (N` Typed(V)`)*)` | `(:action N` ActPart*`)`
-unfoldable pub domain_section_in : DomainSections → Trees → Option DomainSections
-domain_section_in given none = None
-domain_section_in given (word w others) = domain_section_headed (domain_section w) given others
-domain_section_in given (list inside others) = None
+-- DomSection = `(:requirements K*)` | `(:types Typed(N))` | `(:constants Typed(N))` | `(:predicates (N` Typed(V)`)*)` | `(:functions` FunctionGroup*`)` |
+-- `(:action N` ActPart*`)`
+unfoldable pub domain_section_in : Dialect → DomainSections → Trees → Option DomainSections
+domain_section_in dialect given none = None
+domain_section_in dialect given (word w others) = domain_section_headed dialect (domain_section dialect w) given others
+domain_section_in dialect given (list inside others) = None
 
 -- the sections in any order
-unfoldable pub domain_sections_of : DomainSections → Trees → Option DomainSections
-domain_sections_of given none = Some given
-domain_sections_of given (word w others) = None
-domain_sections_of given (list inside others) = option_and_then (λ more. domain_sections_of more others) (domain_section_in given inside)
+unfoldable pub domain_sections_of : Dialect → DomainSections → Trees → Option DomainSections
+domain_sections_of dialect given none = Some given
+domain_sections_of dialect given (word w others) = None
+domain_sections_of dialect given (list inside others) = option_and_then (λ more. domain_sections_of dialect more others) (domain_section_in dialect given inside)
 
 -- `(domain N)` or `(problem N)`, inside the parentheses
 unfoldable pub header_of : List ℕ → Trees → Option (List ℕ)
@@ -430,6 +536,7 @@ domain_form name sections = record {
   types = unwrap_or sections.types [];
   constants = unwrap_or sections.constants [];
   predicates = unwrap_or sections.predicates [];
+  functions = unwrap_or sections.functions [];
   actions = sections.actions;
 }
 
@@ -438,20 +545,20 @@ domain_by None sections = None
 domain_by (Some name) sections = option_map (domain_form name) sections
 
 -- `(domain N)` DomSection*
-unfoldable pub domain_body : Trees → Option DomainForm
-domain_body none = None
-domain_body (word w others) = None
-domain_body (list head sections) = domain_by (header_of domain_word head) (domain_sections_of no_domain_sections sections)
+unfoldable pub domain_body : Dialect → Trees → Option DomainForm
+domain_body dialect none = None
+domain_body dialect (word w others) = None
+domain_body dialect (list header sections) = domain_by (header_of domain_word header) (domain_sections_of dialect no_domain_sections sections)
 
 -- `define (domain N)` DomSection*
-unfoldable pub domain_in : Trees → Option DomainForm
-domain_in trees = option_and_then domain_body (behind_word define_word trees)
+unfoldable pub domain_in : Dialect → Trees → Option DomainForm
+domain_in dialect trees = option_and_then (domain_body dialect) (behind_word define_word trees)
 
 -- Domain = `(define (domain N)` DomSection*`)`, and nothing else in the text
-unfoldable pub domain_syntax : Trees → Option DomainForm
-domain_syntax none = None
-domain_syntax (word w others) = None
-domain_syntax (list inside others) = ended others (domain_in inside)
+unfoldable pub domain_syntax : Dialect → Trees → Option DomainForm
+domain_syntax dialect none = None
+domain_syntax dialect (word w others) = None
+domain_syntax dialect (list inside others) = ended others (domain_in dialect inside)
 
 -- a problem of which no section is given
 unfoldable pub no_problem_sections : ProblemSections
@@ -479,10 +586,10 @@ abbrev pub with_goal : ProblemSections → List LiteralForm → ProblemSections
 with_goal given value = record given { goal = Some value }
 
 -- one formula
-unfoldable pub goal_of : Trees → Option (List LiteralForm)
-goal_of none = None
-goal_of (word w others) = None
-goal_of (list inside others) = ended others (formula_in scope.Problem inside)
+unfoldable pub goal_of : Dialect → Trees → Option (List LiteralForm)
+goal_of dialect none = None
+goal_of dialect (word w others) = None
+goal_of dialect (list inside others) = ended others (formula_in (scope_at dialect place.Goal) inside)
 
 -- whether a section is given already
 unfoldable pub is_problem_section_given : ProblemSection → ProblemSections → Bool
@@ -495,32 +602,32 @@ is_problem_section_given problem.Metric given = given.metric
 is_problem_section_given problem.Length given = given.length
 
 -- the sections with this one
-unfoldable pub problem_section_by : ProblemSection → ProblemSections → Trees → Option ProblemSections
-problem_section_by problem.Domain given trees = option_map (with_domain given) (lone_name trees)
-problem_section_by problem.Requirements given trees = option_map (λ _. with_problem_requirements given) (keywords_of trees)
-problem_section_by problem.Objects given trees = option_map (with_objects given) (typed_names [] trees)
-problem_section_by problem.Init given trees = option_map (with_init given) (lists_of init_item_in trees)
-problem_section_by problem.Goal given trees = option_map (with_goal given) (goal_of trees)
-problem_section_by problem.Metric given trees = Some (with_metric given)
-problem_section_by problem.Length given trees = Some (with_length given)
+unfoldable pub problem_section_by : Dialect → ProblemSection → ProblemSections → Trees → Option ProblemSections
+problem_section_by dialect problem.Domain given trees = option_map (with_domain given) (lone_name trees)
+problem_section_by dialect problem.Requirements given trees = option_map (λ _. with_problem_requirements given) (keywords_of trees)
+problem_section_by dialect problem.Objects given trees = option_map (with_objects given) (typed_names [] trees)
+problem_section_by dialect problem.Init given trees = option_map (with_init given) (lists_of (init_item_in dialect) trees)
+problem_section_by dialect problem.Goal given trees = option_map (with_goal given) (goal_of dialect trees)
+problem_section_by dialect problem.Metric given trees = Some (with_metric given)
+problem_section_by dialect problem.Length given trees = Some (with_length given)
 
 -- the sections with the one that a word heads, each at most once
-unfoldable pub problem_section_headed : Option ProblemSection → ProblemSections → Trees → Option ProblemSections
-problem_section_headed None given trees = None
-problem_section_headed (Some headed) given trees = guard (not (is_problem_section_given headed given)) (problem_section_by headed given trees)
+unfoldable pub problem_section_headed : Dialect → Option ProblemSection → ProblemSections → Trees → Option ProblemSections
+problem_section_headed dialect None given trees = None
+problem_section_headed dialect (Some headed) given trees = guard (not (is_problem_section_given headed given)) (problem_section_by dialect headed given trees)
 
 -- ProbSection = `(:domain N)` | `(:requirements K*)` | `(:objects Typed(N))` | `(:init` InitItem*`)` | `(:goal` Formula`)` | `(:metric ..)` |
 -- `(:length ..)`; in the last two stands anything
-unfoldable pub problem_section_in : ProblemSections → Trees → Option ProblemSections
-problem_section_in given none = None
-problem_section_in given (word w others) = problem_section_headed (problem_section w) given others
-problem_section_in given (list inside others) = None
+unfoldable pub problem_section_in : Dialect → ProblemSections → Trees → Option ProblemSections
+problem_section_in dialect given none = None
+problem_section_in dialect given (word w others) = problem_section_headed dialect (problem_section w) given others
+problem_section_in dialect given (list inside others) = None
 
 -- the sections in any order
-unfoldable pub problem_sections_of : ProblemSections → Trees → Option ProblemSections
-problem_sections_of given none = Some given
-problem_sections_of given (word w others) = None
-problem_sections_of given (list inside others) = option_and_then (λ more. problem_sections_of more others) (problem_section_in given inside)
+unfoldable pub problem_sections_of : Dialect → ProblemSections → Trees → Option ProblemSections
+problem_sections_of dialect given none = Some given
+problem_sections_of dialect given (word w others) = None
+problem_sections_of dialect given (list inside others) = option_and_then (λ more. problem_sections_of dialect more others) (problem_section_in dialect given inside)
 
 -- a problem with its name; `:domain` and `:goal` must be given
 unfoldable pub problem_form : List ℕ → ProblemSections → Option (List ℕ) → Option (List LiteralForm) → Option ProblemForm
@@ -535,17 +642,17 @@ problem_by (Some name) None = None
 problem_by (Some name) (Some given) = problem_form name given given.domain given.goal
 
 -- `(problem N)` ProbSection*
-unfoldable pub problem_body : Trees → Option ProblemForm
-problem_body none = None
-problem_body (word w others) = None
-problem_body (list head sections) = problem_by (header_of problem_word head) (problem_sections_of no_problem_sections sections)
+unfoldable pub problem_body : Dialect → Trees → Option ProblemForm
+problem_body dialect none = None
+problem_body dialect (word w others) = None
+problem_body dialect (list header sections) = problem_by (header_of problem_word header) (problem_sections_of dialect no_problem_sections sections)
 
 -- `define (problem N)` ProbSection*
-unfoldable pub problem_in : Trees → Option ProblemForm
-problem_in trees = option_and_then problem_body (behind_word define_word trees)
+unfoldable pub problem_in : Dialect → Trees → Option ProblemForm
+problem_in dialect trees = option_and_then (problem_body dialect) (behind_word define_word trees)
 
 -- Problem = `(define (problem N)` ProbSection*`)`, and nothing else in the text
-unfoldable pub problem_syntax : Trees → Option ProblemForm
-problem_syntax none = None
-problem_syntax (word w others) = None
-problem_syntax (list inside others) = ended others (problem_in inside)
+unfoldable pub problem_syntax : Dialect → Trees → Option ProblemForm
+problem_syntax dialect none = None
+problem_syntax dialect (word w others) = None
+problem_syntax dialect (list inside others) = ended others (problem_in dialect inside)

@@ -1,6 +1,6 @@
 -- The trees that a text spells by its parentheses, and where its bytes or parentheses go wrong.
 
-use Rattle.std.specs.Prelude.{ℕ, zero, suc, ◌+◌, ◌^◌, nat_le, List, [], ◌∷◌, length, Option, Some, None, if◌then◌else◌, ◌≡◌}
+use Rattle.std.specs.Prelude.{ℕ, zero, suc, ◌+◌, ◌^◌, nat_le, Bool, true, false, List, [], ◌∷◌, length, Option, Some, None, if◌then◌else◌, ◌≡◌}
 use Rattle.pddl_tokens.specs.declared.spans.Span.{Span}
 use Rattle.pddl_tokens.specs.declared.spans.TokenKind.TheVariants.{Left, Right, Word}
 use Rattle.pddl_tokens.specs.Tokens.{Piece, token, bad, pieces}
@@ -13,6 +13,12 @@ pub data Trees : Type 0 where
   none : Trees
   word : List ℕ → Trees → Trees
   list : Trees → Trees → Trees
+
+-- whether a list is at the front
+unfoldable pub begins_with_list : Trees → Bool
+begins_with_list none = false
+begins_with_list (word text others) = false
+begins_with_list (list inside others) = true
 
 -- the tokens begin with a spelling of the trees, and `rest` follows it
 abbrev pub SpelledBefore : Trees → List Piece → List Piece → Type 0

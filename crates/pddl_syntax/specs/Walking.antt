@@ -6,8 +6,12 @@ use Rattle.pddl_syntax.specs.declared.walk.Item.TheVariants.{Open, Close, Text}
 use Rattle.pddl_syntax.specs.Trees.{none, word, list}
 use Rattle.pddl_syntax.specs.Levels.{Levels, behind}
 
+-- the walk steps into a list
+abbrev pub Opens : Levels → Levels → Type 0
+Opens old new = (old.top ≡ list new.top (behind new.below).top) × (old.below ≡ (behind new.below).below)
+
 -- the walk steps over a word, into a list, or out of the list in which it stands
 abbrev pub Steps : Item → Levels → Levels → Type 0
 Steps (Text w) old new = (old.top ≡ word w.text.now new.top) × (new.below ≡ old.below)
-Steps (Open span) old new = (old.top ≡ list new.top (behind new.below).top) × (old.below ≡ (behind new.below).below)
+Steps (Open span) old new = Opens old new
 Steps (Close span) old new = (old.top ≡ none) × (new ≡ behind old.below)

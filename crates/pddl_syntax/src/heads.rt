@@ -2,12 +2,16 @@
 
 ghost use Rattle.std.specs.Prelude.{◌≡◌};
 ghost use Rattle.pddl_words.specs.Words.{is_name};
-ghost use Rattle.pddl_syntax.specs.Keywords.{is_connective, is_quantifier, is_comparison, is_other_reserved};
-ghost use Rattle.pddl_syntax.specs.Heads.{is_and, is_dash, is_either, is_keyword, is_term, is_variable, formula_head, domain_section, action_part, problem_section};
+ghost use Rattle.pddl_syntax.specs.Keywords.{is_change, is_connective, is_quantifier, is_comparison, is_other_reserved};
+ghost use Rattle.pddl_syntax.specs.Levels.{here};
+ghost use Rattle.pddl_syntax.specs.Trees.{begins_with_list};
+ghost use Rattle.pddl_syntax.specs.Heads.{is_and, is_dash, is_either, is_keyword, is_term, is_variable, equals_head, has_changes, has_functions, formula_head, literal_head, name_head, reserved_head, domain_section, action_part, problem_section};
 
+use crate::dialect::Dialect;
+use crate::walk::Walk;
 use pddl_tokens::{WordKind, same_folded, word_kind};
 
-/// What a word heads where a formula, an effect, an initial atom or the declaration of a predicate is due.
+/// What a word heads where a formula, an effect, an initial atom, a function or the declaration of a predicate or a function is due.
 #[derive(Clone, Copy, Debug)]
 pub(crate) enum FormulaHead {
     And,
@@ -18,11 +22,38 @@ pub(crate) enum FormulaHead {
     Other,
 }
 
-/// Where an atom stands. Variables may be terms in actions alone.
+/// What a word heads where a literal is due.
 #[derive(Clone, Copy, Debug)]
-pub(crate) enum Scope {
-    Action,
-    Problem,
+pub(crate) enum LiteralHead {
+    /// An atom: the word names its predicate.
+    Atom,
+    Not,
+    /// `=` before two terms.
+    Equality,
+    /// `=` before a function and its value.
+    Value,
+    /// `increase` before the function that is raised.
+    Increase,
+    /// A word that names no predicate, and heads nothing that may stand here.
+    Reserved,
+    /// A word that is no name.
+    Other,
+}
+
+/// Where a literal stands.
+#[derive(Clone, Copy, Debug)]
+pub(crate) enum Place {
+    Precondition,
+    Effect,
+    Initial,
+    Goal,
+}
+
+/// Where a literal stands, and in a text of which dialect.
+#[derive(Clone, Copy, Debug)]
+pub(crate) struct Scope {
+    pub(crate) dialect: Dialect,
+    pub(crate) place: Place,
 }
 
 /// The sections of a domain.
@@ -32,6 +63,7 @@ pub(crate) enum DomainSection {
     Types,
     Constants,
     Predicates,
+    Functions,
     Action,
 }
 
@@ -107,14 +139,16 @@ pub fn is_variable(word: &[u8]) -> bool
     }
 }
 
-/// Whether the word may be a term.
+/// Whether the word may be a term. Variables may be terms in actions alone.
 #[tactic(auto, unfolding(crate::specs::Heads::is_term))]
-pub(crate) fn is_term(scope: Scope, word: &[u8]) -> bool
-    ensures { result ≡ is_term scope word.now }
+pub(crate) fn is_term(place: Place, word: &[u8]) -> bool
+    ensures { result ≡ is_term place word.now }
 {
-    match scope {
-        Scope::Action => is_name(word) || is_variable(word),
-        Scope::Problem => is_name(word),
+    match place {
+        Place::Precondition => is_name(word) || is_variable(word),
+        Place::Effect => is_name(word) || is_variable(word),
+        Place::Initial => is_name(word),
+        Place::Goal => is_name(word),
     }
 }
 
@@ -136,10 +170,107 @@ pub(crate) fn formula_head(word: &[u8]) -> FormulaHead
     }
 }
 
+/// What `=` heads, behind which the walk stands.
+fn equals_head(scope: Scope, walk: &Walk<'_>) -> LiteralHead
+    ensures { result ≡ equals_head scope.dialect scope.place (begins_with_list (here walk.now.cursor).top) }
+{
+    match scope.dialect {
+        Dialect::Strips => LiteralHead::Reserved,
+        Dialect::Ipc => match scope.place {
+            Place::Precondition => LiteralHead::Equality,
+            Place::Goal => LiteralHead::Equality,
+            Place::Initial => {
+                if walk.begins_with_list() {
+                    LiteralHead::Value
+                } else {
+                    LiteralHead::Reserved
+                }
+            }
+            Place::Effect => LiteralHead::Reserved,
+        },
+    }
+}
+
+/// Whether numbers may be changed here.
+fn has_changes(scope: Scope) -> bool
+    ensures { result ≡ has_changes scope.dialect scope.place }
+{
+    match scope.dialect {
+        Dialect::Strips => false,
+        Dialect::Ipc => match scope.place {
+            Place::Effect => true,
+            Place::Precondition => false,
+            Place::Initial => false,
+            Place::Goal => false,
+        },
+    }
+}
+
+/// Whether the word changes a number, where it is no predicate.
+#[tactic(auto, unfolding(crate::specs::Keywords::is_change))]
+fn is_change(word: &[u8]) -> bool
+    ensures { result ≡ is_change word.now }
+{
+    same_folded(word, b"increase")
+        || same_folded(word, b"decrease")
+        || same_folded(word, b"assign")
+        || same_folded(word, b"scale-up")
+        || same_folded(word, b"scale-down")
+}
+
+/// What a name heads, behind which the walk stands.
+fn name_head(scope: Scope, word: &[u8], walk: &Walk<'_>) -> LiteralHead
+    ensures { result ≡ name_head scope word.now (begins_with_list (here walk.now.cursor).top) }
+{
+    if !has_changes(scope) || !is_change(word) || !walk.begins_with_list() {
+        return LiteralHead::Atom;
+    }
+    if same_folded(word, b"increase") {
+        LiteralHead::Increase
+    } else {
+        LiteralHead::Reserved
+    }
+}
+
+/// What a reserved word besides `and` and `not` heads, behind which the walk stands.
+fn reserved_head(scope: Scope, word: &[u8], walk: &Walk<'_>) -> LiteralHead
+    ensures { result ≡ reserved_head scope word.now (begins_with_list (here walk.now.cursor).top) }
+{
+    if same_folded(word, b"=") {
+        equals_head(scope, walk)
+    } else {
+        LiteralHead::Reserved
+    }
+}
+
+/// What the word heads where a literal is due. The walk stands behind it, and looks ahead where that depends on what follows.
+#[tactic(auto, unfolding(crate::specs::Heads::literal_head))]
+pub(crate) fn literal_head(scope: Scope, word: &[u8], walk: &Walk<'_>) -> LiteralHead
+    ensures { result ≡ literal_head scope word.now (begins_with_list (here walk.now.cursor).top) }
+{
+    match formula_head(word) {
+        FormulaHead::And => LiteralHead::Reserved,
+        FormulaHead::Not => LiteralHead::Not,
+        FormulaHead::Reserved => reserved_head(scope, word, walk),
+        FormulaHead::Name => name_head(scope, word, walk),
+        FormulaHead::Other => LiteralHead::Other,
+    }
+}
+
+/// Whether domains of the dialect have functions.
+fn has_functions(dialect: Dialect) -> bool
+    ensures { result ≡ has_functions dialect }
+{
+    match dialect {
+        Dialect::Strips => false,
+        Dialect::Ipc => true,
+    }
+}
+
 /// The section of a domain that the word heads, if any.
 #[tactic(auto, unfolding(crate::specs::Heads::domain_section))]
-pub(crate) fn domain_section(word: &[u8]) -> Option<DomainSection>
-    ensures { result ≡ domain_section word.now }
+pub(crate) fn domain_section(dialect: Dialect, word: &[u8]) -> Option<DomainSection>
+    ensures { result ≡ domain_section dialect word.now }
 {
     if same_folded(word, b":requirements") {
         Some(DomainSection::Requirements)
@@ -151,6 +282,8 @@ pub(crate) fn domain_section(word: &[u8]) -> Option<DomainSection>
         Some(DomainSection::Predicates)
     } else if same_folded(word, b":action") {
         Some(DomainSection::Action)
+    } else if has_functions(dialect) && same_folded(word, b":functions") {
+        Some(DomainSection::Functions)
     } else {
         None
     }
@@ -207,7 +340,7 @@ pub(crate) fn is_name(word: &[u8]) -> bool
     }
 }
 
-/// Whether the word, besides `and` and `not`, names no predicate, since PDDL gives it a meaning that this reader refuses.
+/// Whether the word, besides `and` and `not`, names no predicate, since PDDL gives it another meaning.
 #[tactic(auto, unfolding(crate::specs::Keywords::is_other_reserved))]
 fn is_other_reserved(word: &[u8]) -> bool
     ensures { result ≡ is_other_reserved word.now }

@@ -1,8 +1,19 @@
 //! Laws about the definitions, each the contract of a function that does nothing.
 
+ghost use Rattle.pddl_syntax.specs.Dialects.{AreDomainsKept, AreProblemsKept};
 ghost use Rattle.pddl_syntax.specs.Trees.{AreTreesUnique};
 
 /// The tokens of a text spell one list of trees at most, so that a text has one reading at most.
 pub fn trees_are_unique()
     ensures { AreTreesUnique }
+{}
+
+/// A text that is a domain of STRIPS is the same domain in the larger dialect.
+pub fn domains_are_kept()
+    ensures { AreDomainsKept }
+{}
+
+/// A text that is a problem of STRIPS is the same problem in the larger dialect.
+pub fn problems_are_kept()
+    ensures { AreProblemsKept }
 {}

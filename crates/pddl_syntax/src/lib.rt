@@ -2,15 +2,16 @@
 //! with their spans. What the names in it stand for is the matter of `pddl_reader`.
 //!
 //! ```text
-//! check_text(text)?;                           // bad bytes and wrong parentheses, in one pass that takes no memory
-//! let domain = domain_text(alloc, text)?;      // a DomainSyntax, or the first fault of the grammar
-//! let problem = problem_text(alloc, text)?;    // a ProblemSyntax
+//! check_text(text)?;                                    // bad bytes and wrong parentheses, in one pass that takes no memory
+//! let domain = domain_text(alloc, dialect, text)?;      // a DomainSyntax, or the first fault of the grammar
+//! let problem = problem_text(alloc, dialect, text)?;    // a ProblemSyntax
 //! ```
 //!
 //! [`check_text`] comes first: the two readers walk only over texts that it passes, by recursive descent that is at most as deep as it lets
-//! lists be. A refusal is a [`ReadFault`]: its kind and the span of the faulty bytes.
+//! lists be. They read one of two languages, a [`Dialect`]. A refusal is a [`ReadFault`]: its kind and the span of the faulty bytes.
 #![tactic(auto)]
 
+mod dialect;
 mod fault;
 mod heads;
 pub mod laws;
@@ -18,6 +19,7 @@ mod syntax;
 mod text;
 mod walk;
 
+pub use dialect::Dialect;
 pub use fault::{FaultKind, ReadFault};
 pub use heads::is_variable;
 pub use syntax::domain::domain_text;
@@ -25,8 +27,9 @@ pub use syntax::literals::Literals;
 pub use syntax::problem::problem_text;
 pub use syntax::variables::VariableList;
 pub use syntax::{
-    ActionParts, ActionSyntax, AtomSyntax, DomainSections, DomainSyntax, LiteralSyntax, NameGroup,
-    Names, PredicateSyntax, ProblemSections, ProblemSyntax, Terms, VariableGroup, Variables,
+    ActionParts, ActionSyntax, AmountSyntax, AtomSyntax, DomainSections, DomainSyntax,
+    EqualitySyntax, IncreaseSyntax, LiteralSyntax, NameGroup, Names, PredicateSyntax,
+    ProblemSections, ProblemSyntax, Terms, ValueSyntax, VariableGroup, Variables,
 };
 pub use text::check_text;
 pub use walk::{NameWord, Word};

@@ -7,6 +7,7 @@
 pub(crate) mod action;
 pub(crate) mod domain;
 pub(crate) mod formula;
+pub(crate) mod known;
 pub(crate) mod lists;
 pub(crate) mod literals;
 pub(crate) mod problem;
@@ -17,6 +18,7 @@ pub(crate) mod variables;
 use crate::syntax::literals::Literals;
 use crate::syntax::variables::VariableList;
 use crate::walk::{NameWord, Word};
+use pddl_tokens::Span;
 use smallvec::SmallVec;
 
 /// The words of an atom's terms. Most atoms have two at most, and these take no memory of their own.
@@ -28,18 +30,66 @@ pub type Variables<'a> = SmallVec<Word<'a>, 1>;
 /// Names beside one another: those of a group, or types. Most often there is one, which takes no memory of its own.
 pub type Names<'a> = SmallVec<NameWord<'a>, 1>;
 
-/// An atom as written.
+/// An atom as written. A function with its terms reads alike, and has its name for the predicate's.
 #[derive(Drop)]
 pub struct AtomSyntax<'a> {
     pub predicate: NameWord<'a>,
     pub terms: Terms<'a>,
 }
 
-/// An atom, or the negation of one.
+/// The two terms of an equality.
 #[derive(Drop)]
-pub struct LiteralSyntax<'a> {
-    pub positive: bool,
-    pub atom: AtomSyntax<'a>,
+pub struct EqualitySyntax<'a> {
+    pub left: Word<'a>,
+    pub right: Word<'a>,
+}
+
+/// What `total-cost` is raised by.
+#[derive(Drop)]
+pub enum AmountSyntax<'a> {
+    /// A number, in billionths.
+    Number(u64),
+    /// The value of a function.
+    Function(AtomSyntax<'a>),
+}
+
+/// An increase of `total-cost`.
+#[derive(Drop)]
+pub struct IncreaseSyntax<'a> {
+    /// The place of the word `increase`.
+    pub span: Span,
+    /// The word `total-cost`.
+    pub target: Word<'a>,
+    pub amount: AmountSyntax<'a>,
+}
+
+/// The value of a function.
+#[derive(Drop)]
+pub struct ValueSyntax<'a> {
+    pub function: AtomSyntax<'a>,
+    /// The value, in billionths.
+    pub value: u64,
+    /// The place of the value.
+    pub span: Span,
+}
+
+/// A literal of a precondition, an effect, the initial atoms or the goal.
+#[derive(Drop)]
+pub enum LiteralSyntax<'a> {
+    /// An atom, or the negation of one.
+    Atom {
+        positive: bool,
+        atom: AtomSyntax<'a>,
+    },
+    /// An equality of two terms, or the negation of one. Only preconditions and goals of [`Dialect::Ipc`](crate::Dialect::Ipc) have it.
+    Equality {
+        positive: bool,
+        equality: EqualitySyntax<'a>,
+    },
+    /// An increase of `total-cost`. Only effects of [`Dialect::Ipc`](crate::Dialect::Ipc) have it.
+    Increase(IncreaseSyntax<'a>),
+    /// The value of a function. Only the initial atoms of [`Dialect::Ipc`](crate::Dialect::Ipc) have it.
+    Value(ValueSyntax<'a>),
 }
 
 /// A group of a list of typed variables, with the names of the types of which they may be.
@@ -49,7 +99,7 @@ pub struct VariableGroup<'a> {
     pub kinds: Names<'a>,
 }
 
-/// The declaration of a predicate.
+/// The declaration of a predicate or a function.
 #[derive(Drop)]
 pub struct PredicateSyntax<'a> {
     pub name: NameWord<'a>,
@@ -85,6 +135,7 @@ pub struct DomainSections<'a> {
     pub types: Option<Vec<NameGroup<'a>>>,
     pub constants: Option<Vec<NameGroup<'a>>>,
     pub predicates: Option<Vec<PredicateSyntax<'a>>>,
+    pub functions: Option<Vec<PredicateSyntax<'a>>>,
     pub actions: Vec<ActionSyntax<'a>>,
 }
 

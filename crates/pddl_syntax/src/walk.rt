@@ -6,7 +6,7 @@
 ghost use Rattle.std.specs.Prelude.{◌≡◌, ◌<◌, ◌^◌, IsSome, IsTrue, None};
 ghost use Rattle.pddl_words.specs.Words.{is_name};
 ghost use Rattle.pddl_tokens.specs.Tokens.{pieces};
-ghost use Rattle.pddl_syntax.specs.Trees.{text_fault};
+ghost use Rattle.pddl_syntax.specs.Trees.{begins_with_list, text_fault};
 ghost use Rattle.pddl_syntax.specs.Levels.{here, levels};
 ghost use Rattle.pddl_syntax.specs.Sizes.{ahead};
 
@@ -105,6 +105,19 @@ impl<'a> Walk<'a> {
         Walk {
             cursor: self.cursor.fork(),
             end: self.end,
+        }
+    }
+
+    /// Whether a list follows directly.
+    #[tactic(auto, using(crate::proofs::LevelSteps::list_steps))]
+    pub(crate) fn begins_with_list(&self) -> bool
+        ensures { result ≡ begins_with_list (here self.now.cursor).top }
+    {
+        let mut ahead = self.fork();
+        match ahead.next() {
+            Item::Open(_) => true,
+            Item::Text(_) => false,
+            Item::Close(_) => false,
         }
     }
 

@@ -9,7 +9,7 @@ use pddl_reader::{Seed, read_domain, read_problem};
 use plan_text::read_plan;
 use std::alloc::{AllocError, Global};
 use std::sync::Arc;
-use strips_judge::{CondList, Plan, Task, Verdict, Why, judge};
+use strips_judge::{CondList, GroundFormula, Plan, Task, Verdict, Why, judge};
 
 /// The task of a domain and a problem.
 pub(crate) fn task(alloc: Global, domain: &[u8], problem: &[u8]) -> Result<Task, Seen> {
@@ -92,10 +92,13 @@ fn failure(step: u32, why: &Why) -> Found {
     }
 }
 
-/// The predicate of the first condition.
+/// The predicate of the first condition. The domains here ask for atoms alone.
 fn first(conditions: &CondList) -> u16 {
     match conditions.as_slice().first() {
-        Some(condition) => condition.atom.pred,
+        Some(condition) => match &condition.formula {
+            GroundFormula::Atom(atom) => atom.pred,
+            GroundFormula::Equal(_, _) => u16::MAX,
+        },
         None => u16::MAX,
     }
 }

@@ -12,12 +12,13 @@ use Rattle.strips_task.specs.declared.atoms.Atom.{Atom}
 use Rattle.strips_task.specs.declared.atoms.GroundCond.{GroundCond}
 use Rattle.strips_task.specs.Atom.{atom_eq, cond_eq}
 use Rattle.strips_task.specs.FirstPlaces.{first_places}
+use Rattle.strips_task.specs.FormulaEquality.{formula_equiv}
 use Rattle.strips_task.proofs.FirstPlaces.{first_places-push}
 use Rattle.strips_judge.specs.State.{State, is_in, with_all, without, holds}
 use Rattle.strips_judge.specs.Step.{missing}
 
 pub cond_equiv : IsEquivalence cond_eq
-cond_equiv = search (comparing, rules)
+cond_equiv = search (comparing, formula_equiv, rules)
 
 -- one item more, mapped
 pub mapped_more : {X Y : Type 0} (f : X → Y) (xs : List X) (i : ℕ) (x : X) → i < length xs → x ≡ get_or xs i x → map f (take (i + 1) xs) ≡ map f (take i xs) ++ f x ∷ []

@@ -1,8 +1,10 @@
 -- States of the world and what changes them (PDDL 2.1, Fox and Long 2003, section 6).
 
-use Rattle.std.specs.Prelude.{Bool, not, ◌&&◌, ◌||◌, List, if◌then◌else◌}
+use Rattle.std.specs.Prelude.{Bool, nat_eq, not, ◌&&◌, ◌||◌, List, if◌then◌else◌}
 use Rattle.std.specs.List.{list_any}
 use Rattle.strips_task.specs.declared.atoms.Atom.{Atom}
+use Rattle.strips_task.specs.declared.atoms.GroundFormula.{GroundFormula}
+use Rattle.strips_task.specs.declared.atoms.GroundFormula.TheVariants as grounded
 use Rattle.strips_task.specs.declared.atoms.GroundCond.{GroundCond}
 use Rattle.strips_task.specs.Atom.{atom_eq}
 
@@ -26,6 +28,11 @@ with_all state atoms = λ atom. state atom || is_in atoms atom
 abbrev pub after_effects : State → List Atom → List Atom → State
 after_effects state deletes adds = with_all (without state deletes) adds
 
--- whether the condition holds: a positive one where its atom is true, a negated one where its atom is false
+-- whether the formula is true: an atom where the state has it, and an equality in every state where both sides are the same object
+abbrev pub is_true : State → GroundFormula → Bool
+is_true state (grounded.Atom atom) = state atom
+is_true state (grounded.Equal left right) = nat_eq left right
+
+-- whether the condition holds: a positive one where its formula is true, a negated one where its formula is false
 abbrev pub holds : State → GroundCond → Bool
-holds state cond = if cond.positive then state cond.atom else not (state cond.atom)
+holds state cond = if cond.positive then is_true state cond.formula else not (is_true state cond.formula)

@@ -80,7 +80,7 @@ after_by objects state (Some action) = after_effects state (map (ground objects)
 abbrev pub after : TaskParts → State → StepText → State
 after parts state step = after_by (objects_named parts step.args) state (action_named parts step.action)
 
--- the conditions that do not hold, in order, each at its first place only; the two signs of an atom are two conditions
+-- the conditions that do not hold, in order, each at its first place only; the two signs of a formula are two conditions
 -- (which of them are named, and in which order, is this validator's choice)
 abbrev pub missing : State → List GroundCond → List GroundCond
 missing state conds = first_places cond_eq (filter (λ cond. not (holds state cond)) conds)

@@ -1,22 +1,22 @@
 //! Which conditions do not hold in a state.
 //!
-//! A condition is looked up as it stands in the one atom that is used again and again; only one that fails is copied, and that ends the
-//! plan.
+//! An atom is looked up as it stands in the one that is used again and again; only a condition that fails gets memory of its own, and that
+//! ends the plan.
 ghost use Rattle.std.specs.Prelude.{◌≡◌, length, map, All, IfOk, OnOk};
 ghost use Rattle.indexmap.specs.IndexSet.{insert_key};
 ghost use Rattle.strips_task.specs.Atom.{cond_eq};
-ghost use Rattle.strips_task.specs.Within.{IsPatternWithin};
+ghost use Rattle.strips_task.specs.Within.{IsFormulaWithin};
 ghost use Rattle.strips_judge.specs.Grounding.{ground_condition};
 ghost use Rattle.strips_judge.specs.Numbered.{state_of};
 ghost use Rattle.strips_judge.specs.State.{holds};
 ghost use Rattle.strips_judge.specs.Step.{missing};
 
-use crate::grounding::ground;
+use crate::grounding::{ground, ground_condition, object_of};
 use crate::numbers::copy_of;
 use crate::state::NumberedState;
 use indexmap::IndexSet;
 use std::alloc::{AllocError, Global};
-use strips_task::{Atom, Cond, CondList, GroundCond, Seed};
+use strips_task::{Atom, Cond, CondList, Formula, GroundCond, GroundFormula, Seed};
 
 /// The conditions of an action that do not hold, in order, each at its first place only.
 pub(crate) fn missing(
@@ -26,14 +26,14 @@ pub(crate) fn missing(
     objects: &[u16],
     atom: &mut Atom,
 ) -> Result<CondList, AllocError>
-    requires { All (λ cond. IsPatternWithin (length objects.now) cond.pattern) conds.now }
+    requires { All (λ cond. IsFormulaWithin (length objects.now) cond.formula) conds.now }
     ensures { IfOk result (λ found. found ≡ missing (state_of state.now) (map (ground_condition objects.now) conds.now)) }
 {
     let mut found = IndexSet::with_hasher(alloc, state.seed());
     for cond in conds {
-        ground(&cond.pattern, objects, atom)?;
-        if !holds(state, cond.positive, atom) {
-            note(alloc, &mut found, cond.positive, atom)?;
+        let is_met = holds(state, cond, objects, atom)?;
+        if !is_met {
+            note(&mut found, ground_condition(alloc, cond, objects)?)?;
         }
     }
     listed(alloc, found)
@@ -49,39 +49,64 @@ pub(crate) fn missing_ground(
 {
     let mut found = IndexSet::with_hasher(alloc, state.seed());
     for cond in conds {
-        if !holds(state, cond.positive, &cond.atom) {
-            note(alloc, &mut found, cond.positive, &cond.atom)?;
+        if !holds_ground(state, cond) {
+            note(&mut found, copy_of_condition(alloc, cond)?)?;
         }
     }
     listed(alloc, found)
 }
 
-/// Whether an atom is true, or where it must not be, false.
-fn holds(state: &NumberedState<'_>, positive: bool, atom: &Atom) -> bool
-    ensures { result ≡ holds (state_of state.now) (record { positive = positive; atom = atom.now }) }
+/// Whether a condition of an action holds when the parameters are bound to these objects. Its atom is grounded in place.
+fn holds(
+    state: &NumberedState<'_>,
+    cond: &Cond,
+    objects: &[u16],
+    atom: &mut Atom,
+) -> Result<bool, AllocError>
+    requires { IsFormulaWithin (length objects.now) cond.now.formula }
+    ensures { IfOk result (λ answer. answer ≡ holds (state_of state.now) (ground_condition objects.now cond.now)) }
 {
-    if positive {
-        state.contains(atom)
-    } else {
-        !state.contains(atom)
-    }
+    let is_true = match &cond.formula {
+        Formula::Atom(pattern) => {
+            ground(pattern, objects, atom)?;
+            state.contains(atom)
+        }
+        Formula::Equal(left, right) => object_of(*left, objects) == object_of(*right, objects),
+    };
+    Ok(is_true == cond.positive)
+}
+
+/// Whether a ground condition holds.
+fn holds_ground(state: &NumberedState<'_>, cond: &GroundCond) -> bool
+    ensures { result ≡ holds (state_of state.now) cond.now }
+{
+    let is_true = match &cond.formula {
+        GroundFormula::Atom(atom) => state.contains(atom),
+        GroundFormula::Equal(left, right) => left == right,
+    };
+    is_true == cond.positive
 }
 
 /// Adds a condition at the end, unless it is there. Takes one hash, however many there are.
-fn note(
-    alloc: Global,
-    found: &mut IndexSet<GroundCond, Seed>,
-    positive: bool,
-    atom: &Atom,
-) -> Result<(), AllocError>
-    ensures { OnOk result (found.new.keys ≡ insert_key cond_eq found.old.keys (record { positive = positive; atom = atom.now })) }
+fn note(found: &mut IndexSet<GroundCond, Seed>, cond: GroundCond) -> Result<(), AllocError>
+    ensures { OnOk result (found.new.keys ≡ insert_key cond_eq found.old.keys cond) }
 {
-    let cond = GroundCond {
-        positive,
-        atom: copy_of(alloc, atom)?,
-    };
     found.insert(cond)?;
     Ok(())
+}
+
+/// A ground condition of its own that asks for the same.
+fn copy_of_condition(alloc: Global, cond: &GroundCond) -> Result<GroundCond, AllocError>
+    ensures { IfOk result (λ copy. copy ≡ cond.now) }
+{
+    let formula = match &cond.formula {
+        GroundFormula::Atom(atom) => GroundFormula::Atom(copy_of(alloc, atom)?),
+        GroundFormula::Equal(left, right) => GroundFormula::Equal(*left, *right),
+    };
+    Ok(GroundCond {
+        positive: cond.positive,
+        formula,
+    })
 }
 
 /// The conditions of a set, in their order.

@@ -17,8 +17,8 @@ mod verdict;
 
 pub use judging::judge;
 pub use strips_task::{
-    Action, Alternatives, Atom, AtomList, Cond, CondList, GroundCond, InitialAtoms, MOST_STEPS,
-    Name, NameTable, OpenSteps, Pattern, Plan, Seed, Seq, ShortSeq, StepList, StepRange, StepText,
-    StepView, Task, TaskParts, Term, TypeList, Word, WordList,
+    Action, Alternatives, Atom, AtomList, Cond, CondList, Formula, GroundCond, GroundFormula,
+    InitialAtoms, MOST_STEPS, Name, NameTable, OpenSteps, Pattern, Plan, Seed, Seq, ShortSeq,
+    StepList, StepRange, StepText, StepView, Task, TaskParts, Term, TypeList, Word, WordList,
 };
 pub use verdict::{Verdict, Why};

@@ -10,11 +10,13 @@ use Rattle.std.specs.Map.{values_of}
 use Rattle.strips_task.specs.declared.actions.Term.{Term}
 use Rattle.strips_task.specs.declared.actions.Term.TheVariants.{Param, Object}
 use Rattle.strips_task.specs.declared.actions.Pattern.{Pattern}
+use Rattle.strips_task.specs.declared.actions.Formula.{Formula}
+use Rattle.strips_task.specs.declared.actions.Formula.TheVariants as formula
 use Rattle.strips_task.specs.declared.actions.Action.{Action}
 use Rattle.strips_task.specs.declared.tasks.TaskParts.{TaskParts}
 use Rattle.strips_task.specs.Types.{IsBelow, IsTypeTree, is_below}
-use Rattle.strips_task.specs.WellFormed.{are_alternatives, are_variables, term_types, is_fitting, are_fitting, is_pattern, is_action}
-use Rattle.strips_task.specs.Within.{IsTermWithin, IsPatternWithin, IsActionWithin}
+use Rattle.strips_task.specs.WellFormed.{are_alternatives, are_variables, term_types, is_fitting, are_fitting, is_pattern, is_known, is_formula, is_action}
+use Rattle.strips_task.specs.Within.{IsTermWithin, IsPatternWithin, IsFormulaWithin, IsActionWithin}
 use Rattle.strips_task.proofs.AtomEquality.{both_hold}
 use Rattle.strips_task.proofs.TypeTrees.{below_from_within, within_from_below}
 
@@ -91,19 +93,32 @@ module _ (task : TaskParts) (params : List (List ℕ)) where
           let parts = both_hold (nat_eq (length (map (term_types task params) pattern.terms)) (length places)) (list_all (λ p. is_fitting task.parents p.0 p.1) (zip (map (term_types task params) pattern.terms) places)) fit in
           terms_within pattern.terms places (eqb-true (length (map (term_types task params) pattern.terms)) (length places) parts.0) parts.1
 
+  -- a side of an equality that is known is one of the action's parameters or an object
+  side_within : (term : Term) → is_known task params term ≡ true → IsTermWithin (length params) term
+  unfolding is_known
+  side_within (Object object) h = tt
+  side_within (Param place) h = ltb-true place (length params) h
+
+  formula_within : (asked : Formula) → is_formula task params asked ≡ true → IsFormulaWithin (length params) asked
+  unfolding is_formula
+  formula_within (formula.Atom pattern) h = pattern_within pattern h
+  formula_within (formula.Equal left right) h =
+      let sides = both_hold (is_known task params left) (is_known task params right) h in
+      (side_within left sides.0, side_within right sides.1)
+
 -- an action that passes the test speaks of its own parameters
 pub action_within : (task : TaskParts) (action : Action) → is_action task action ≡ true → IsActionWithin (length task.parents) action
 unfolding is_action
 action_within task action h =
     let params = both_hold (are_variables task.parents action.params) _ h in
-    let pre = both_hold (list_all (λ cond. is_pattern task action.params cond.pattern) action.pre) _ params.1 in
+    let pre = both_hold (list_all (λ cond. is_formula task action.params cond.formula) action.pre) _ params.1 in
     let effects = both_hold (list_all (is_pattern task action.params) action.add) (list_all (is_pattern task action.params) action.del) pre.1 in
     let known = variables_known task.parents action.params params.0 in
     record {
       few_params = known.0;
       params_known = known.1;
-      pre_within = all_from_tests (λ cond. is_pattern task action.params cond.pattern) (λ cond. IsPatternWithin (length action.params) cond.pattern)
-          (λ cond. pattern_within task action.params cond.pattern) action.pre pre.0;
+      pre_within = all_from_tests (λ cond. is_formula task action.params cond.formula) (λ cond. IsFormulaWithin (length action.params) cond.formula)
+          (λ cond. formula_within task action.params cond.formula) action.pre pre.0;
       add_within = all_from_tests (is_pattern task action.params) (IsPatternWithin (length action.params)) (pattern_within task action.params) action.add effects.0;
       del_within = all_from_tests (is_pattern task action.params) (IsPatternWithin (length action.params)) (pattern_within task action.params) action.del effects.1;
     }

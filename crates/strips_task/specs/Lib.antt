@@ -1,5 +1,6 @@
 pub mod Atom
 pub mod FirstPlaces
+pub mod FormulaEquality
 pub mod Names
 pub mod OpenPlan
 pub mod Parts

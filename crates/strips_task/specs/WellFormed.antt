@@ -7,8 +7,12 @@ use Rattle.std.specs.Map.{keys_of, values_of}
 use Rattle.strips_task.specs.declared.actions.Term.{Term}
 use Rattle.strips_task.specs.declared.actions.Term.TheVariants.{Param, Object}
 use Rattle.strips_task.specs.declared.actions.Pattern.{Pattern}
+use Rattle.strips_task.specs.declared.actions.Formula.{Formula}
+use Rattle.strips_task.specs.declared.actions.Formula.TheVariants as formula
 use Rattle.strips_task.specs.declared.actions.Action.{Action}
 use Rattle.strips_task.specs.declared.atoms.Atom.{Atom}
+use Rattle.strips_task.specs.declared.atoms.GroundFormula.{GroundFormula}
+use Rattle.strips_task.specs.declared.atoms.GroundFormula.TheVariants as ground_formula
 use Rattle.strips_task.specs.declared.tasks.TaskParts.{TaskParts}
 use Rattle.strips_task.specs.Names.{are_distinct}
 use Rattle.strips_task.specs.Types.{IsTypeTree, fits}
@@ -61,16 +65,35 @@ unfoldable pub is_pattern : TaskParts → List (List ℕ) → Pattern → Bool
 is_pattern task params pattern =
     are_fitting task.parents (map (term_types task params) pattern.terms) (slice_get (values_of task.preds) pattern.pred)
 
+-- whether a number is that of an object
+unfoldable pub is_object : TaskParts → ℕ → Bool
+is_object task object = nat_lt object (length task.objects)
+
+-- whether a term is a parameter or an object
+unfoldable pub is_known : TaskParts → List (List ℕ) → Term → Bool
+is_known task params (Param place) = nat_lt place (length params)
+is_known task params (Object object) = is_object task object
+
+-- whether a formula is a pattern of the task, or an equality of two known terms, of whatever types
+unfoldable pub is_formula : TaskParts → List (List ℕ) → Formula → Bool
+is_formula task params (formula.Atom pattern) = is_pattern task params pattern
+is_formula task params (formula.Equal left right) = is_known task params left && is_known task params right
+
 -- whether an atom has a declared predicate, and objects that fit its places
 unfoldable pub is_atom : TaskParts → Atom → Bool
 is_atom task atom =
     are_fitting task.parents (map (λ object. term_types task [] (Object object)) atom.args) (slice_get (values_of task.preds) atom.pred)
 
--- whether an action's parameters have types, and its patterns fit
+-- whether a ground formula is an atom of the task, or an equality of two of its objects, of whatever types
+unfoldable pub is_ground_formula : TaskParts → GroundFormula → Bool
+is_ground_formula task (ground_formula.Atom atom) = is_atom task atom
+is_ground_formula task (ground_formula.Equal left right) = is_object task left && is_object task right
+
+-- whether an action's parameters have types, and its formulas and patterns are those of the task
 unfoldable pub is_action : TaskParts → Action → Bool
 is_action task action =
     are_variables task.parents action.params
-    && (list_all (λ cond. is_pattern task action.params cond.pattern) action.pre
+    && (list_all (λ cond. is_formula task action.params cond.formula) action.pre
     && (list_all (is_pattern task action.params) action.add
     && list_all (is_pattern task action.params) action.del))
 
@@ -89,4 +112,4 @@ pub record IsWellFormed (task : TaskParts) : Type 0 where
   pub predicates_typed : IsTrue (list_all (are_variables task.parents) (values_of task.preds))
   pub actions_fit : IsTrue (list_all (is_action task) (values_of task.actions))
   pub initial_atoms_fit : IsTrue (list_all (is_atom task) task.init)
-  pub goal_fits : IsTrue (list_all (λ cond. is_atom task cond.atom) task.goal)
+  pub goal_fits : IsTrue (list_all (λ cond. is_ground_formula task cond.formula) task.goal)

@@ -1,7 +1,7 @@
-//! Actions and the atoms in them.
+//! Actions, and the atoms and conditions in them.
 //!
 //! Inside an action an atom is a pattern: its terms are parameters of the action or constants. A step of a plan binds the parameters
-//! and turns each pattern into a ground atom.
+//! and turns each pattern into a ground atom, and each condition into a ground one.
 
 use crate::{Seq, ShortSeq};
 
@@ -30,13 +30,22 @@ pub struct Pattern {
     pub terms: ShortSeq<Term>,
 }
 
-/// A pattern that has to be true (`positive`) or false before the action.
+/// What a condition of an action asks about: an atomic formula of PDDL (PDDL 2.1, Fox and Long 2003, section 2).
+#[derive(Debug, Drop)]
+pub enum Formula {
+    /// A predicate applied to terms.
+    Atom(Pattern),
+    /// That two terms stand for the same object.
+    Equal(Term, Term),
+}
+
+/// A formula that has to be true (`positive`) or false before the action.
 #[derive(Debug, Drop)]
 pub struct Cond {
-    /// Whether the pattern has to be true.
+    /// Whether the formula has to be true.
     pub positive: bool,
-    /// The pattern that is asked for.
-    pub pattern: Pattern,
+    /// The formula that is asked for.
+    pub formula: Formula,
 }
 
 /// The types of which an argument may be: those that stand in `(either ..)`, or the one.

@@ -1,7 +1,7 @@
 //! Ground atoms and ground conditions.
 //!
-//! An atom names a predicate and objects by their numbers in the task. A condition is an atom with a sign: it asks that the atom
-//! be true, or that it be false.
+//! An atom names a predicate and objects by their numbers in the task. A formula is an atom or an equality of two objects, and a
+//! condition is a formula with a sign: it asks that the formula be true, or that it be false.
 ghost use Rattle.std.specs.Prelude.{◌≡◌, nat_eq};
 ghost use Rattle.std.specs.Cmp.Lexicographic.{pointwise};
 ghost use Rattle.std.specs.Hash as fed;
@@ -24,13 +24,22 @@ pub struct Atom {
 /// A list of ground atoms.
 pub type AtomList = Seq<Atom>;
 
-/// A ground atom that has to be true (`positive`) or false.
+/// What a ground condition asks about: an atomic formula of PDDL whose terms are all objects (PDDL 2.1, Fox and Long 2003, section 2).
+#[derive(Debug, Drop, Hash)]
+pub enum GroundFormula {
+    /// An atom, which is true in some states and false in others.
+    Atom(Atom),
+    /// That two objects, by number, are the same. No state changes that.
+    Equal(u16, u16),
+}
+
+/// A ground formula that has to be true (`positive`) or false.
 #[derive(Debug, Drop)]
 pub struct GroundCond {
-    /// Whether the atom has to be true.
+    /// Whether the formula has to be true.
     pub positive: bool,
-    /// The atom that is asked for.
-    pub atom: Atom,
+    /// The formula that is asked for.
+    pub formula: GroundFormula,
 }
 
 /// A list of ground conditions.
@@ -85,31 +94,60 @@ fn front(pred: u16, args: &[u16]) -> u64
     })
 }
 
+impl PartialEq for GroundFormula {
+    ghost use Rattle.std.specs.Cmp.{partial_equiv_from_equiv};
+    ghost use Rattle.strips_task.specs.Atom.{formula_eq};
+    ghost use Rattle.strips_task.specs.FormulaEquality.{formula_equiv};
+
+    ghost eq = { formula_eq };
+
+    ghost laws = { partial_equiv_from_equiv formula_equiv };
+
+    fn eq(&self, other: &GroundFormula) -> bool {
+        match (self, other) {
+            (GroundFormula::Atom(atom), GroundFormula::Atom(other)) => atom == other,
+            (GroundFormula::Equal(left, right), GroundFormula::Equal(other_left, other_right)) => {
+                left == other_left && right == other_right
+            }
+            _ => false,
+        }
+    }
+}
+
+impl Eq for GroundFormula {
+    ghost use Rattle.strips_task.specs.FormulaEquality.{formula_equiv};
+
+    ghost laws = { formula_equiv };
+}
+
 impl PartialEq for GroundCond {
     ghost use Rattle.strips_task.specs.Atom.{cond_eq};
+    ghost use Rattle.strips_task.specs.FormulaEquality.{formula_equiv};
 
     ghost eq = { cond_eq };
 
-    ghost laws = { Prim.search (comparing, rules) };
+    ghost laws = { Prim.search (comparing, formula_equiv, rules) };
 
     fn eq(&self, other: &GroundCond) -> bool {
-        self.positive == other.positive && self.atom == other.atom
+        self.positive == other.positive && self.formula == other.formula
     }
 }
 
 impl Eq for GroundCond {
-    ghost laws = { Prim.search (comparing, rules) };
+    ghost use Rattle.strips_task.specs.FormulaEquality.{formula_equiv};
+
+    ghost laws = { Prim.search (comparing, formula_equiv, rules) };
 }
 
 impl Hash for GroundCond {
     ghost use Rattle.std.specs.Prelude.{◌++◌};
 
-    ghost hash_input = { λ c. fed.bool c.positive ++ ⟦<Atom as Hash>⟧.hash_input c.atom };
+    ghost hash_input = { λ c. fed.bool c.positive ++ ⟦<GroundFormula as Hash>⟧.hash_input c.formula };
 
     ghost respects_eq = { Prim.search (hashing, rules) };
 
     fn hash<H: Hasher>(&self, state: &mut H) {
         self.positive.hash(state);
-        self.atom.hash(state);
+        self.formula.hash(state);
     }
 }

@@ -26,8 +26,8 @@ mod types;
 mod well_formed;
 mod words;
 
-pub use actions::{Action, Alternatives, Cond, Pattern, Term};
-pub use atoms::{Atom, AtomList, CondList, GroundCond};
+pub use actions::{Action, Alternatives, Cond, Formula, Pattern, Term};
+pub use atoms::{Atom, AtomList, CondList, GroundCond, GroundFormula};
 pub use initial::InitialAtoms;
 pub use names::{Name, Word};
 pub use plans::Plan;

@@ -7,9 +7,11 @@ ghost use Rattle.std.specs.List.{list_all, zip};
 ghost use Rattle.std.specs.Map.{keys_of, values_of};
 ghost use Rattle.strips_task.specs.Names.{are_distinct};
 ghost use Rattle.strips_task.specs.declared.actions.Term.TheVariants.{Object};
-ghost use Rattle.strips_task.specs.WellFormed.{IsWellFormed, most_types, most_objects, most_predicates, most_actions, are_alternatives, are_variables, term_types, is_fitting, are_fitting, is_pattern, is_atom, is_action};
+ghost use Rattle.strips_task.specs.WellFormed.{IsWellFormed, most_types, most_objects, most_predicates, most_actions, are_alternatives, are_variables, term_types, is_fitting, are_fitting, is_pattern, is_object, is_known, is_formula, is_atom, is_ground_formula, is_action};
 
-use crate::{Action, Alternatives, Atom, Cond, Pattern, TaskParts, Term, TypeList};
+use crate::{
+    Action, Alternatives, Atom, Cond, Formula, GroundFormula, Pattern, TaskParts, Term, TypeList,
+};
 
 /// The most types, `object` among them.
 const MOST_TYPES: usize = 1025;
@@ -114,18 +116,18 @@ fn initial_atoms_fit(parts: &TaskParts) -> bool
     true
 }
 
-/// Whether each atom of the goal is one of the task.
+/// Whether each formula of the goal is one of the task.
 fn goal_fits(parts: &TaskParts) -> bool
-    ensures { result ≡ list_all (λ cond. is_atom parts.now cond.atom) parts.now.goal }
+    ensures { result ≡ list_all (λ cond. is_ground_formula parts.now cond.formula) parts.now.goal }
 {
     parts
         .goal
         .as_slice()
         .iter()
-        .all(|cond| is_atom(parts, &cond.atom))
+        .all(|cond| is_ground_formula(parts, &cond.formula))
 }
 
-/// Whether an action's variables have types, and its patterns fit.
+/// Whether an action's variables have types, and its formulas and patterns fit.
 #[tactic(auto, unfolding(crate::specs::WellFormed::is_action))]
 fn is_action(parts: &TaskParts, action: &Action) -> bool
     ensures { result ≡ is_action parts.now action.now }
@@ -137,13 +139,45 @@ fn is_action(parts: &TaskParts, action: &Action) -> bool
         && patterns_fit(parts, params, action.del.as_slice())
 }
 
-/// Whether each condition's pattern is one of the task and these parameters.
+/// Whether each condition's formula is one of the task and these parameters.
 fn conditions_fit(parts: &TaskParts, params: &[Alternatives], conditions: &[Cond]) -> bool
-    ensures { result ≡ list_all (λ cond. is_pattern parts.now params.now cond.pattern) conditions.now }
+    ensures { result ≡ list_all (λ cond. is_formula parts.now params.now cond.formula) conditions.now }
 {
     conditions
         .iter()
-        .all(|cond| is_pattern(parts, params, &cond.pattern))
+        .all(|cond| is_formula(parts, params, &cond.formula))
+}
+
+/// Whether a formula is an atom whose terms fit, or an equality of parameters and objects.
+#[tactic(auto, unfolding(crate::specs::WellFormed::is_formula))]
+fn is_formula(parts: &TaskParts, params: &[Alternatives], formula: &Formula) -> bool
+    ensures { result ≡ is_formula parts.now params.now formula.now }
+{
+    match formula {
+        Formula::Atom(pattern) => is_pattern(parts, params, pattern),
+        Formula::Equal(left, right) => {
+            is_known(parts, params, *left) && is_known(parts, params, *right)
+        }
+    }
+}
+
+/// Whether a term is a parameter or an object.
+#[tactic(auto, unfolding(crate::specs::WellFormed::is_known))]
+fn is_known(parts: &TaskParts, params: &[Alternatives], term: Term) -> bool
+    ensures { result ≡ is_known parts.now params.now term }
+{
+    match term {
+        Term::Param(place) => usize::from(place) < params.len(),
+        Term::Object(object) => is_object(parts, object),
+    }
+}
+
+/// Whether a number is that of an object.
+#[tactic(auto, unfolding(crate::specs::WellFormed::is_object))]
+fn is_object(parts: &TaskParts, object: u16) -> bool
+    ensures { result ≡ is_object parts.now object }
+{
+    usize::from(object) < parts.objects.len()
 }
 
 /// Whether each pattern is one of the task and these parameters.
@@ -201,6 +235,17 @@ fn term_fits(parts: &TaskParts, params: &[Alternatives], term: Term, place: &[u1
             None => false,
         },
         Term::Object(number) => object_fits(parts, number, place),
+    }
+}
+
+/// Whether a ground formula is an atom whose objects fit, or an equality of objects.
+#[tactic(auto, unfolding(crate::specs::WellFormed::is_ground_formula))]
+fn is_ground_formula(parts: &TaskParts, formula: &GroundFormula) -> bool
+    ensures { result ≡ is_ground_formula parts.now formula.now }
+{
+    match formula {
+        GroundFormula::Atom(atom) => is_atom(parts, atom),
+        GroundFormula::Equal(left, right) => is_object(parts, *left) && is_object(parts, *right),
     }
 }
 

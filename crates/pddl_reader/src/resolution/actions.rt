@@ -3,19 +3,21 @@
 ghost use Rattle.std.specs.Prelude.{◌≡◌, ◌≤◌, length, [], OnOk, Some};
 ghost use Rattle.std.specs.Map.{keys_of};
 ghost use Rattle.pddl_reader.specs.Resolved.{known_form, parameters_form};
-ghost use Rattle.pddl_reader.specs.Declarations.{condition_of, conditions_of};
+ghost use Rattle.pddl_reader.specs.Declarations.{changed_pattern, condition_of, conditions_of, equality_by, term_named};
 ghost use Rattle.pddl_syntax.specs.Forms.{action_forms, action_syntax_form, literal_form};
 ghost use Rattle.pddl_syntax.specs.Reading.{Gives, Puts};
 ghost use Rattle.pddl_reader.specs.Domain.{action_by, action_meant, actions_from, both_effects, effects_of, lone_effect, with_action_of};
 
 use crate::resolution::atoms::pattern;
+use crate::resolution::literals::{is_positive, unsupported};
 use crate::resolution::names::{check_new, name};
 use crate::resolution::parts::{part_literals, part_variables};
 use crate::resolution::tables::Declared;
+use crate::resolution::terms::term;
 use crate::resolution::variables::{ActionParameters, parameters};
-use pddl_syntax::{ActionSyntax, LiteralSyntax, Literals, ReadFault};
+use pddl_syntax::{ActionSyntax, EqualitySyntax, LiteralSyntax, Literals, ReadFault};
 use std::alloc::{AllocError, Global};
-use strips_task::{Action, Alternatives, Cond, NameTable, Pattern, Seq};
+use strips_task::{Action, Alternatives, Cond, Formula, NameTable, Pattern, Seq};
 
 /// The table of the declared predicates, with the types of which each argument may be.
 pub(crate) type Predicates = NameTable<Seq<Alternatives>>;
@@ -25,6 +27,27 @@ pub(crate) type Predicates = NameTable<Seq<Alternatives>>;
 pub(crate) struct Effects {
     pub(crate) add: Seq<Pattern>,
     pub(crate) del: Seq<Pattern>,
+}
+
+/// The condition that an equality of an action stands for, or with `positive` false its negation.
+#[tactic(auto, using(crate::proofs::DeclarationSteps::equality_steps))]
+fn equality_condition(
+    alloc: Global,
+    known: &Declared<'_>,
+    parameters: &ActionParameters<'_>,
+    positive: bool,
+    sides: &EqualitySyntax<'_>,
+) -> Result<Cond, ReadFault>
+    requires { length parameters.now.names.items ≤ 32 }
+    ensures { Gives (λ condition. condition) result (equality_by positive (term_named (known_form known.now) (parameters_form parameters.now) sides.now.left.text.now)
+        (term_named (known_form known.now) (parameters_form parameters.now) sides.now.right.text.now)) }
+{
+    let left = term(alloc, known, parameters, sides.left)?;
+    let right = term(alloc, known, parameters, sides.right)?;
+    Ok(Cond {
+        positive,
+        formula: Formula::Equal(left, right),
+    })
 }
 
 /// The condition that a literal of an action stands for.
@@ -38,11 +61,17 @@ fn condition(
     requires { length parameters.now.names.items ≤ 32 }
     ensures { Gives (λ condition. condition) result (condition_of (known_form known.now) (parameters_form parameters.now) (literal_form literal.now)) }
 {
-    let pattern = pattern(alloc, known, parameters, &literal.atom)?;
-    Ok(Cond {
-        positive: literal.positive,
-        pattern,
-    })
+    match literal {
+        LiteralSyntax::Atom { positive, atom } => Ok(Cond {
+            positive: *positive,
+            formula: Formula::Atom(pattern(alloc, known, parameters, atom)?),
+        }),
+        LiteralSyntax::Equality { positive, equality } => {
+            equality_condition(alloc, known, parameters, *positive, equality)
+        }
+        LiteralSyntax::Increase(increase) => Err(unsupported(increase.span)),
+        LiteralSyntax::Value(value) => Err(unsupported(value.span)),
+    }
 }
 
 /// The conditions that literals of an action stand for.
@@ -63,11 +92,29 @@ fn conditions(
     Ok(conditions)
 }
 
-/// Puts one more effect behind the others.
-fn put_effect(effects: &mut Effects, effect: Cond) -> Result<(), AllocError>
-    ensures { OnOk result (effects.new ≡ both_effects effects.old (lone_effect effect)) }
+/// The pattern that a literal of an effect adds or deletes.
+#[tactic(auto, using(crate::proofs::DeclarationSteps::changed_steps))]
+fn changed_pattern(
+    alloc: Global,
+    known: &Declared<'_>,
+    parameters: &ActionParameters<'_>,
+    literal: &LiteralSyntax<'_>,
+) -> Result<Pattern, ReadFault>
+    requires { length parameters.now.names.items ≤ 32 }
+    ensures { Gives (λ pattern. pattern) result (changed_pattern (known_form known.now) (parameters_form parameters.now) (literal_form literal.now)) }
 {
-    let Cond { positive, pattern } = effect;
+    match literal {
+        LiteralSyntax::Atom { atom, .. } => pattern(alloc, known, parameters, atom),
+        LiteralSyntax::Equality { equality, .. } => Err(unsupported(equality.left.span)),
+        LiteralSyntax::Increase(increase) => Err(unsupported(increase.span)),
+        LiteralSyntax::Value(value) => Err(unsupported(value.span)),
+    }
+}
+
+/// Puts one more effect behind the others: it adds a pattern (`positive`) or deletes it.
+fn put_effect(effects: &mut Effects, positive: bool, pattern: Pattern) -> Result<(), AllocError>
+    ensures { OnOk result (effects.new ≡ both_effects effects.old (lone_effect positive pattern)) }
+{
     if positive {
         effects.add.push(pattern)?;
     } else {
@@ -92,7 +139,8 @@ fn effect(
         del: Seq::new(alloc),
     };
     'effects: while let Some(literal) = literals.next(alloc)? {
-        put_effect(&mut effects, condition(alloc, known, parameters, &literal)?)?;
+        let changed = changed_pattern(alloc, known, parameters, &literal)?;
+        put_effect(&mut effects, is_positive(&literal), changed)?;
     }
     Ok(effects)
 }

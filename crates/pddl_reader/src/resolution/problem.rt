@@ -3,19 +3,43 @@
 ghost use Rattle.std.specs.Prelude.{◌≡◌, IfOk, Some};
 ghost use Rattle.pddl_reader.specs.Resolved.{known_form};
 ghost use Rattle.pddl_syntax.specs.Forms.{literal_form, problem_syntax_form};
-ghost use Rattle.pddl_reader.specs.Problem.{ground_condition_of, ground_conditions_of, initial_of, problem_of, problem_within};
+ghost use Rattle.pddl_reader.specs.Declarations.{object_number};
+ghost use Rattle.pddl_reader.specs.Problem.{ground_equality_by, ground_condition_of, ground_conditions_of, initial_atom, initial_of, problem_of, problem_within};
 ghost use Rattle.pddl_syntax.specs.Reading.{Gives};
 ghost use Rattle.strips_task.specs.WellFormed.{IsWellFormed};
 ghost use Rattle.pddl_reader.specs.Assembled.{task_assembled};
 
 use crate::resolution::atoms::ground_atom;
 use crate::resolution::domain::{Domain, extended};
+use crate::resolution::literals::{is_positive, unsupported};
 use crate::resolution::names::name;
 use crate::resolution::parts::{part_items, part_literals};
 use crate::resolution::tables::Declared;
-use pddl_syntax::{LiteralSyntax, Literals, ProblemSyntax, ReadFault};
+use crate::resolution::terms::object;
+use pddl_syntax::{EqualitySyntax, LiteralSyntax, Literals, ProblemSyntax, ReadFault};
 use std::alloc::Global;
-use strips_task::{CondList, GroundCond, InitialAtoms, Name, Seq, Task, TaskParts};
+use strips_task::{
+    Atom, CondList, GroundCond, GroundFormula, InitialAtoms, Name, Seq, Task, TaskParts,
+};
+
+/// The ground condition that an equality of a problem stands for, or with `positive` false its negation.
+#[tactic(auto, using(crate::proofs::ProblemMeaning::equality_steps))]
+fn ground_equality(
+    alloc: Global,
+    known: &Declared<'_>,
+    positive: bool,
+    sides: &EqualitySyntax<'_>,
+) -> Result<GroundCond, ReadFault>
+    ensures { Gives (λ condition. condition) result (ground_equality_by positive (object_number known.now.objects.now sides.now.left.text.now)
+        (object_number known.now.objects.now sides.now.right.text.now)) }
+{
+    let left = object(alloc, known, sides.left)?;
+    let right = object(alloc, known, sides.right)?;
+    Ok(GroundCond {
+        positive,
+        formula: GroundFormula::Equal(left, right),
+    })
+}
 
 /// The ground condition that a literal of a problem stands for.
 #[tactic(auto, using(crate::proofs::ProblemMeaning::condition_steps))]
@@ -26,11 +50,17 @@ fn ground_condition(
 ) -> Result<GroundCond, ReadFault>
     ensures { Gives (λ condition. condition) result (ground_condition_of (known_form known.now) (literal_form literal.now)) }
 {
-    let atom = ground_atom(alloc, known, &literal.atom)?;
-    Ok(GroundCond {
-        positive: literal.positive,
-        atom,
-    })
+    match literal {
+        LiteralSyntax::Atom { positive, atom } => Ok(GroundCond {
+            positive: *positive,
+            formula: GroundFormula::Atom(ground_atom(alloc, known, atom)?),
+        }),
+        LiteralSyntax::Equality { positive, equality } => {
+            ground_equality(alloc, known, *positive, equality)
+        }
+        LiteralSyntax::Increase(increase) => Err(unsupported(increase.span)),
+        LiteralSyntax::Value(value) => Err(unsupported(value.span)),
+    }
 }
 
 /// The ground conditions that literals of a problem stand for.
@@ -49,6 +79,23 @@ fn ground_conditions(
     Ok(conditions)
 }
 
+/// The ground atom of an initial literal.
+#[tactic(auto, using(crate::proofs::ProblemMeaning::initial_atom_steps))]
+fn initial_atom(
+    alloc: Global,
+    known: &Declared<'_>,
+    literal: &LiteralSyntax<'_>,
+) -> Result<Atom, ReadFault>
+    ensures { Gives (λ atom. atom) result (initial_atom (known_form known.now) (literal_form literal.now)) }
+{
+    match literal {
+        LiteralSyntax::Atom { atom, .. } => ground_atom(alloc, known, atom),
+        LiteralSyntax::Equality { equality, .. } => Err(unsupported(equality.left.span)),
+        LiteralSyntax::Increase(increase) => Err(unsupported(increase.span)),
+        LiteralSyntax::Value(value) => Err(unsupported(value.span)),
+    }
+}
+
 /// The initial atoms: those that are not negated. The others are looked up too.
 #[tactic(auto, using(crate::proofs::ProblemMeaning::initial_steps))]
 fn initial(
@@ -60,9 +107,9 @@ fn initial(
 {
     let mut atoms = InitialAtoms::new(alloc, known.objects.seed());
     'items: while let Some(literal) = literals.next(alloc)? {
-        let given = ground_condition(alloc, known, &literal)?;
-        if given.positive {
-            atoms.push(given.atom)?;
+        let atom = initial_atom(alloc, known, &literal)?;
+        if is_positive(&literal) {
+            atoms.push(atom)?;
         }
     }
     Ok(atoms)

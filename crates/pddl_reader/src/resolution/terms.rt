@@ -47,6 +47,17 @@ fn object_number(
     }
 }
 
+/// The object that a word names, of whatever type.
+#[tactic(auto, using(crate::proofs::TermSteps::object_steps))]
+pub(crate) fn object(alloc: Global, known: &Declared<'_>, word: Word<'_>) -> Result<u16, ReadFault>
+    ensures { Gives (λ number. number) result (object_number known.now.objects.now word.entry.text.now) }
+{
+    match object_number(alloc, known.objects, word)? {
+        Some(number) => Ok(number),
+        None => Err(ReadFault::new(FaultKind::UnknownName, word.span)),
+    }
+}
+
 /// The object that a word names, where it fits its place.
 #[tactic(auto, using(crate::proofs::TermSteps::object_place_steps))]
 fn object_in_place(
@@ -57,9 +68,7 @@ fn object_in_place(
 ) -> Result<u16, ReadFault>
     ensures { Gives (λ number. number) result (object_in_place (known_form known.now) place.now word.entry.text.now) }
 {
-    let Some(number) = object_number(alloc, known.objects, word)? else {
-        return Err(ReadFault::new(FaultKind::UnknownName, word.span));
-    };
+    let number = object(alloc, known, word)?;
     if !term_fits(known, &[], Term::Object(number), place) {
         return Err(ReadFault::new(FaultKind::WrongType, word.span));
     }
@@ -85,26 +94,23 @@ pub(crate) fn objects_in_places(
     Ok(objects)
 }
 
-/// The term that a word stands for in an action.
+/// The term that a word stands for in an action, of whatever type.
 #[tactic(auto, using(crate::proofs::TermSteps::term_steps))]
-fn term(
+pub(crate) fn term(
     alloc: Global,
     known: &Declared<'_>,
     parameters: &ActionParameters<'_>,
     word: Word<'_>,
-) -> Result<Option<Term>, ReadFault>
+) -> Result<Term, ReadFault>
     requires { length parameters.now.names.items ≤ 32 }
-    ensures { GivesOption result (term_named (known_form known.now) (parameters_form parameters.now) word.entry.text.now) }
+    ensures { Gives (λ term. term) result (term_named (known_form known.now) (parameters_form parameters.now) word.entry.text.now) }
 {
-    if is_variable(word.text) {
-        return match parameter_number(parameters.names.as_slice(), word.text) {
-            Some(number) => Ok(Some(Term::Param(number as u16))),
-            None => Ok(None),
-        };
+    if !is_variable(word.text) {
+        return Ok(Term::Object(object(alloc, known, word)?));
     }
-    match object_number(alloc, known.objects, word)? {
-        Some(number) => Ok(Some(Term::Object(number))),
-        None => Ok(None),
+    match parameter_number(parameters.names.as_slice(), word.text) {
+        Some(number) => Ok(Term::Param(number as u16)),
+        None => Err(ReadFault::new(FaultKind::UnknownName, word.span)),
     }
 }
 
@@ -120,9 +126,7 @@ fn term_in_place(
     requires { length parameters.now.names.items ≤ 32 }
     ensures { Gives (λ term. term) result (term_in_place (known_form known.now) (parameters_form parameters.now) place.now word.entry.text.now) }
 {
-    let Some(found) = term(alloc, known, parameters, word)? else {
-        return Err(ReadFault::new(FaultKind::UnknownName, word.span));
-    };
+    let found = term(alloc, known, parameters, word)?;
     if !term_fits(known, parameters.types.as_slice(), found, place) {
         return Err(ReadFault::new(FaultKind::WrongType, word.span));
     }

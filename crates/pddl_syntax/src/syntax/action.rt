@@ -6,8 +6,9 @@ ghost use Rattle.pddl_syntax.specs.Reading.{ReadsInto, ReadsList};
 ghost use Rattle.pddl_syntax.specs.Forms.{action_syntax_form, parts_form};
 ghost use Rattle.pddl_syntax.specs.Syntax.{action_of, is_part_given, no_parts, part_by, parts_of};
 
+use crate::dialect::Dialect;
 use crate::fault::{FaultKind, ReadFault};
-use crate::heads::{ActionPart, Scope, action_part, is_name};
+use crate::heads::{ActionPart, Place, Scope, action_part, is_name};
 use crate::syntax::lists::enter_list;
 use crate::syntax::literals::kept_literals;
 use crate::syntax::refusals::keyword_fault;
@@ -32,29 +33,36 @@ fn is_given(parts: &ActionParts<'_>, part: ActionPart) -> bool
 #[tactic(auto, using(crate::proofs::ActionSteps::part_steps), unfolding(crate::specs::Forms::parts_form))]
 fn part<'a>(
     alloc: Global,
+    dialect: Dialect,
     walk: &mut Walk<'a>,
     part: ActionPart,
     parts: &mut ActionParts<'a>,
 ) -> Result<(), ReadFault>
-    ensures { ReadsInto result (part_by part (parts_form parts.old)) (here walk.old.cursor) (here walk.new.cursor)
+    ensures { ReadsInto result (part_by dialect part (parts_form parts.old)) (here walk.old.cursor) (here walk.new.cursor)
         (parts_form parts.new) }
 {
     match part {
         ActionPart::Parameters => parts.parameters = Some(kept_variables(alloc, walk)?),
-        ActionPart::Precondition => parts.precondition = Some(kept_literals(
-            alloc,
-            walk,
-            Scope::Action,
-        )?),
-        ActionPart::Effect => parts.effect = Some(kept_literals(alloc, walk, Scope::Action)?),
+        ActionPart::Precondition => {
+            let place = Place::Precondition;
+            parts.precondition = Some(kept_literals(walk, Scope { dialect, place })?);
+        }
+        ActionPart::Effect => {
+            let place = Place::Effect;
+            parts.effect = Some(kept_literals(walk, Scope { dialect, place })?);
+        }
     }
     Ok(())
 }
 
 /// Reads the parts of an action.
 #[tactic(auto, using(crate::proofs::ActionSteps::parts_steps))]
-fn parts<'a>(alloc: Global, walk: &mut Walk<'a>) -> Result<ActionParts<'a>, ReadFault>
-    ensures { ReadsList parts_form result (parts_of no_parts) (here walk.old.cursor) (here walk.new.cursor) }
+fn parts<'a>(
+    alloc: Global,
+    dialect: Dialect,
+    walk: &mut Walk<'a>,
+) -> Result<ActionParts<'a>, ReadFault>
+    ensures { ReadsList parts_form result (parts_of dialect no_parts) (here walk.old.cursor) (here walk.new.cursor) }
 {
     let mut parts = ActionParts {
         parameters: None,
@@ -73,7 +81,7 @@ fn parts<'a>(alloc: Global, walk: &mut Walk<'a>) -> Result<ActionParts<'a>, Read
                     return Err(ReadFault::new(FaultKind::Repeated, word.span));
                 }
                 enter_list(walk)?;
-                part(alloc, walk, named, &mut parts)?;
+                part(alloc, dialect, walk, named, &mut parts)?;
             }
         }
     }
@@ -81,15 +89,19 @@ fn parts<'a>(alloc: Global, walk: &mut Walk<'a>) -> Result<ActionParts<'a>, Read
 
 /// Reads an action behind its keyword.
 #[tactic(auto, using(crate::proofs::ActionSteps::action_steps))]
-pub(crate) fn action<'a>(alloc: Global, walk: &mut Walk<'a>) -> Result<ActionSyntax<'a>, ReadFault>
-    ensures { ReadsList action_syntax_form result action_of (here walk.old.cursor) (here walk.new.cursor) }
+pub(crate) fn action<'a>(
+    alloc: Global,
+    dialect: Dialect,
+    walk: &mut Walk<'a>,
+) -> Result<ActionSyntax<'a>, ReadFault>
+    ensures { ReadsList action_syntax_form result (action_of dialect) (here walk.old.cursor) (here walk.new.cursor) }
 {
     match walk.next() {
         Item::Text(name) => {
             if !is_name(name.text) {
                 return Err(ReadFault::new(FaultKind::Expected, name.span));
             }
-            let parts = parts(alloc, walk)?;
+            let parts = parts(alloc, dialect, walk)?;
             Ok(ActionSyntax {
                 name: NameWord::new(name),
                 parts,

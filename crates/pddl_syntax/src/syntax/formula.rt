@@ -1,118 +1,211 @@
-//! Atoms, literals, formulas and effects.
+//! Literals, formulas and effects, which are stepped over and tested. That takes no memory.
 
 ghost use Rattle.std.specs.Prelude.{◌≡◌};
 ghost use Rattle.pddl_syntax.specs.Levels.{here};
-ghost use Rattle.pddl_syntax.specs.Reading.{PassesList, ReadsList};
-ghost use Rattle.pddl_syntax.specs.Forms.{atom_form, literal_form, word_forms};
+ghost use Rattle.pddl_syntax.specs.Reading.{PassesList, ReadsList, TakesWord};
 ghost use Rattle.pddl_syntax.specs.Heads.{is_term};
-ghost use Rattle.pddl_syntax.specs.Syntax.{are_conjuncts, atom_of, atom_in, is_formula, literal_of, negated_of, words_of};
+ghost use Rattle.pddl_syntax.specs.Syntax.{number_of};
+ghost use Rattle.pddl_syntax.specs.Presence.{are_conjuncts, is_equality, are_words, is_amount, is_formula, is_function, is_increase, is_literal, is_negated, is_negated_in, is_target, is_value};
 
 use crate::fault::{FaultKind, ReadFault};
-use crate::heads::{FormulaHead, Scope, formula_head, is_and, is_term};
+use crate::heads::{
+    FormulaHead, LiteralHead, Place, Scope, formula_head, is_and, is_term, literal_head,
+};
 use crate::syntax::lists::{enter_list, leave_list};
-use crate::syntax::{AtomSyntax, LiteralSyntax, Terms};
-use crate::walk::{Item, NameWord, Walk, Word};
-use std::alloc::Global;
+use crate::syntax::refusals::{function_fault, name_fault};
+use crate::walk::{Item, Walk, Word};
+use pddl_tokens::{Span, same_folded};
+use pddl_words::billionths;
 
-/// Reads the terms of an atom.
-#[tactic(auto, using(crate::proofs::WordSteps::word_list_steps))]
-fn terms<'a>(alloc: Global, walk: &mut Walk<'a>, scope: Scope) -> Result<Terms<'a>, ReadFault>
-    ensures { ReadsList (λ v. word_forms v.items) result (words_of (is_term scope)) (here walk.old.cursor) (here walk.new.cursor) }
+/// Steps over terms to the end of their list.
+#[tactic(auto, using(crate::proofs::FormulaSteps::term_steps))]
+fn terms(walk: &mut Walk<'_>, place: Place) -> Result<(), ReadFault>
+    ensures { PassesList result (are_words (is_term place)) (here walk.old.cursor) (here walk.new.cursor) }
 {
-    let mut terms = Terms::new(alloc);
     'terms: loop {
         match walk.next() {
-            Item::Close(_) => return Ok(terms),
+            Item::Close(_) => return Ok(()),
             Item::Open(span) => return Err(ReadFault::new(FaultKind::Unsupported, span)),
             Item::Text(word) => {
-                if !is_term(scope, word.text) {
+                if !is_term(place, word.text) {
                     return Err(ReadFault::new(FaultKind::Expected, word.span));
                 }
-                terms.push(word)?;
             }
         }
     }
 }
 
-/// Reads an atom behind its predicate.
-#[tactic(auto, using(crate::proofs::FormulaSteps::atom_of_steps))]
-fn atom_terms<'a>(
-    alloc: Global,
-    walk: &mut Walk<'a>,
-    scope: Scope,
-    predicate: NameWord<'a>,
-) -> Result<AtomSyntax<'a>, ReadFault>
-    ensures { ReadsList atom_form result (atom_of scope predicate.entry.text.now) (here walk.old.cursor) (here walk.new.cursor) }
-{
-    let terms = terms(alloc, walk, scope)?;
-    Ok(AtomSyntax { predicate, terms })
-}
-
-/// Reads an atom where nothing else may stand.
-#[tactic(auto, using(crate::proofs::FormulaSteps::atom_in_steps))]
-fn atom<'a>(alloc: Global, walk: &mut Walk<'a>, scope: Scope) -> Result<AtomSyntax<'a>, ReadFault>
-    ensures { ReadsList atom_form result (atom_in scope) (here walk.old.cursor) (here walk.new.cursor) }
+/// Steps over a function and its terms.
+#[tactic(auto, using(crate::proofs::FormulaSteps::function_steps))]
+fn function(walk: &mut Walk<'_>, place: Place) -> Result<(), ReadFault>
+    ensures { PassesList result (is_function (is_term place)) (here walk.old.cursor) (here walk.new.cursor) }
 {
     match walk.next() {
         Item::Text(word) => match formula_head(word.text) {
-            FormulaHead::Name => atom_terms(alloc, walk, scope, NameWord::new(word)),
+            FormulaHead::Name => terms(walk, place),
             FormulaHead::And => Err(ReadFault::new(FaultKind::Unsupported, word.span)),
             FormulaHead::Not => Err(ReadFault::new(FaultKind::Unsupported, word.span)),
             FormulaHead::Reserved => Err(ReadFault::new(FaultKind::Unsupported, word.span)),
-            FormulaHead::Other => Err(ReadFault::new(FaultKind::Expected, word.span)),
+            FormulaHead::Other => Err(function_fault(place, word)),
         },
         Item::Open(span) => Err(ReadFault::new(FaultKind::Expected, span)),
         Item::Close(span) => Err(ReadFault::new(FaultKind::Expected, span)),
     }
 }
 
-/// Reads what `not` negates.
-#[tactic(auto, using(crate::proofs::FormulaSteps::negated_steps))]
-fn negated<'a>(
-    alloc: Global,
-    walk: &mut Walk<'a>,
-    scope: Scope,
-) -> Result<LiteralSyntax<'a>, ReadFault>
-    ensures { ReadsList literal_form result (negated_of scope) (here walk.old.cursor) (here walk.new.cursor) }
+/// Steps over a term on one side of the `=` at these bytes. Only words are compared.
+#[tactic(auto, using(crate::proofs::FormulaSteps::side_steps))]
+fn side<'a>(walk: &mut Walk<'a>, place: Place, equals: Span) -> Result<Word<'a>, ReadFault>
+    ensures { TakesWord result (is_term place) (here walk.old.cursor) (here walk.new.cursor) }
 {
-    enter_list(walk)?;
-    let atom = atom(alloc, walk, scope)?;
-    leave_list(walk)?;
-    Ok(LiteralSyntax {
-        positive: false,
-        atom,
-    })
+    match walk.next() {
+        Item::Text(word) => {
+            if !is_term(place, word.text) {
+                return Err(ReadFault::new(FaultKind::Expected, word.span));
+            }
+            Ok(word)
+        }
+        Item::Open(_) => Err(ReadFault::new(FaultKind::Unsupported, equals)),
+        Item::Close(span) => Err(ReadFault::new(FaultKind::Expected, span)),
+    }
 }
 
-/// Reads a literal behind its first word.
-#[tactic(auto, using(crate::proofs::FormulaSteps::literal_steps))]
-pub(crate) fn literal<'a>(
-    alloc: Global,
-    walk: &mut Walk<'a>,
-    scope: Scope,
-    head: Word<'a>,
-) -> Result<LiteralSyntax<'a>, ReadFault>
-    ensures { ReadsList literal_form result (literal_of scope head.entry.text.now) (here walk.old.cursor) (here walk.new.cursor) }
+/// Steps over the two terms behind the `=` at these bytes.
+#[tactic(auto, using(crate::proofs::FormulaSteps::equality_steps))]
+fn equality(walk: &mut Walk<'_>, place: Place, equals: Span) -> Result<(), ReadFault>
+    ensures { PassesList result (is_equality (is_term place)) (here walk.old.cursor) (here walk.new.cursor) }
 {
-    match formula_head(head.text) {
-        FormulaHead::Name => {
-            let atom = atom_terms(alloc, walk, scope, NameWord::new(head))?;
-            Ok(LiteralSyntax {
-                positive: true,
-                atom,
-            })
+    let _left = side(walk, place, equals)?;
+    let _right = side(walk, place, equals)?;
+    leave_list(walk)
+}
+
+/// Reads the number, in billionths, that is all that is left of a list.
+#[tactic(auto, using(crate::proofs::FormulaSteps::number_steps))]
+fn number(walk: &mut Walk<'_>) -> Result<u64, ReadFault>
+    ensures { ReadsList (λ n. n) result number_of (here walk.old.cursor) (here walk.new.cursor) }
+{
+    match walk.next() {
+        Item::Text(word) => {
+            let Some(number) = billionths(word.text) else {
+                return Err(ReadFault::new(FaultKind::Expected, word.span));
+            };
+            leave_list(walk)?;
+            Ok(number)
         }
-        FormulaHead::Not => negated(alloc, walk, scope),
-        FormulaHead::And => Err(ReadFault::new(FaultKind::Unsupported, head.span)),
-        FormulaHead::Reserved => Err(ReadFault::new(FaultKind::Unsupported, head.span)),
-        FormulaHead::Other => Err(ReadFault::new(FaultKind::Expected, head.span)),
+        Item::Open(span) => Err(ReadFault::new(FaultKind::Expected, span)),
+        Item::Close(span) => Err(ReadFault::new(FaultKind::Expected, span)),
+    }
+}
+
+/// Steps over the function that is raised, which is `total-cost`.
+#[tactic(auto, using(crate::proofs::FormulaSteps::target_steps))]
+fn target(walk: &mut Walk<'_>) -> Result<(), ReadFault>
+    ensures { PassesList result is_target (here walk.old.cursor) (here walk.new.cursor) }
+{
+    match walk.next() {
+        Item::Text(word) => {
+            if !same_folded(word.text, b"total-cost") {
+                return Err(name_fault(word));
+            }
+            leave_list(walk)
+        }
+        Item::Open(span) => Err(ReadFault::new(FaultKind::Expected, span)),
+        Item::Close(span) => Err(ReadFault::new(FaultKind::Expected, span)),
+    }
+}
+
+/// Steps over the amount that is all that is left of a list.
+#[tactic(auto, using(crate::proofs::FormulaSteps::amount_steps))]
+fn amount(walk: &mut Walk<'_>, place: Place) -> Result<(), ReadFault>
+    ensures { PassesList result (is_amount (is_term place)) (here walk.old.cursor) (here walk.new.cursor) }
+{
+    match walk.next() {
+        Item::Text(word) => {
+            let Some(_number) = billionths(word.text) else {
+                return Err(ReadFault::new(FaultKind::Expected, word.span));
+            };
+            leave_list(walk)
+        }
+        Item::Open(_) => {
+            function(walk, place)?;
+            leave_list(walk)
+        }
+        Item::Close(span) => Err(ReadFault::new(FaultKind::Expected, span)),
+    }
+}
+
+/// Steps over what stands behind `increase`.
+#[tactic(auto, using(crate::proofs::FormulaSteps::increase_steps))]
+fn increase(walk: &mut Walk<'_>, place: Place) -> Result<(), ReadFault>
+    ensures { PassesList result (is_increase (is_term place)) (here walk.old.cursor) (here walk.new.cursor) }
+{
+    enter_list(walk)?;
+    target(walk)?;
+    amount(walk, place)
+}
+
+/// Steps over a function and its value, behind `=`.
+#[tactic(auto, using(crate::proofs::FormulaSteps::value_steps))]
+fn value(walk: &mut Walk<'_>, place: Place) -> Result<(), ReadFault>
+    ensures { PassesList result (is_value (is_term place)) (here walk.old.cursor) (here walk.new.cursor) }
+{
+    enter_list(walk)?;
+    function(walk, place)?;
+    let _value = number(walk)?;
+    Ok(())
+}
+
+/// Steps over what stands in the parentheses behind `not`.
+#[tactic(auto, using(crate::proofs::FormulaSteps::negated_in_steps))]
+fn negated_in(walk: &mut Walk<'_>, scope: Scope) -> Result<(), ReadFault>
+    ensures { PassesList result (is_negated_in scope) (here walk.old.cursor) (here walk.new.cursor) }
+{
+    match walk.next() {
+        Item::Text(word) => match literal_head(scope, word.text, walk) {
+            LiteralHead::Atom => terms(walk, scope.place),
+            LiteralHead::Equality => equality(walk, scope.place, word.span),
+            LiteralHead::Other => Err(ReadFault::new(FaultKind::Expected, word.span)),
+            LiteralHead::Not => Err(ReadFault::new(FaultKind::Unsupported, word.span)),
+            LiteralHead::Value => Err(ReadFault::new(FaultKind::Unsupported, word.span)),
+            LiteralHead::Increase => Err(ReadFault::new(FaultKind::Unsupported, word.span)),
+            LiteralHead::Reserved => Err(ReadFault::new(FaultKind::Unsupported, word.span)),
+        },
+        Item::Open(span) => Err(ReadFault::new(FaultKind::Expected, span)),
+        Item::Close(span) => Err(ReadFault::new(FaultKind::Expected, span)),
+    }
+}
+
+/// Steps over what `not` negates.
+#[tactic(auto, using(crate::proofs::FormulaSteps::negated_steps))]
+fn negated(walk: &mut Walk<'_>, scope: Scope) -> Result<(), ReadFault>
+    ensures { PassesList result (is_negated scope) (here walk.old.cursor) (here walk.new.cursor) }
+{
+    enter_list(walk)?;
+    negated_in(walk, scope)?;
+    leave_list(walk)
+}
+
+/// Steps over a literal behind its first word.
+#[tactic(auto, using(crate::proofs::FormulaSteps::literal_steps))]
+pub(crate) fn literal(walk: &mut Walk<'_>, scope: Scope, head: Word<'_>) -> Result<(), ReadFault>
+    ensures { PassesList result (is_literal scope head.entry.text.now) (here walk.old.cursor) (here walk.new.cursor) }
+{
+    match literal_head(scope, head.text, walk) {
+        LiteralHead::Atom => terms(walk, scope.place),
+        LiteralHead::Not => negated(walk, scope),
+        LiteralHead::Equality => equality(walk, scope.place, head.span),
+        LiteralHead::Value => value(walk, scope.place),
+        LiteralHead::Increase => increase(walk, scope.place),
+        LiteralHead::Reserved => Err(ReadFault::new(FaultKind::Unsupported, head.span)),
+        LiteralHead::Other => Err(ReadFault::new(FaultKind::Expected, head.span)),
     }
 }
 
 /// Steps over what stands in the parentheses of a formula or an effect.
 #[cycle(formulas)]
 #[tactic(auto, using(crate::proofs::FormulaSteps::formula_steps))]
-pub(crate) fn formula(alloc: Global, walk: &mut Walk<'_>, scope: Scope) -> Result<(), ReadFault>
+pub(crate) fn formula(walk: &mut Walk<'_>, scope: Scope) -> Result<(), ReadFault>
     ensures { PassesList result (is_formula scope) (here walk.old.cursor) (here walk.new.cursor) }
 {
     match walk.next() {
@@ -120,10 +213,9 @@ pub(crate) fn formula(alloc: Global, walk: &mut Walk<'_>, scope: Scope) -> Resul
         Item::Open(span) => Err(ReadFault::new(FaultKind::Expected, span)),
         Item::Text(word) => {
             if is_and(word.text) {
-                return conjuncts(alloc, walk, scope);
+                return conjuncts(walk, scope);
             }
-            let _literal = literal(alloc, walk, scope, word)?;
-            Ok(())
+            literal(walk, scope, word)
         }
     }
 }
@@ -131,13 +223,13 @@ pub(crate) fn formula(alloc: Global, walk: &mut Walk<'_>, scope: Scope) -> Resul
 /// Steps over the formulas behind `and`.
 #[cycle(formulas)]
 #[tactic(auto, using(crate::proofs::FormulaSteps::conjunct_steps))]
-fn conjuncts(alloc: Global, walk: &mut Walk<'_>, scope: Scope) -> Result<(), ReadFault>
+fn conjuncts(walk: &mut Walk<'_>, scope: Scope) -> Result<(), ReadFault>
     ensures { PassesList result (are_conjuncts scope) (here walk.old.cursor) (here walk.new.cursor) }
 {
     'conjuncts: loop {
         match walk.next() {
             Item::Close(_) => return Ok(()),
-            Item::Open(_) => formula(alloc, walk, scope)?,
+            Item::Open(_) => formula(walk, scope)?,
             Item::Text(word) => return Err(ReadFault::new(FaultKind::Expected, word.span)),
         }
     }

@@ -7,10 +7,12 @@ ghost use Rattle.pddl_syntax.specs.Reading.{ReadsList};
 ghost use Rattle.pddl_syntax.specs.Remaining.{ReadsNext, TakesNext, literals_in, remaining};
 ghost use Rattle.pddl_syntax.specs.Syntax.{formula_in};
 
+use crate::dialect::Dialect;
 use crate::fault::ReadFault;
-use crate::heads::{Scope, is_and};
+use crate::heads::{Place, Scope, is_and};
 use crate::syntax::LiteralSyntax;
-use crate::syntax::formula::{formula, literal};
+use crate::syntax::formula::formula;
+use crate::syntax::known::literal;
 use crate::walk::{Item, Walk};
 use std::alloc::Global;
 use std::marker::Model;
@@ -47,7 +49,10 @@ impl<'a> Literals<'a> {
     {
         Literals {
             walk: Walk::new(b""),
-            scope: Scope::Problem,
+            scope: Scope {
+                dialect: Dialect::Strips,
+                place: Place::Goal,
+            },
             depth: 0,
         }
     }
@@ -122,13 +127,12 @@ fn next_literal<'a>(
 /// Steps over a formula or an effect, and keeps its literals.
 #[tactic(auto, using(crate::proofs::LiteralSteps::formula_steps))]
 pub(crate) fn kept_literals<'a>(
-    alloc: Global,
     walk: &mut Walk<'a>,
     scope: Scope,
 ) -> Result<Literals<'a>, ReadFault>
     ensures { ReadsList (λ l. l) result (formula_in scope) (here walk.old.cursor) (here walk.new.cursor) }
 {
     let start = walk.fork();
-    formula(alloc, walk, scope)?;
+    formula(walk, scope)?;
     Ok(Literals::within(start, scope))
 }

@@ -4,66 +4,69 @@ ghost use Rattle.std.specs.Prelude.{◌≡◌, None};
 ghost use Rattle.pddl_syntax.specs.Levels.{here, trees};
 ghost use Rattle.pddl_syntax.specs.Trees.{text_fault};
 ghost use Rattle.pddl_syntax.specs.Reading.{Gives, PassesList, ReadsInto, ReadsList};
-ghost use Rattle.pddl_syntax.specs.Forms.{literal_form, problem_sections_form, problem_syntax_form};
-ghost use Rattle.pddl_syntax.specs.Syntax.{are_initial, goal_of, init_item_in, is_problem_section_given, lists_of, no_problem_sections, problem_in, problem_section_by, problem_section_in, problem_sections_of, problem_syntax};
+ghost use Rattle.pddl_syntax.specs.Forms.{problem_sections_form, problem_syntax_form};
+ghost use Rattle.pddl_syntax.specs.Syntax.{goal_of, init_item_in, is_problem_section_given, lists_of, no_problem_sections, problem_in, problem_section_by, problem_section_in, problem_sections_of, problem_syntax};
+ghost use Rattle.pddl_syntax.specs.Presence.{are_initial, is_init_item};
 
+use crate::dialect::Dialect;
 use crate::fault::{FaultKind, ReadFault};
-use crate::heads::{ProblemSection, Scope, problem_section};
+use crate::heads::{Place, ProblemSection, Scope, problem_section};
 use crate::syntax::formula::literal;
 use crate::syntax::lists::{enter_list, expect_word, header, leave_list, lone_name};
 use crate::syntax::literals::{Literals, kept_literals};
 use crate::syntax::refusals::keyword_fault;
 use crate::syntax::typed::{keywords, skip, typed_names};
-use crate::syntax::{LiteralSyntax, ProblemSections, ProblemSyntax};
+use crate::syntax::{ProblemSections, ProblemSyntax};
 use crate::walk::{Item, Walk};
 use pddl_tokens::Span;
 use std::alloc::Global;
 
-/// Reads an initial atom, which may be negated.
+/// Steps over an initial atom, which may be negated, or the value of a function.
 #[tactic(auto, using(crate::proofs::ProblemSteps::init_item_steps))]
-fn init_item<'a>(alloc: Global, walk: &mut Walk<'a>) -> Result<LiteralSyntax<'a>, ReadFault>
-    ensures { ReadsList literal_form result init_item_in (here walk.old.cursor) (here walk.new.cursor) }
+fn init_item(dialect: Dialect, walk: &mut Walk<'_>) -> Result<(), ReadFault>
+    ensures { PassesList result (is_init_item dialect) (here walk.old.cursor) (here walk.new.cursor) }
 {
+    let place = Place::Initial;
     match walk.next() {
-        Item::Text(word) => literal(alloc, walk, Scope::Problem, word),
+        Item::Text(word) => literal(walk, Scope { dialect, place }, word),
         Item::Open(span) => Err(ReadFault::new(FaultKind::Expected, span)),
         Item::Close(span) => Err(ReadFault::new(FaultKind::Expected, span)),
     }
 }
 
-/// Steps over the initial atoms.
+/// Steps over the initial atoms and values.
 #[tactic(auto, using(crate::proofs::ProblemSteps::init_steps))]
-fn init_items(alloc: Global, walk: &mut Walk<'_>) -> Result<(), ReadFault>
-    ensures { PassesList result are_initial (here walk.old.cursor) (here walk.new.cursor) }
+fn init_items(dialect: Dialect, walk: &mut Walk<'_>) -> Result<(), ReadFault>
+    ensures { PassesList result (are_initial dialect) (here walk.old.cursor) (here walk.new.cursor) }
 {
     'items: loop {
         match walk.next() {
             Item::Close(_) => return Ok(()),
             Item::Text(word) => return Err(ReadFault::new(FaultKind::Expected, word.span)),
-            Item::Open(_) => {
-                let _item = init_item(alloc, walk)?;
-            }
+            Item::Open(_) => init_item(dialect, walk)?,
         }
     }
 }
 
-/// Steps over the initial atoms, and keeps their literals.
+/// Steps over the initial atoms and values, and keeps them.
 #[tactic(auto, using(crate::proofs::LiteralSteps::initial_steps))]
-fn init<'a>(alloc: Global, walk: &mut Walk<'a>) -> Result<Literals<'a>, ReadFault>
-    ensures { ReadsList (λ l. l) result (lists_of init_item_in) (here walk.old.cursor) (here walk.new.cursor) }
+fn init<'a>(dialect: Dialect, walk: &mut Walk<'a>) -> Result<Literals<'a>, ReadFault>
+    ensures { ReadsList (λ l. l) result (lists_of (init_item_in dialect)) (here walk.old.cursor) (here walk.new.cursor) }
 {
     let start = walk.fork();
-    init_items(alloc, walk)?;
-    Ok(Literals::within(start, Scope::Problem))
+    init_items(dialect, walk)?;
+    let place = Place::Initial;
+    Ok(Literals::within(start, Scope { dialect, place }))
 }
 
 /// Reads the goal.
 #[tactic(auto, using(crate::proofs::ProblemSteps::goal_steps))]
-fn goal<'a>(alloc: Global, walk: &mut Walk<'a>) -> Result<Literals<'a>, ReadFault>
-    ensures { ReadsList (λ l. l) result goal_of (here walk.old.cursor) (here walk.new.cursor) }
+fn goal<'a>(dialect: Dialect, walk: &mut Walk<'a>) -> Result<Literals<'a>, ReadFault>
+    ensures { ReadsList (λ l. l) result (goal_of dialect) (here walk.old.cursor) (here walk.new.cursor) }
 {
     enter_list(walk)?;
-    let literals = kept_literals(alloc, walk, Scope::Problem)?;
+    let place = Place::Goal;
+    let literals = kept_literals(walk, Scope { dialect, place })?;
     leave_list(walk)?;
     Ok(literals)
 }
@@ -88,11 +91,12 @@ fn is_given(sections: &ProblemSections<'_>, section: ProblemSection) -> bool
 #[tactic(auto, using(crate::proofs::ProblemSteps::body_steps), unfolding(crate::specs::Forms::problem_sections_form))]
 fn section_body<'a>(
     alloc: Global,
+    dialect: Dialect,
     walk: &mut Walk<'a>,
     section: ProblemSection,
     sections: &mut ProblemSections<'a>,
 ) -> Result<(), ReadFault>
-    ensures { ReadsInto result (problem_section_by section (problem_sections_form sections.old)) (here walk.old.cursor)
+    ensures { ReadsInto result (problem_section_by dialect section (problem_sections_form sections.old)) (here walk.old.cursor)
         (here walk.new.cursor) (problem_sections_form sections.new) }
 {
     match section {
@@ -102,8 +106,8 @@ fn section_body<'a>(
             sections.requirements = true;
         }
         ProblemSection::Objects => sections.objects = Some(typed_names(alloc, walk)?),
-        ProblemSection::Init => sections.init = Some(init(alloc, walk)?),
-        ProblemSection::Goal => sections.goal = Some(goal(alloc, walk)?),
+        ProblemSection::Init => sections.init = Some(init(dialect, walk)?),
+        ProblemSection::Goal => sections.goal = Some(goal(dialect, walk)?),
         ProblemSection::Metric => {
             skip(walk);
             sections.metric = true;
@@ -120,10 +124,11 @@ fn section_body<'a>(
 #[tactic(auto, using(crate::proofs::ProblemSteps::section_steps))]
 fn section<'a>(
     alloc: Global,
+    dialect: Dialect,
     walk: &mut Walk<'a>,
     sections: &mut ProblemSections<'a>,
 ) -> Result<(), ReadFault>
-    ensures { ReadsInto result (problem_section_in (problem_sections_form sections.old)) (here walk.old.cursor)
+    ensures { ReadsInto result (problem_section_in dialect (problem_sections_form sections.old)) (here walk.old.cursor)
         (here walk.new.cursor) (problem_sections_form sections.new) }
 {
     match walk.next() {
@@ -134,7 +139,7 @@ fn section<'a>(
             if is_given(sections, headed) {
                 return Err(ReadFault::new(FaultKind::Repeated, word.span));
             }
-            section_body(alloc, walk, headed, sections)
+            section_body(alloc, dialect, walk, headed, sections)
         }
         Item::Open(span) => Err(ReadFault::new(FaultKind::Expected, span)),
         Item::Close(span) => Err(ReadFault::new(FaultKind::Expected, span)),
@@ -145,9 +150,10 @@ fn section<'a>(
 #[tactic(auto, using(crate::proofs::ProblemSteps::sections_steps))]
 fn sections<'a>(
     alloc: Global,
+    dialect: Dialect,
     walk: &mut Walk<'a>,
 ) -> Result<(ProblemSections<'a>, Span), ReadFault>
-    ensures { ReadsList (λ read. problem_sections_form read.0) result (problem_sections_of no_problem_sections)
+    ensures { ReadsList (λ read. problem_sections_form read.0) result (problem_sections_of dialect no_problem_sections)
         (here walk.old.cursor) (here walk.new.cursor) }
 {
     let mut sections = ProblemSections {
@@ -163,7 +169,7 @@ fn sections<'a>(
         match walk.next() {
             Item::Close(span) => return Ok((sections, span)),
             Item::Text(word) => return Err(ReadFault::new(FaultKind::Expected, word.span)),
-            Item::Open(_) => section(alloc, walk, &mut sections)?,
+            Item::Open(_) => section(alloc, dialect, walk, &mut sections)?,
         }
     }
 }
@@ -172,14 +178,15 @@ fn sections<'a>(
 #[tactic(auto, using(crate::proofs::ProblemSteps::problem_steps))]
 pub(crate) fn problem<'a>(
     alloc: Global,
+    dialect: Dialect,
     walk: &mut Walk<'a>,
 ) -> Result<ProblemSyntax<'a>, ReadFault>
-    ensures { ReadsList problem_syntax_form result problem_in (here walk.old.cursor) (here walk.new.cursor) }
+    ensures { ReadsList problem_syntax_form result (problem_in dialect) (here walk.old.cursor) (here walk.new.cursor) }
 {
     expect_word(walk, b"define")?;
     enter_list(walk)?;
     let name = header(walk, b"problem")?;
-    let (sections, end) = sections(alloc, walk)?;
+    let (sections, end) = sections(alloc, dialect, walk)?;
     let ProblemSections {
         domain,
         requirements: _,
@@ -206,13 +213,17 @@ pub(crate) fn problem<'a>(
 
 /// Reads the problem that a text without a text fault holds.
 #[tactic(auto, using(crate::proofs::ProblemSteps::problem_text_steps, crate::proofs::TextSteps::trees_here))]
-pub fn problem_text<'a>(alloc: Global, text: &'a [u8]) -> Result<ProblemSyntax<'a>, ReadFault>
+pub fn problem_text<'a>(
+    alloc: Global,
+    dialect: Dialect,
+    text: &'a [u8],
+) -> Result<ProblemSyntax<'a>, ReadFault>
     requires { text_fault text.now ≡ None }
-    ensures { Gives problem_syntax_form result (problem_syntax (trees text.now)) }
+    ensures { Gives problem_syntax_form result (problem_syntax dialect (trees text.now)) }
 {
     let mut walk = Walk::new(text);
     enter_list(&mut walk)?;
-    let problem = problem(alloc, &mut walk)?;
+    let problem = problem(alloc, dialect, &mut walk)?;
     leave_list(&mut walk)?;
     Ok(problem)
 }

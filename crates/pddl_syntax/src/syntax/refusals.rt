@@ -3,7 +3,7 @@
 ghost use Rattle.std.specs.Prelude.{◌≢◌};
 
 use crate::fault::{FaultKind, ReadFault};
-use crate::heads::is_either;
+use crate::heads::{Place, is_either, is_name};
 use crate::walk::{Item, Walk, Word};
 use pddl_tokens::{Span, WordKind, word_kind};
 
@@ -13,6 +13,29 @@ pub(crate) fn keyword_fault(word: Word<'_>) -> ReadFault
 {
     match word_kind(word.text) {
         WordKind::Keyword => ReadFault::new(FaultKind::Unsupported, word.span),
+        _ => ReadFault::new(FaultKind::Expected, word.span),
+    }
+}
+
+/// The fault of a word where one name alone is read: PDDL has others there.
+pub(crate) fn name_fault(word: Word<'_>) -> ReadFault
+    ensures { result.kind ≢ FaultKind.OutOfMemory }
+{
+    if is_name(word.text) {
+        ReadFault::new(FaultKind::Unsupported, word.span)
+    } else {
+        ReadFault::new(FaultKind::Expected, word.span)
+    }
+}
+
+/// The fault of a word that is no name where that of a function is due. In amounts PDDL has the signs of sums and products there.
+pub(crate) fn function_fault(place: Place, word: Word<'_>) -> ReadFault
+    ensures { result.kind ≢ FaultKind.OutOfMemory }
+{
+    match (place, word.text) {
+        (Place::Effect, b"+" | b"-" | b"*" | b"/") => {
+            ReadFault::new(FaultKind::Unsupported, word.span)
+        }
         _ => ReadFault::new(FaultKind::Expected, word.span),
     }
 }

@@ -11,16 +11,16 @@ pub returns-then-not-term_fits : goal.returns-then-not-term_fits
 returns-then-not-term_fits c =
     let known = known_form c.args.known.now in
     let p = parameters_form c.args.parameters.now in
-    let misfit : is_fitting known.parents (types_of_term known p.types c.in-Some.found) c.args.place.now ≡ false =
+    let misfit : is_fitting known.parents (types_of_term known p.types c.in_ok-found.found) c.args.place.now ≡ false =
     rw (← c.as_slice.ensures) (sym c.term_fits.ensures ∙ c.if-not-term_fits.true) in (
-      λ k. let z : WrongType ≡ OutOfMemory = sym (ap (λ (f : ReadFault). f.kind) c.new-then-not-term_fits.ensures) ∙ k in cc,
-      λ _. term_misplaced known p c.args.place.now c.args.word.text.now c.in-Some.found (c.in_ok-found.ensures ∙ c.in-Some.is) misfit,
+      λ k. let z : WrongType ≡ OutOfMemory = sym (ap (λ (f : ReadFault). f.kind) c.new.ensures) ∙ k in cc,
+      λ _. term_misplaced known p c.args.place.now c.args.word.text.now c.in_ok-found.found c.in_ok-found.ensures misfit,
     )
 
 pub returns : goal.returns
 returns c =
     let known = known_form c.args.known.now in
     let p = parameters_form c.args.parameters.now in
-    let fit : is_fitting known.parents (types_of_term known p.types c.in-Some.found) c.args.place.now ≡ true =
+    let fit : is_fitting known.parents (types_of_term known p.types c.in_ok-found.found) c.args.place.now ≡ true =
     rw (← c.as_slice.ensures) (sym c.term_fits.ensures ∙ c.if-not-term_fits.false) in
-    term_placed known p c.args.place.now c.args.word.text.now c.in-Some.found (c.in_ok-found.ensures ∙ c.in-Some.is) fit
+    term_placed known p c.args.place.now c.args.word.text.now c.in_ok-found.found c.in_ok-found.ensures fit

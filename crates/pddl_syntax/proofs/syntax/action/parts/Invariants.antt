@@ -7,7 +7,7 @@ use Rattle.pddl_syntax.proofs.syntax.action.parts.Given as goal
 
 abbrev pub invariant-parts : goal.invariant-parts
 invariant-parts l = record {
-  so_far : parts_of (parts_form l.parts) (here l.walk.cursor).top ≡ parts_of no_parts (here l.fn.walk.cursor).top;
+  so_far : parts_of l.dialect (parts_form l.parts) (here l.walk.cursor).top ≡ parts_of l.dialect no_parts (here l.fn.walk.cursor).top;
   below : (here l.walk.cursor).below ≡ (here l.fn.walk.cursor).below;
 }
 

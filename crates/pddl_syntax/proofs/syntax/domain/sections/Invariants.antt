@@ -7,8 +7,8 @@ use Rattle.pddl_syntax.proofs.syntax.domain.sections.Given as goal
 
 abbrev pub invariant-sections : goal.invariant-sections
 invariant-sections l = record {
-  so_far : domain_sections_of (domain_sections_form l.sections) (here l.walk.cursor).top
-      ≡ domain_sections_of no_domain_sections (here l.fn.walk.cursor).top;
+  so_far : domain_sections_of l.dialect (domain_sections_form l.sections) (here l.walk.cursor).top
+      ≡ domain_sections_of l.dialect no_domain_sections (here l.fn.walk.cursor).top;
   below : (here l.walk.cursor).below ≡ (here l.fn.walk.cursor).below;
 }
 

@@ -1,6 +1,6 @@
 use Rattle.std.proofs.Common.{◌≡◌, ◌≤◌}
 use Rattle.pddl_syntax.specs.Levels.{here}
-use Rattle.pddl_syntax.specs.Syntax.{are_conjuncts}
+use Rattle.pddl_syntax.specs.Presence.{are_conjuncts}
 use Rattle.pddl_syntax.specs.Sizes.{size}
 use Rattle.pddl_syntax.proofs.syntax.formula.+formulas.Given as goal
 

@@ -3,17 +3,14 @@ use Rattle.pddl_syntax.specs.Heads.{is_and}
 use Rattle.pddl_syntax.specs.Levels.{here}
 use Rattle.pddl_syntax.specs.Trees.{Trees}
 use Rattle.pddl_syntax.specs.Remaining.{literals_left}
-use Rattle.pddl_syntax.proofs.LiteralSteps.{left_fault, none_left}
+use Rattle.pddl_syntax.proofs.LiteralSteps.{literal_there}
 use Rattle.pddl_syntax.proofs.syntax.literals.next_literal.Goals as goal
 
-pub returns-in-Err-clause-next : goal.returns-in-Err-clause-next
-returns-in-Err-clause-next c =
+pub literal-requires : goal.literal-requires
+literal-requires c =
     let below = (here c.items.walk.cursor).below in
     let P : Trees → Type 0 = λ t. IsSome (literals_left c.args.scope c.items.depth t below) in
     let there = subst P c.in-Text.ensures.0 (subst IsSome (sym c.items.invariant.so_far) c.requires.literals) in
     let inside : 0 < c.items.depth = omega arith in
-    let atom : is_and c.in-Text.word.text.now ≡ false = search rules in (
-      left_fault c.args.scope c.items.depth c.in-Text.word.text.now (here c.next.new.self.cursor).top below c.in-Err.fault inside atom there c.in-Err.ensures.0
-          c.in-Err.ensures.1,
-      none_left _ _ _,
-    )
+    let other : is_and c.in-Text.word.text.now ≡ false = search rules in
+    literal_there c.args.scope c.items.depth c.in-Text.word.text.now (here c.next.new.self.cursor).top below inside other there

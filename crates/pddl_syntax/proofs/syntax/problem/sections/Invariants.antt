@@ -7,8 +7,8 @@ use Rattle.pddl_syntax.proofs.syntax.problem.sections.Given as goal
 
 abbrev pub invariant-sections : goal.invariant-sections
 invariant-sections l = record {
-  so_far : problem_sections_of (problem_sections_form l.sections) (here l.walk.cursor).top
-      ≡ problem_sections_of no_problem_sections (here l.fn.walk.cursor).top;
+  so_far : problem_sections_of l.dialect (problem_sections_form l.sections) (here l.walk.cursor).top
+      ≡ problem_sections_of l.dialect no_problem_sections (here l.fn.walk.cursor).top;
   below : (here l.walk.cursor).below ≡ (here l.fn.walk.cursor).below;
 }
 

@@ -1,0 +1,15 @@
+-- What the dialects have to do with one another.
+
+use Rattle.std.specs.Prelude.{◌≡◌, [], Some}
+use Rattle.pddl_syntax.specs.declared.dialect.Dialect.TheVariants.{Strips, Ipc}
+use Rattle.pddl_syntax.specs.Trees.{Trees}
+use Rattle.pddl_syntax.specs.Syntax.{DomainForm, ProblemForm, domain_syntax, problem_syntax}
+
+-- a domain of the smaller language is the same one in the larger, and has no functions
+abbrev pub AreDomainsKept : Type 0
+AreDomainsKept = (trees : Trees) (domain : DomainForm) → domain_syntax Strips trees ≡ Some domain →
+    (domain_syntax Ipc trees ≡ Some domain) × (domain.functions ≡ [])
+
+-- a problem of the smaller language is the same one in the larger
+abbrev pub AreProblemsKept : Type 0
+AreProblemsKept = (trees : Trees) (problem : ProblemForm) → problem_syntax Strips trees ≡ Some problem → problem_syntax Ipc trees ≡ Some problem

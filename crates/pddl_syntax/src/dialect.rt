@@ -1,0 +1,11 @@
+//! Which language a text is read as.
+
+/// The language of a text.
+#[derive(Clone, Copy, Debug, PartialEq, Eq)]
+pub enum Dialect {
+    /// STRIPS with types: literals of predicates alone.
+    Strips,
+    /// STRIPS with types, and what many domains of the planning competitions have besides: functions, and effects that raise `total-cost` by their
+    /// values (`:action-costs`, since the competition of 2008), and `=` between terms (`:equality`). A text of [`Dialect::Strips`] means the same in it.
+    Ipc,
+}
