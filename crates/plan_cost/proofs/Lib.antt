@@ -1,0 +1,2 @@
+pub mod NumberAmounts
+pub mod Sums

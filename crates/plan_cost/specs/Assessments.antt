@@ -1,0 +1,25 @@
+-- A verdict with a cost beside it.
+
+use Rattle.std.specs.Prelude.{Option, Some, None}
+use Rattle.strips_task.specs.declared.plans.Plan.{Plan}
+use Rattle.strips_task.specs.declared.tasks.TaskParts.{TaskParts}
+use Rattle.strips_judge.specs.declared.verdict.Verdict.{Verdict}
+use Rattle.strips_judge.specs.declared.verdict.Verdict.TheVariants.{Valid, Fails, Goal, Unreadable}
+use Rattle.strips_judge.specs.Verdict.{verdict}
+use Rattle.plan_cost.specs.declared.assessments.Assessment.{Assessment}
+use Rattle.plan_cost.specs.declared.costs.Cost.{Cost}
+use Rattle.plan_cost.specs.declared.costs.Cost.TheVariants.{NotCounted}
+use Rattle.plan_cost.specs.declared.costs.Costs.{Costs}
+use Rattle.plan_cost.specs.Costs.{cost_of}
+
+-- the cost beside a verdict: that of the plan where it is valid and costs are counted
+abbrev pub cost_beside : TaskParts → Option Costs → Plan → Verdict → Cost
+cost_beside parts (Some costs) plan (Valid steps) = cost_of parts costs plan
+cost_beside parts (Some costs) plan (Fails step why) = NotCounted
+cost_beside parts (Some costs) plan (Goal missing) = NotCounted
+cost_beside parts (Some costs) plan (Unreadable line) = NotCounted
+cost_beside parts None plan answer = NotCounted
+
+-- the verdict of a plan, and its cost
+abbrev pub assessment : TaskParts → Option Costs → Plan → Assessment
+assessment parts costs plan = record { verdict = verdict parts plan; cost = cost_beside parts costs plan (verdict parts plan) }

@@ -1,0 +1,5 @@
+pub mod Amounts
+pub mod Assessments
+pub mod Costs
+pub mod Laws
+pub mod Values

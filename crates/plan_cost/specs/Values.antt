@@ -1,0 +1,26 @@
+-- The values of ground functions, which are kept in the form of atoms.
+
+use Rattle.std.specs.Prelude.{ℕ, ◌==◌, List, [], ◌∷◌, ◌++◌, Option, Some, None, if◌then◌else◌}
+use Rattle.std.specs.Map.{lookup}
+use Rattle.strips_task.specs.declared.atoms.Atom.{Atom}
+use Rattle.strips_task.specs.Atom.{atom_eq}
+use Rattle.plan_cost.specs.declared.values.Given.{Given}
+use Rattle.plan_cost.specs.declared.values.Given.TheVariants.{First, Again, Another}
+
+-- the value of a ground function, if it has one
+abbrev pub value_of : List (Atom × ℕ) → Atom → Option ℕ
+value_of values function = lookup (atom_eq function) values
+
+-- what a value is to a function that has this one before, if any
+abbrev pub given_over : Option ℕ → ℕ → Given
+given_over None value = First
+given_over (Some earlier) value = if earlier == value then Again else Another
+
+-- the values with one for this function, which has this one before, if any: an earlier value stays
+abbrev pub with_value_over : Option ℕ → List (Atom × ℕ) → Atom → ℕ → List (Atom × ℕ)
+with_value_over None values function value = values ++ (function, value) ∷ []
+with_value_over (Some earlier) values function value = values
+
+-- the values with one for this function, unless it has one
+abbrev pub with_value : List (Atom × ℕ) → Atom → ℕ → List (Atom × ℕ)
+with_value values function value = with_value_over (value_of values function) values function value

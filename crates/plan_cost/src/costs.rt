@@ -1,0 +1,67 @@
+//! What a task says about costs, and what a plan costs.
+ghost use Rattle.std.specs.Prelude.{◌≡◌, ◌≤◌, [], length, slice_get, unwrap_or};
+
+use crate::{Amount, FunctionValues, Increases, MOST_INCREASES};
+use std::alloc::Global;
+use strips_task::{Atom, Seed, Seq, ShortSeq};
+
+/// What a task says about costs, if its domain declares `total-cost`.
+#[derive(Debug, Drop)]
+pub struct Costs {
+    /// The number of the function `total-cost`.
+    pub total_cost: u16,
+    /// The increases of each action, by its number in the task. An action past the end of the list has none.
+    pub increases: Seq<Increases>,
+    /// The values that the problem gives to functions. That of `total-cost` is what plans begin with.
+    pub values: FunctionValues,
+}
+
+impl Costs {
+    ghost use Rattle.plan_cost.specs.Costs.{initial_cost};
+
+    /// Costs in which no action has increases and no function has a value. Their table hashes with a seed. Takes no memory.
+    pub fn new(alloc: Global, seed: Seed, total_cost: u16) -> Self
+        ensures { result ≡ record { total_cost = total_cost; increases = []; values = [] } }
+    {
+        Costs {
+            total_cost,
+            increases: Seq::new(alloc),
+            values: FunctionValues::new(alloc, seed),
+        }
+    }
+
+    /// The value that the total cost begins with, in billionths: 0 if the problem gives none. Takes no memory.
+    pub(crate) fn initial_cost(&self, alloc: Global) -> u64
+        ensures { result ≡ initial_cost self.now }
+    {
+        let total_cost = Atom {
+            pred: self.total_cost,
+            args: ShortSeq::new(alloc),
+        };
+        self.values.value_of(&total_cost).unwrap_or(0)
+    }
+
+    /// The increases of the action with a number.
+    pub(crate) fn increases_of(&self, action: u16) -> &[Amount]
+        ensures amounts { result.now ≡ unwrap_or (slice_get self.now.increases action) [] }
+        ensures few { length result.now ≤ MOST_INCREASES }
+    {
+        let action = usize::from(action);
+        if action < self.increases.len() {
+            self.increases.get(action).as_slice()
+        } else {
+            &[]
+        }
+    }
+}
+
+/// What a plan costs.
+#[derive(Clone, Copy, Debug, PartialEq, Eq)]
+pub enum Cost {
+    /// The domain declares no `total-cost`, or the plan is not valid.
+    NotCounted,
+    /// A step adds the value of a function to which the problem gives none.
+    Undefined,
+    /// The initial value of `total-cost` and all that the steps add to it, in billionths.
+    Billionths(u128),
+}
