@@ -19,6 +19,11 @@ WALK = """(define (domain walk)
     :effect (and (dark ?p) (not (lit ?p)))))
 """
 
+# The same with costs: going costs the length of the way, light and darkness cost 0.5 each.
+COSTLY = WALK.replace("  (:action go", "  (:functions (length ?a ?b) (total-cost))\n  (:action go", 1)
+for effect, cost in (("(at ?b)", "(length ?a ?b)"), ("(not (dark ?p))", "0.5"), ("(not (lit ?p))", "0.5")):
+    COSTLY = COSTLY.replace(effect + "))", "%s (increase (total-cost) %s)))" % (effect, cost), 1)
+
 DEEP = """(define (domain deep)
   (:requirements :strips :typing)
   (:types %s)
@@ -84,12 +89,14 @@ def wander(rng, side, count):
     return steps
 
 
-def on_a_grid(side, planners, plans, steps, written):
+def on_a_grid(side, planners, plans, steps, written, domain=WALK):
     def files(scale):
         rng = random.Random(1)
         places, ways = grid(side)
         init = ["(at c0-0)"] + ways + ["(dark %s)" % place for place in places]
-        yield "domain.pddl", WALK
+        if domain == COSTLY:
+            init += ["(= %s %d.25)" % (way.replace("way", "length"), number % 50) for number, way in enumerate(ways)]
+        yield "domain.pddl", domain
         yield "problem.pddl", problem("grid-%d" % side, "walk", " ".join(places), init, ["(way c0-0 c0-1)"])
         for planner in range(planners):
             parts = []
@@ -139,9 +146,10 @@ def large_problem(scale):
     yield "planner-0", ""
 
 
-# The name of a workload, what it is, and its files.
+# The name of a workload, what it is, and its files. A domain with functions is read in the dialect ipc.
 WORKLOADS = [
     ("many", "10,000 plans of 100 steps by 5 planners", on_a_grid(8, 5, 2000, 100, plain)),
+    ("costs", "many, where each action has a cost", on_a_grid(8, 5, 2000, 100, plain, COSTLY)),
     ("long", "one plan of 600,000 steps on a small grid", on_a_grid(8, 1, 1, 600000, plain)),
     ("log", "one plan of 350,000 steps with stamps, costs and comments", on_a_grid(8, 1, 1, 350000, as_a_log)),
     ("wide", "one plan of 600,000 steps where 190,000 atoms are true", on_a_grid(190, 1, 1, 600000, plain)),

@@ -8,7 +8,7 @@ use mathlib.Core.Option.{some, none, some-injective}
 use mathlib.Core.Option as maybe
 use lib.ListN.{get_elem?}
 use Rattle.atomic_table.proofs.Lists.{at_set, set_here, set_else}
-use Rattle.strips_task.specs.declared.tasks.TaskParts.{TaskParts}
+use Rattle.plan_cost.specs.declared.costs.CostedTask.{CostedTask}
 use Rattle.intake_rules.specs.Jobs.{AcceptedPlan}
 use Rattle.bench_rule.specs.declared.views.Held.{Held}
 use Rattle.bench_rule.specs.declared.views.Role.{Role}
@@ -27,9 +27,9 @@ pub held_stays : (jobs jobs' : List AcceptedPlan) → Longer jobs jobs' → (all
 held_stays jobs jobs' more [] known = tt
 held_stays jobs jobs' more (held ∷ others) known = (more held.slot held.job known.0, held_stays jobs jobs' more others known.1)
 
-slot_stays : (parts : TaskParts) (jobs jobs' : List AcceptedPlan) (lifted lifted' : Bool) (home home' : Home) (slot word word' : ℕ) → Longer jobs jobs' → length jobs ≤ length jobs' → (slot < length jobs' → slot < length jobs)
-    → ((lifted' ≡ true → slot ≢ length jobs') → lifted ≡ true → slot ≢ length jobs) → home' ≡ home → word' ≡ word → SlotOk parts jobs lifted home slot word → SlotOk parts jobs' lifted' home' slot word'
-slot_stays parts jobs jobs' lifted lifted' home home' slot word word' more longer inside lifts same_home same_word ok = record {
+slot_stays : (task : CostedTask) (jobs jobs' : List AcceptedPlan) (lifted lifted' : Bool) (home home' : Home) (slot word word' : ℕ) → Longer jobs jobs' → length jobs ≤ length jobs' → (slot < length jobs' → slot < length jobs)
+    → ((lifted' ≡ true → slot ≢ length jobs') → lifted ≡ true → slot ≢ length jobs) → home' ≡ home → word' ≡ word → SlotOk task jobs lifted home slot word → SlotOk task jobs' lifted' home' slot word'
+slot_stays task jobs jobs' lifted lifted' home home' slot word word' more longer inside lifts same_home same_word ok = record {
   known = subst (λ (n : ℕ). n ≤ 4) (sym same_word) ok.known;
   used = λ h. let u = ok.used (subst (λ (n : ℕ). 0 < n) same_word h) in omega arith;
   unused = λ h. let u = ok.unused (sym same_word ∙ h) in dite (dec_le (length jobs') slot) (λ past. past) (λ before. let i = inside (omega arith) in absurd (omega arith));

@@ -6,11 +6,11 @@ use mathlib.Core.Option.{some, some-injective}
 use mathlib.Core.Option as maybe
 use native.Mathlib.Decide.{ℕ_discrete}
 use lib.ListN.{get_elem?}
-use Rattle.strips_task.specs.declared.tasks.TaskParts.{TaskParts}
+use Rattle.plan_cost.specs.declared.costs.CostedTask.{CostedTask}
 use Rattle.intake_rules.specs.declared.finding.Finding.{Finding}
 use Rattle.intake_rules.specs.declared.stage.Stage.{Stage}
 use Rattle.intake_rules.specs.declared.stage.Stage.TheVariants as stage
-use Rattle.intake_rules.specs.Findings.{IsRight, verdict_of}
+use Rattle.intake_rules.specs.Findings.{IsRight, verdict_of, counted_cost}
 use Rattle.intake_rules.specs.Jobs.{AcceptedPlan}
 use Rattle.bench_rule.specs.declared.contents.Item.TheVariants.{Done}
 use Rattle.bench_rule.specs.declared.views.Setting.{Setting}
@@ -23,8 +23,9 @@ use Rattle.bench_rule.proofs.Meanings.{accepted, jobs_are}
 use Rattle.bench_rule.proofs.Stages.{Homes, showing, slot_word, staged}
 
 -- two right findings of one job are one finding
-one_right : (parts : TaskParts) (one other : Finding) → one.job ≡ other.job → IsRight parts one → IsRight parts other → one ≡ other
-one_right parts one other same right too = let verdict = right ∙ (ap (λ (job : AcceptedPlan). verdict_of parts job.plan) same ∙ sym too) in λ i. record { job = same i; verdict = verdict i }
+one_right : (task : CostedTask) (one other : Finding) → one.job ≡ other.job → IsRight task one → IsRight task other → one ≡ other
+one_right task one other same right too = let verdict = right.0 ∙ (ap (λ (job : AcceptedPlan). verdict_of task job.plan) same ∙ sym too.0) in
+    let cost = right.1 ∙ (ap (λ (job : AcceptedPlan). counted_cost task job.plan) same ∙ sym too.1) in λ i. record { job = same i; verdict = verdict i; cost = cost i }
 
 -- the stage of a slot that is not finished is told by its word
 told_by_word : (word : ℕ) (home other : maybe.Option Content) → (word ≡ 3 → ⊥) → stage_at word home ≡ stage_at word other

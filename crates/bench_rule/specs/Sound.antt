@@ -4,7 +4,7 @@ use Rattle.std.specs.Prelude.{◌≡◌, ◌≢◌, ◌↔◌, ◌<◌, ◌≤�
 use mathlib.Core.Option.{some, none}
 use mathlib.Core.Option as maybe
 use lib.ListN.{get_elem?}
-use Rattle.strips_task.specs.declared.tasks.TaskParts.{TaskParts}
+use Rattle.plan_cost.specs.declared.costs.CostedTask.{CostedTask}
 use Rattle.intake_rules.specs.declared.finding.Finding.{Finding}
 use Rattle.intake_rules.specs.Findings.{IsRight}
 use Rattle.intake_rules.specs.Jobs.{AcceptedPlan}
@@ -41,7 +41,7 @@ abbrev pub Rests : Home → Content → Type 0
 Rests home content = home ≡ some (some content)
 
 -- what the word of a slot says of the slot
-pub record SlotOk (parts : TaskParts) (jobs : List AcceptedPlan) (lifted : Bool) (home : Home) (slot word : ℕ) : Type 0 where
+pub record SlotOk (task : CostedTask) (jobs : List AcceptedPlan) (lifted : Bool) (home : Home) (slot word : ℕ) : Type 0 where
   pub known : word ≤ 4
   -- the slots in use are those of the accepted jobs
   pub used : 0 < word → slot < length jobs
@@ -53,7 +53,7 @@ pub record SlotOk (parts : TaskParts) (jobs : List AcceptedPlan) (lifted : Bool)
   -- a slot that is out is in somebody's hands
   pub out : word ≡ 2 → home ≡ some none
   -- a right finding of its job rests in a finished slot
-  pub finished : word ≡ 3 → (finding : Finding) × (slice_get jobs slot ≡ Some finding.job) × Rests home (Some (Done finding)) × IsRight parts finding
+  pub finished : word ≡ 3 → (finding : Finding) × (slice_get jobs slot ≡ Some finding.job) × Rests home (Some (Done finding)) × IsRight task finding
 
 -- every seat that is not spent knows what the bench was made for
 abbrev pub KnowsSetting : Setting → Role → Option Setting → Type 0

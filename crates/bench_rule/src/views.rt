@@ -1,14 +1,14 @@
 //! What a seat knows. Values of these types are for contracts alone, but for [`Setting`].
 use intake_rules::Job;
+use plan_cost::CostedTask;
 use std::collections::LinkedList;
 use std::snapshot::Snapshot;
-use strips_task::Task;
 
 /// What a bench was made for.
 #[derive(Drop)]
 pub struct Setting {
-    /// The task whose plans are judged.
-    pub task: Snapshot<Task>,
+    /// The task whose plans are judged, and what it says about costs.
+    pub task: Snapshot<CostedTask>,
     /// How many planners there are.
     pub planners: u32,
     /// How many plans can be accepted.

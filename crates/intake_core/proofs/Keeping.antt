@@ -7,7 +7,7 @@ use Rattle.std.proofs.Math.ListN.{length-set}
 use Rattle.std.proofs.lemmas.Bool.{cases_eq, cases_lt}
 use Rattle.std.proofs.lemmas.List.{map-append, length-map}
 use Rattle.std.proofs.lemmas.Option.{slice_get_past, slice_get_within, slice_get_read}
-use Rattle.strips_task.specs.declared.tasks.TaskParts.{TaskParts}
+use Rattle.plan_cost.specs.declared.costs.CostedTask.{CostedTask}
 use Rattle.intake_rules.specs.declared.finding.Finding.{Finding}
 use Rattle.intake_rules.specs.declared.stage.Stage.{Stage}
 use Rattle.intake_rules.specs.declared.stage.Stage.TheVariants.{Waiting, Finished}
@@ -34,7 +34,7 @@ module _ (table : List Place) (j : ℕ) (row new : Place) (was : row ≡ get_or 
   links-written same = map-set_same (λ r. r.behind) table j new row (same ∙ ap (λ r. r.behind) was)
 
 -- the same lists under other names
-pub kept-as : (task : TaskParts) (places : ℕ) (jobs new_jobs : List AcceptedPlan) (stages new_stages : List Stage) (links new_links : List (Option ℕ)) (planners new_planners : List Planner) (waiting new_waiting : List Bool)
+pub kept-as : (task : CostedTask) (places : ℕ) (jobs new_jobs : List AcceptedPlan) (stages new_stages : List Stage) (links new_links : List (Option ℕ)) (planners new_planners : List Planner) (waiting new_waiting : List Bool)
     → new_jobs ≡ jobs → new_stages ≡ stages → new_links ≡ links → new_planners ≡ planners → new_waiting ≡ waiting
     → IsKept task places jobs stages links planners waiting → IsKept task places new_jobs new_stages new_links new_planners new_waiting
 kept-as task places jobs new_jobs stages new_stages links new_links planners new_planners waiting new_waiting same_jobs same_stages same_links same_planners same_waiting kept =
@@ -56,7 +56,7 @@ module _ (old new : List Place) (place : Place) (is : new ≡ old ++ place ∷ [
   links-pushed links same = ap links_in is ∙ map-append (λ row. row.behind) old (place ∷ []) ∙ ap (λ ls. ls ++ place.behind ∷ []) same
 
 -- the state after a change of the intake
-pub state-changes : (task : TaskParts) (places : ℕ) (old new : Intake) (now : DeskState) (change : Intake → Intake) → new ≡ change old
+pub state-changes : (task : CostedTask) (places : ℕ) (old new : Intake) (now : DeskState) (change : Intake → Intake) → new ≡ change old
     → record { task = task; places = places; intake = old } ≡ now → record { task = task; places = places; intake = new } ≡ with_intake now (change now.intake)
 state-changes task places old new now change is view =
     ap (λ i. record { task = task; places = places; intake = i }) is ∙ ap (λ desk. with_intake desk (change desk.intake)) view
@@ -89,7 +89,7 @@ module _ (stages : List Stage) (waiting : List Bool) (is : (k : ℕ) → is_memb
       (λ (apart : k ≢ j). is k ∙ ap waits (sym (get-set_other stages j k stage apart)))
       (cases_eq k j)
 
-module _ (task : TaskParts) (places : ℕ) (jobs : List AcceptedPlan) (stages : List Stage) (links : List (Option ℕ)) (planners : List Planner) (waiting : List Bool)
+module _ (task : CostedTask) (places : ℕ) (jobs : List AcceptedPlan) (stages : List Stage) (links : List (Option ℕ)) (planners : List Planner) (waiting : List Bool)
     (kept : IsKept task places jobs stages links planners waiting) where
   -- one job's stage is written
   pub kept-stage : (j : ℕ) (stage : Stage) (new_waiting : List Bool) → j < length jobs → length new_waiting ≡ length waiting
@@ -233,7 +233,7 @@ pub row-at : {X : Type 0} (rows : List X) (i : ℕ) (row : X) → i < length row
 row-at rows i row within is = slice_get_read rows (length rows) i row refl within is
 
 -- a finding that is stored is of its job, and right
-pub rest-of : (task : TaskParts) (jobs : List AcceptedPlan) (j : ℕ) (stored : Finding) (job : AcceptedPlan) (finding : Finding)
+pub rest-of : (task : CostedTask) (jobs : List AcceptedPlan) (j : ℕ) (stored : Finding) (job : AcceptedPlan) (finding : Finding)
     → slice_get jobs j ≡ Some stored.job → IsRight task stored → slice_get jobs j ≡ Some job → Finished stored ≡ Finished finding → IsAtRest task job finding
 rest-of task jobs j stored job finding of_job right at same =
     let it : stored ≡ finding = cc in

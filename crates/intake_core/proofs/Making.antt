@@ -4,7 +4,7 @@ use Rattle.std.proofs.Common.{◌≡◌, ℕ, zero, suc, ◌<◌, ◌≤◌, ⊎
 use Rattle.std.proofs.lemmas.Bool.{cases_lt}
 use Rattle.std.proofs.lemmas.List.{length-replicate, get_or-replicate, get_or_past}
 use Rattle.std.proofs.lemmas.Option.{slice_get-get_or, slice_get_within}
-use Rattle.strips_task.specs.declared.tasks.TaskParts.{TaskParts}
+use Rattle.plan_cost.specs.declared.costs.CostedTask.{CostedTask}
 use Rattle.intake_rules.specs.Intake.{Intake, empty_intake, jobs_of}
 use Rattle.place_set.specs.Members.{is_member}
 use Rattle.intake_core.specs.declared.place.Place.{Place}
@@ -27,7 +27,7 @@ no_member places j =
     (λ (past : places ≤ j). get_or_past (replicate places false) j false (omega (arith, past, length-replicate places false)))
     (cases_lt j places)
 
-kept-empty : (task : TaskParts) (places planners : ℕ) → places ≤ 65536 → IsKept task places [] [] [] (replicate planners open_planner) (replicate places false)
+kept-empty : (task : CostedTask) (places planners : ℕ) → places ≤ 65536 → IsKept task places [] [] [] (replicate planners open_planner) (replicate places false)
 kept-empty task places planners few =
     record {
       few = few;
@@ -47,7 +47,7 @@ kept-empty task places planners few =
           subst (IsLine [] [] planner) row_is (open-line planner);
     }
 
-pub kept-made : (task : TaskParts) (places planners : ℕ) (table : List Place) (rows : List Planner) (waiting : List Bool) → places ≤ 65536
+pub kept-made : (task : CostedTask) (places planners : ℕ) (table : List Place) (rows : List Planner) (waiting : List Bool) → places ≤ 65536
     → table ≡ [] → rows ≡ replicate planners open_planner → waiting ≡ replicate places false → IsKeptIn task places table rows waiting
 kept-made task places planners table rows waiting few no_rows rows_are none =
     subst (λ t. IsKeptIn task places t rows waiting) (sym no_rows)
@@ -58,10 +58,10 @@ map-copies : {X Y : Type 0} (f : X → Y) → (n : ℕ) (x : X) → map f (repli
 map-copies f zero x = refl
 map-copies f (suc n) x = ap (λ xs. f x ∷ xs) (map-copies f n x)
 
-abbrev pub state : TaskParts → ℕ → Intake → DeskState
+abbrev pub state : CostedTask → ℕ → Intake → DeskState
 state task places intake = record { task = task; places = places; intake = intake }
 
-pub state-made : (task given : TaskParts) (places planners : ℕ) (table : List Place) (rows : List Planner) → task ≡ given → table ≡ [] → rows ≡ replicate planners open_planner
+pub state-made : (task given : CostedTask) (places planners : ℕ) (table : List Place) (rows : List Planner) → task ≡ given → table ≡ [] → rows ≡ replicate planners open_planner
     → state task places (intake_in table rows) ≡ state given places (empty_intake planners)
 state-made task given places planners table rows same no_rows rows_are =
     ap (λ t. state t places (intake_in table rows)) same

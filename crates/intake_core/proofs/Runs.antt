@@ -3,7 +3,7 @@
 use Rattle.std.proofs.Common.{◌≡◌, ◌++◌, ℕ, List, [], ◌∷◌, length, take, drop, Option, Some, None, ap, sym, ◌∙◌, subst, refl, zero, suc, append_assoc, append-nil, arith}
 use Rattle.std.specs.Prelude.{slice_get, option_map, IfSome, Result, Ok, Err, OnOk, is_err, false}
 use Rattle.std.proofs.Math.Seq.{take-append_seam}
-use Rattle.strips_task.specs.declared.tasks.TaskParts.{TaskParts}
+use Rattle.plan_cost.specs.declared.costs.CostedTask.{CostedTask}
 use Rattle.intake_rules.specs.declared.reply.Reply.{Reply}
 use Rattle.intake_rules.specs.Findings.{IsRight}
 use Rattle.intake_rules.specs.History.{History, IsLawful, TakesLeast, IsRightFinish, HasRightFindings}
@@ -21,14 +21,14 @@ use Rattle.intake_core.specs.Replays.{found, event_of, replayed, replies_of, his
 use Rattle.intake_core.proofs.Going.{goes-on, begins}
 
 -- the desk that steps were asked of, the steps that are left and the replies so far
-pub record RunsOn (task : TaskParts) (whole : List Reply) (desk : DeskState) (left : List Step) (replies : List Reply) : Type 0 where
+pub record RunsOn (task : CostedTask) (whole : List Reply) (desk : DeskState) (left : List Step) (replies : List Reply) : Type 0 where
   pub task_is : desk.task ≡ task
   pub whole_is : whole ≡ replies ++ replies_of (replayed desk left)
 
-pub runs-begin : (task : TaskParts) (desk : DeskState) (steps : List Step) → desk.task ≡ task → RunsOn task (replies_of (replayed desk steps)) desk steps []
+pub runs-begin : (task : CostedTask) (desk : DeskState) (steps : List Step) → desk.task ≡ task → RunsOn task (replies_of (replayed desk steps)) desk steps []
 runs-begin task desk steps same = record { task_is = same; whole_is = refl }
 
-pub runs-more : (task : TaskParts) (whole : List Reply) (desk new : DeskState) (step : Step) (left : List Step) (replies more : List Reply) (answer : Reply)
+pub runs-more : (task : CostedTask) (whole : List Reply) (desk new : DeskState) (step : Step) (left : List Step) (replies more : List Reply) (answer : Reply)
     → RunsOn task whole desk (step ∷ left) replies → new ≡ desk_after desk (event_of desk step) (desk_reply desk (event_of desk step)) → answer ≡ desk_reply desk (event_of desk step)
     → more ≡ replies ++ answer ∷ [] → RunsOn task whole new left more
 unfolding replayed
@@ -43,11 +43,11 @@ runs-more task whole desk new step left replies more answer runs state reply pus
           ∙ ap (λ d. more ++ replies_of (replayed d left)) (sym state);
     }
 
-pub runs-end : (task : TaskParts) (whole : List Reply) (desk : DeskState) (replies : List Reply) → RunsOn task whole desk [] replies → replies ≡ whole
+pub runs-end : (task : CostedTask) (whole : List Reply) (desk : DeskState) (replies : List Reply) → RunsOn task whole desk [] replies → replies ≡ whole
 unfolding replayed
 runs-end task whole desk replies runs = sym (runs.whole_is ∙ append-nil replies)
 
-pub runs-part : (task : TaskParts) (whole : List Reply) (desk : DeskState) (left : List Step) (replies : List Reply) → RunsOn task whole desk left replies → replies ≡ take (length replies) whole
+pub runs-part : (task : CostedTask) (whole : List Reply) (desk : DeskState) (left : List Step) (replies : List Reply) → RunsOn task whole desk left replies → replies ≡ take (length replies) whole
 runs-part task whole desk left replies runs =
     sym (ap (take (length replies)) runs.whole_is ∙ take-append_seam replies (replies_of (replayed desk left)))
 
@@ -65,9 +65,9 @@ leaves-replayed planners (step ∷ steps) history desk leaves =
     subst P (append_assoc history ((event_of desk step, answer) ∷ []) (replayed new steps))
     (leaves-replayed planners steps (history ++ (event_of desk step, answer) ∷ []) new (goes-on desk new (event_of desk step) answer refl refl planners history leaves))
 
-right-found : (task : TaskParts) (job : Option AcceptedPlan) → IfSome (option_map (found task) job) (IsRight task)
+right-found : (task : CostedTask) (job : Option AcceptedPlan) → IfSome (option_map (found task) job) (IsRight task)
 right-found task None = tt
-right-found task (Some job) = refl
+right-found task (Some job) = (refl, refl)
 
 right-event : (desk : DeskState) (step : Step) → IsRightFinish desk.task (event_of desk step)
 right-event desk (step.Submit planner plan) = tt
@@ -97,7 +97,7 @@ get-take (y ∷ ys) (suc n) zero x e = e
 get-take (y ∷ ys) (suc n) (suc k) x e = get-take ys n k x e
 
 -- what holds of the history of every replay
-pub headline : (task : TaskParts) (planners places : ℕ) (steps : List Step) → Headline task planners places (history_of task planners places steps)
+pub headline : (task : CostedTask) (planners places : ℕ) (steps : List Step) → Headline task planners places (history_of task planners places steps)
 headline task planners places steps =
     let desk : DeskState = record { task = task; places = places; intake = empty_intake planners } in
     let history = history_of task planners places steps in

@@ -2,10 +2,10 @@
 
 use Rattle.std.specs.Prelude.{ℕ, List, [], ◌∷◌, map, take, slice_get, option_map}
 use Rattle.std.specs.Arc.{arc_value}
-use Rattle.strips_task.specs.declared.tasks.TaskParts.{TaskParts}
+use Rattle.plan_cost.specs.declared.costs.CostedTask.{CostedTask}
 use Rattle.intake_rules.specs.declared.finding.Finding.{Finding}
 use Rattle.intake_rules.specs.declared.reply.Reply.{Reply}
-use Rattle.intake_rules.specs.Findings.{verdict_of}
+use Rattle.intake_rules.specs.Findings.{verdict_of, counted_cost}
 use Rattle.intake_rules.specs.History.{History, IsLawful, TakesLeast}
 use Rattle.intake_rules.specs.Intake.{empty_intake}
 use Rattle.intake_rules.specs.Jobs.{AcceptedPlan}
@@ -16,8 +16,8 @@ use Rattle.intake_core.specs.declared.replaying.Step.TheVariants as step
 use Rattle.intake_core.specs.State.{DeskState, desk_reply, desk_after}
 
 -- the right finding of a job
-abbrev pub found : TaskParts → AcceptedPlan → Finding
-found task job = record { job = job; verdict = verdict_of task job.plan }
+abbrev pub found : CostedTask → AcceptedPlan → Finding
+found task job = record { job = job; verdict = verdict_of task job.plan; cost = counted_cost task job.plan }
 
 -- what a step asks of a desk: a finish hands in the right finding of the job that it names, if there is one
 abbrev pub event_of : DeskState → Step → Event
@@ -39,15 +39,15 @@ abbrev pub replies_of : History → List Reply
 replies_of history = map (λ pair. pair.1) history
 
 -- the events and replies of the steps at a new desk
-abbrev pub history_of : TaskParts → ℕ → ℕ → List Step → History
+abbrev pub history_of : CostedTask → ℕ → ℕ → List Step → History
 history_of task planners places steps = replayed (record { task = task; places = places; intake = empty_intake planners }) steps
 
 -- what holds of every history of a desk
-pub record Headline (task : TaskParts) (planners places : ℕ) (history : History) : Type 0 where
+pub record Headline (task : CostedTask) (planners places : ℕ) (history : History) : Type 0 where
   -- each reply is the rules', and each take gives out the least job that waits
   pub lawful : IsLawful planners places history
   pub least : TakesLeast planners history
-  -- at each moment the verdicts emitted for a planner are the first of those of its accepted plans, in order, each once
+  -- at each moment the verdicts and costs emitted for a planner are the first of those of its accepted plans, in order, each once
   pub verdicts : (count : ℕ) → VerdictsInOrder task (take count history)
   -- what is refused changes nothing; plans after the close, doubled findings and strange ones are refused
   pub refusals : RefusalsChangeNothing history

@@ -1,7 +1,7 @@
 -- How a desk keeps what it knows: a row for each place that is used and one for each planner.
 
 use Rattle.std.specs.Prelude.{◌≡◌, ◌≤◌, ◌-◌, ℕ, suc, Bool, true, false, List, Option, Some, None, map, length, slice_get, slice_index_or, set, option_map}
-use Rattle.strips_task.specs.declared.tasks.TaskParts.{TaskParts}
+use Rattle.plan_cost.specs.declared.costs.CostedTask.{CostedTask}
 use Rattle.intake_rules.specs.declared.finding.Finding.{Finding}
 use Rattle.intake_rules.specs.declared.stage.Stage.TheVariants.{Finished}
 use Rattle.intake_rules.specs.declared.stage.Stage.{Stage}
@@ -53,12 +53,12 @@ abbrev pub waits_at : List Stage → ℕ → Bool
 waits_at stages j = waits (slice_get stages j)
 
 -- a finding that rests at a place is of the job there, and right
-pub record IsAtRest (task : TaskParts) (job : AcceptedPlan) (finding : Finding) : Type 0 where
+pub record IsAtRest (task : CostedTask) (job : AcceptedPlan) (finding : Finding) : Type 0 where
   pub same : finding.job ≡ job
   pub right : IsRight task finding
 
 -- the jobs, stages and links of a desk of so many places, its planners and the set of the jobs that wait
-pub record IsKept (task : TaskParts) (places : ℕ) (jobs : List AcceptedPlan) (stages : List Stage) (links : List (Option ℕ)) (planners : List Planner) (waiting : List Bool) : Type 0 where
+pub record IsKept (task : CostedTask) (places : ℕ) (jobs : List AcceptedPlan) (stages : List Stage) (links : List (Option ℕ)) (planners : List Planner) (waiting : List Bool) : Type 0 where
   pub few : places ≤ 65536
   pub room : length jobs ≤ places
   pub staged : length stages ≡ length jobs
@@ -70,7 +70,7 @@ pub record IsKept (task : TaskParts) (places : ℕ) (jobs : List AcceptedPlan) (
   pub lines : (planner : ℕ) (row : Planner) → slice_get planners planner ≡ Some row → IsLine jobs links planner row
 
 -- the rows of a desk of so many places
-abbrev pub IsKeptIn : TaskParts → ℕ → List Place → List Planner → List Bool → Type 0
+abbrev pub IsKeptIn : CostedTask → ℕ → List Place → List Planner → List Bool → Type 0
 IsKeptIn task places table planners waiting = IsKept task places (jobs_in table) (stages_in table) (links_in table) planners waiting
 
 -- the links once this job follows the one that was the last of its planner

@@ -1,14 +1,14 @@
 -- A desk as contracts see it.
 
 use Rattle.std.specs.Prelude.{ℕ}
-use Rattle.strips_task.specs.declared.tasks.TaskParts.{TaskParts}
+use Rattle.plan_cost.specs.declared.costs.CostedTask.{CostedTask}
 use Rattle.intake_rules.specs.declared.reply.Reply.{Reply}
 use Rattle.intake_rules.specs.Intake.{Intake}
 use Rattle.intake_rules.specs.Rules.{Event, after, reply_to}
 
 -- the task whose plans are judged, how many plans can be accepted, and what the desk knows
 pub record DeskState : Type 0 where
-  pub task : TaskParts
+  pub task : CostedTask
   pub places : ℕ
   pub intake : Intake
 

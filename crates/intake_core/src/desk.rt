@@ -14,17 +14,18 @@ use crate::place::{Place, Planner};
 use crate::{FinishRefused, SubmitRefused};
 use intake_rules::{Finding, Job, Refusal, Reply, Stage};
 use place_set::PlaceSet;
+use plan_cost::CostedTask;
 use std::alloc::{AllocError, Global};
 use std::marker::Model;
 use std::mem;
 use std::snapshot::Snapshot;
 use std::sync::Arc;
-use strips_judge::{Plan, Task};
+use strips_judge::Plan;
 
 /// The desk of one thread. Contracts see its task, the number of its places, and what it knows.
 #[derive(Drop)]
 pub struct Desk {
-    task: Snapshot<Task>,
+    task: Snapshot<CostedTask>,
     limit: u32,
     table: Vec<Place>,
     planners: Vec<Planner>,
@@ -46,7 +47,12 @@ impl Model for Desk {
 
 impl Desk {
     /// A desk that nothing was asked of. Takes all the memory that it will use: a row for each place and for each planner.
-    pub fn make(alloc: Global, task: &Task, planners: u32, places: u32) -> Result<Desk, AllocError>
+    pub fn make(
+        alloc: Global,
+        task: &CostedTask,
+        planners: u32,
+        places: u32,
+    ) -> Result<Desk, AllocError>
         requires planners { planners ≤ 64 }
         requires places { places ≤ 65536 }
         ensures state { IfOk result (λ desk. desk ≡ record { task = task.now; places = places; intake = empty_intake planners }) }

@@ -7,10 +7,11 @@ ghost use Rattle.intake_core.specs.State.{desk_reply, desk_after};
 
 use crate::Desk;
 use intake_rules::{Finding, Refusal, Reply};
+use plan_cost::CostedTask;
 use std::alloc::{AllocError, Global};
 use std::collections::VecDeque;
 use std::sync::Arc;
-use strips_judge::{Plan, Seq, Task};
+use strips_judge::{Plan, Seq};
 
 /// What is asked of a desk.
 #[derive(Drop)]
@@ -68,7 +69,7 @@ pub enum ReplayFault {
 /// was not accepted; else that job is judged first, and then the desk answers.
 pub fn replay(
     alloc: Global,
-    task: &Task,
+    task: &CostedTask,
     planners: u32,
     places: u32,
     steps: StepsToRun,
@@ -90,7 +91,7 @@ pub fn replay(
 /// Asks the steps of a desk.
 fn run(
     alloc: Global,
-    task: &Task,
+    task: &CostedTask,
     mut desk: Desk,
     steps: StepsToRun,
 ) -> Result<ReplyList, ReplayFault>
@@ -112,7 +113,12 @@ fn run(
 }
 
 /// Asks one step of a desk.
-fn answer(alloc: Global, task: &Task, desk: &mut Desk, step: Step) -> Result<Reply, AllocError>
+fn answer(
+    alloc: Global,
+    task: &CostedTask,
+    desk: &mut Desk,
+    step: Step,
+) -> Result<Reply, AllocError>
     requires { desk.old.task ≡ task.now }
     ensures reply { IfOk result (λ reply. reply ≡ desk_reply desk.old (event_of desk.old step)) }
     ensures state { OnOk result (desk.new ≡ desk_after desk.old (event_of desk.old step) (desk_reply desk.old (event_of desk.old step))) }
@@ -145,7 +151,7 @@ fn answer(alloc: Global, task: &Task, desk: &mut Desk, step: Step) -> Result<Rep
 /// Hands the finding of a job in for a job.
 fn answer_finish(
     alloc: Global,
-    task: &Task,
+    task: &CostedTask,
     desk: &mut Desk,
     job: u32,
     of: u32,

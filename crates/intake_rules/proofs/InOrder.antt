@@ -5,14 +5,14 @@ use Rattle.std.specs.List.{filter_map, cons_option}
 use Rattle.std.proofs.lemmas.Bool.{false_from_ne_true}
 use Rattle.std.proofs.lemmas.List.{length-map, take_all}
 use Rattle.std.proofs.lemmas.Option.{slice_get_within, get_or_from_slice_get}
-use Rattle.strips_task.specs.declared.tasks.TaskParts.{TaskParts}
+use Rattle.plan_cost.specs.declared.costs.CostedTask.{CostedTask}
 use Rattle.intake_rules.specs.declared.finding.Finding.{Finding}
 use Rattle.intake_rules.specs.declared.refusal.Refusal.TheVariants as refusal
 use Rattle.intake_rules.specs.declared.reply.Reply.{Reply}
 use Rattle.intake_rules.specs.declared.reply.Reply.TheVariants as reply
 use Rattle.intake_rules.specs.declared.stage.Stage.{Stage}
 use Rattle.intake_rules.specs.declared.stage.Stage.TheVariants as stage
-use Rattle.intake_rules.specs.Findings.{verdict_of, IsRight}
+use Rattle.intake_rules.specs.Findings.{verdict_of, counted_cost, IsRight}
 use Rattle.intake_rules.specs.History.{History, jobs, accepted, emitted, finished_by, finding_of, is_finished, is_out, is_emitted, left_by, IsLawful, IsRightFinish, HasRightFindings}
 use Rattle.intake_rules.specs.Intake.{Intake, stage_of, jobs_of, next_job}
 use Rattle.intake_rules.specs.Jobs.{AcceptedPlan}
@@ -38,19 +38,19 @@ map_twice f g [] = refl
 map_twice f g (x ∷ xs) = ap (λ ys. f (g x) ∷ ys) (map_twice f g xs)
 
 -- where all findings handed in are right, the finding of a job is
-pub right_found : (parts : TaskParts) (history : History) (job : ℕ) (finding : Finding) → HasRightFindings parts history → finding_of job history ≡ Some finding → IsRight parts finding
+pub right_found : (task : CostedTask) (history : History) (job : ℕ) (finding : Finding) → HasRightFindings task history → finding_of job history ≡ Some finding → IsRight task finding
 unfolding finding_of
-right_found parts [] job finding right e = cc
-right_found parts ((event, answer) ∷ history) job finding right e =
-    by event answer (right 0 event answer refl) e (right_found parts history job finding (λ place. right (suc place)))
+right_found task [] job finding right e = cc
+right_found task ((event, answer) ∷ history) job finding right e =
+    by event answer (right 0 event answer refl) e (right_found task history job finding (λ place. right (suc place)))
   where
-    by : (event : Event) (answer : Reply) → IsRightFinish parts event
+    by : (event : Event) (answer : Reply) → IsRightFinish task event
         → slice_get (filter_map (finished_by job) ((event, answer) ∷ history)) 0 ≡ Some finding
-        → (slice_get (filter_map (finished_by job) history) 0 ≡ Some finding → IsRight parts finding) → IsRight parts finding
+        → (slice_get (filter_map (finished_by job) history) 0 ≡ Some finding → IsRight task finding) → IsRight task finding
     by (finish other (Some one)) reply.Finished is e rest = at (nat_eq other job) e
       where
-        at : (mine : Bool) → slice_get (cons_option (if mine then Some one else None) (filter_map (finished_by job) history)) 0 ≡ Some finding → IsRight parts finding
-        at true f = let same : one ≡ finding = cc in subst (λ (x : Finding). IsRight parts x) same is
+        at : (mine : Bool) → slice_get (cons_option (if mine then Some one else None) (filter_map (finished_by job) history)) 0 ≡ Some finding → IsRight task finding
+        at true f = let same : one ≡ finding = cc in subst (λ (x : Finding). IsRight task x) same is
         at false f = rest f
     by event answer is e rest = rest e
 
@@ -75,24 +75,29 @@ module _ (history : History) (consistent : IsConsistent history) where
       let counts = ap (λ p. length (emitted p history)) owners in
       omega arith
 
-pub verdicts_in_order : (planners places : ℕ) (parts : TaskParts) (history : History) → IsLawful planners places history → HasRightFindings parts history → VerdictsInOrder parts history
+pub verdicts_in_order : (planners places : ℕ) (task : CostedTask) (history : History) → IsLawful planners places history → HasRightFindings task history → VerdictsInOrder task history
 unfolding accepted
-verdicts_in_order planners places parts history lawful right planner = (
-  (let long = length-map (jobs_of planner (jobs history)) (λ (job : AcceptedPlan). job.plan) in let less = firsts.0 in omega arith),
-  firsts.1 ∙ ap (take (length (emitted planner history))) (sym (map_twice (verdict_of parts) (λ (job : AcceptedPlan). job.plan) (jobs_of planner (jobs history)))),
+verdicts_in_order planners places task history lawful right planner = (
+  (let long = length-map (jobs_of planner (jobs history)) (λ (job : AcceptedPlan). job.plan) in let less = verdicts.0 in omega arith),
+  verdicts.1 ∙ ap (take (length (emitted planner history))) (sym (map_twice (verdict_of task) (λ (job : AcceptedPlan). job.plan) (jobs_of planner (jobs history)))),
+  costs.1 ∙ ap (take (length (emitted planner history))) (sym (map_twice (counted_cost task) (λ (job : AcceptedPlan). job.plan) (jobs_of planner (jobs history)))),
 )
   where
     consistent : IsConsistent history
     consistent = consistent_lawful planners places history lawful
 
-    firsts : (length (emitted planner history) ≤ length (jobs_of planner (jobs history)))
-        × (map (λ finding. finding.verdict) (emitted planner history) ≡ take (length (emitted planner history)) (map (λ job. verdict_of parts job.plan) (jobs_of planner (jobs history))))
-    firsts = values_first (λ (finding : Finding). finding.verdict) (λ (job : AcceptedPlan). verdict_of parts job.plan) (emitted planner history) (jobs_of planner (jobs history))
-        λ place finding e. (
-          finding.job,
-          consistent.first planner place finding e,
-          right_found parts history finding.job.number finding right (consistent.known planner place finding e),
-        )
+    found : (place : ℕ) (finding : Finding) → slice_get (emitted planner history) place ≡ Some finding → IsRight task finding
+    found place finding e = right_found task history finding.job.number finding right (consistent.known planner place finding e)
+
+    verdicts : (length (emitted planner history) ≤ length (jobs_of planner (jobs history)))
+        × (map (λ finding. finding.verdict) (emitted planner history) ≡ take (length (emitted planner history)) (map (λ job. verdict_of task job.plan) (jobs_of planner (jobs history))))
+    verdicts = values_first (λ (finding : Finding). finding.verdict) (λ (job : AcceptedPlan). verdict_of task job.plan) (emitted planner history) (jobs_of planner (jobs history))
+        λ place finding e. (finding.job, consistent.first planner place finding e, (found place finding e).0)
+
+    costs : (length (emitted planner history) ≤ length (jobs_of planner (jobs history)))
+        × (map (λ finding. finding.cost) (emitted planner history) ≡ take (length (emitted planner history)) (map (λ job. counted_cost task job.plan) (jobs_of planner (jobs history))))
+    costs = values_first (λ (finding : Finding). finding.cost) (λ (job : AcceptedPlan). counted_cost task job.plan) (emitted planner history) (jobs_of planner (jobs history))
+        λ place finding e. (finding.job, consistent.first planner place finding e, (found place finding e).1)
 
 nothing_at : {A : Type 0} (xs : List A) (place : ℕ) → slice_get xs place ≡ None → length xs ≤ place
 nothing_at [] place e = omega arith
@@ -133,15 +138,19 @@ module _ (planners places : ℕ) (history : History) (lawful : IsLawful planners
   consistent_before : (place : ℕ) → IsConsistent (take place history)
   consistent_before place = consistent_lawful planners places (take place history) (lawful_prefix planners places history place lawful)
 
-  pub complete_is_whole : (parts : TaskParts) → HasRightFindings parts history → CompleteIsWhole parts history
-  complete_is_whole parts right place planner e =
+  pub complete_is_whole : (task : CostedTask) → HasRightFindings task history → CompleteIsWhole task history
+  complete_is_whole task right place planner e =
       let (has, next) = complete_next (left_by planners (take place history)) planner _ _ (lawful place (emit planner) (reply.Refused refusal.Complete) e) in
       let known = known_planner planners (take place history) planner has in
       let count = all_emitted (take place history) (consistent_before place) planner (sym (next_left planners (take place history) planner known) ∙ next) in
-      let (less, verdicts) = verdicts_in_order planners places parts (take place history) (lawful_prefix planners places history place lawful) (right_prefix parts history place right) planner in
-      verdicts
-      ∙ take_all (length (emitted planner (take place history))) (map (verdict_of parts) (accepted planner (take place history)))
-      (let long = length-map (accepted planner (take place history)) (verdict_of parts) in omega arith)
+      let (less, verdicts, costs) = verdicts_in_order planners places task (take place history) (lawful_prefix planners places history place lawful) (right_prefix task history place right) planner in (
+        verdicts
+            ∙ take_all (length (emitted planner (take place history))) (map (verdict_of task) (accepted planner (take place history)))
+            (let long = length-map (accepted planner (take place history)) (verdict_of task) in omega arith),
+        costs
+            ∙ take_all (length (emitted planner (take place history))) (map (counted_cost task) (accepted planner (take place history)))
+            (let long = length-map (accepted planner (take place history)) (counted_cost task) in omega arith),
+      )
 
   pub whole_list_once_closed : WholeListOnceClosed history
   whole_list_once_closed place planner answer e closed finished =

@@ -12,7 +12,7 @@ use Rattle.intake_rules.specs.History.{History, numbered_from, jobs, closes, is_
 use Rattle.intake_rules.specs.Intake.{Intake, has_planner, has_job, is_closed_in, stage_of, jobs_of, least_waiting, next_job}
 use Rattle.intake_rules.specs.Rules.{Event, submit, close, take_job, hand_back, finish, emit, first_that_applies, refused_or, Allows, after, reply_to, taken}
 use Rattle.intake_rules.specs.Laws.{EmptyHistory, OneMore, LeastGoesOn}
-use Rattle.strips_task.specs.declared.tasks.TaskParts.{TaskParts}
+use Rattle.plan_cost.specs.declared.costs.CostedTask.{CostedTask}
 use Rattle.intake_rules.proofs.Allowed.{least_allowed, returned_from, finished_from, emitted_from}
 use Rattle.intake_rules.proofs.Consistent.{IsConsistent, none_consistent, planners_job}
 use Rattle.intake_rules.proofs.Ends.{quiet, closed_last}
@@ -216,8 +216,8 @@ least_prefix planners history count least place job e =
     let (within, at) = slice_get_front count history place (take_job, reply.Taken job) e in
     ap (λ (h : History). least_waiting (left_by planners h)) (take-take place count history (omega arith)) ∙ least place job at
 
-pub right_prefix : (parts : TaskParts) (history : History) (count : ℕ) → HasRightFindings parts history → HasRightFindings parts (take count history)
-right_prefix parts history count right place event answer e = right place event answer (slice_get_front count history place (event, answer) e).1
+pub right_prefix : (task : CostedTask) (history : History) (count : ℕ) → HasRightFindings task history → HasRightFindings task (take count history)
+right_prefix task history count right place event answer e = right place event answer (slice_get_front count history place (event, answer) e).1
 
 -- a planner that was closed is one that there is
 closed_by : (has was : Bool) → reply.ClosedNow ≡ refused_or (first_that_applies ((not has, refusal.NoPlanner) ∷ (was, refusal.AlreadyClosed) ∷ [])) reply.ClosedNow → has ≡ true

@@ -4,6 +4,7 @@ use Rattle.std.proofs.Common.{◌≡◌, ℕ, List, [], ◌∷◌, Some, None, m
 use Rattle.strips_task.specs.declared.plans.Plan.{Plan}
 use Rattle.strips_task.specs.declared.plans.Plan.TheVariants.{Unreadable}
 use Rattle.strips_judge.specs.declared.verdict.Verdict.TheVariants as verdict
+use Rattle.plan_cost.specs.declared.costs.Cost.TheVariants as cost
 use Rattle.intake_rules.specs.declared.finding.Finding.{Finding}
 use Rattle.intake_rules.specs.declared.refusal.Refusal.TheVariants as refusal
 use Rattle.intake_rules.specs.declared.reply.Reply.TheVariants.{Accepted, ClosedNow, Taken, NoJob, Returned, Finished, Emitted, Refused}
@@ -28,7 +29,7 @@ abbrev other : Plan
 other = Unreadable 2
 
 abbrev finding : ℕ → Plan → Finding
-finding number of = record { job = record { number = number; planner = 0; plan = of }; verdict = verdict.Valid number }
+finding number of = record { job = record { number = number; planner = 0; plan = of }; verdict = verdict.Valid number; cost = cost.NotCounted }
 
 -- findings are emitted in the order of acceptance, whichever came first
 abbrev in_order : History

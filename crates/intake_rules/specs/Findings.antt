@@ -2,15 +2,20 @@
 
 use Rattle.std.specs.Prelude.{◌≡◌}
 use Rattle.strips_task.specs.declared.plans.Plan.{Plan}
-use Rattle.strips_task.specs.declared.tasks.TaskParts.{TaskParts}
 use Rattle.strips_judge.specs.declared.verdict.Verdict.{Verdict}
-use Rattle.strips_judge.specs.Verdict.{verdict}
+use Rattle.plan_cost.specs.declared.costs.Cost.{Cost}
+use Rattle.plan_cost.specs.declared.costs.CostedTask.{CostedTask}
+use Rattle.plan_cost.specs.Assessments.{assessment}
 use Rattle.intake_rules.specs.declared.finding.Finding.{Finding}
 
 -- the verdict of a plan, by a name behind which nobody needs to look who takes plans in and gives them out
-unfoldable pub verdict_of : TaskParts → Plan → Verdict
-verdict_of parts plan = verdict parts plan
+unfoldable pub verdict_of : CostedTask → Plan → Verdict
+verdict_of task plan = (assessment task plan).verdict
 
--- a finding is right for a task where its verdict is that of its job's plan
-abbrev pub IsRight : TaskParts → Finding → Type 0
-IsRight parts finding = finding.verdict ≡ verdict_of parts finding.job.plan
+-- the cost beside this verdict, by a name of the same kind
+unfoldable pub counted_cost : CostedTask → Plan → Cost
+counted_cost task plan = (assessment task plan).cost
+
+-- a finding is right for a task if its verdict and its cost are those of its job's plan
+abbrev pub IsRight : CostedTask → Finding → Type 0
+IsRight task finding = (finding.verdict ≡ verdict_of task finding.job.plan) × (finding.cost ≡ counted_cost task finding.job.plan)

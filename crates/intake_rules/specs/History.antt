@@ -3,7 +3,7 @@
 use Rattle.std.specs.Prelude.{◌≡◌, ℕ, zero, suc, List, [], ◌∷◌, ◌++◌, ⊤, Option, Some, None, Bool, true, false, ◌&&◌, not, nat_eq, length, map, slice_get, filter, take, is_some, if◌then◌else◌, IfSome}
 use Rattle.std.specs.List.{filter_map, list_any}
 use Rattle.strips_task.specs.declared.plans.Plan.{Plan}
-use Rattle.strips_task.specs.declared.tasks.TaskParts.{TaskParts}
+use Rattle.plan_cost.specs.declared.costs.CostedTask.{CostedTask}
 use Rattle.intake_rules.specs.declared.finding.Finding.{Finding}
 use Rattle.intake_rules.specs.declared.reply.Reply.{Reply}
 use Rattle.intake_rules.specs.declared.reply.Reply.TheVariants as reply
@@ -117,11 +117,11 @@ abbrev pub TakesLeast : ℕ → History → Type 0
 TakesLeast planners history = (place job : ℕ)
     → slice_get history place ≡ Some (take_job, reply.Taken job) → least_waiting (left_by planners (take place history)) ≡ Some job
 
-abbrev pub IsRightFinish : TaskParts → Event → Type 0
-IsRightFinish parts (finish job finding) = IfSome finding (IsRight parts)
-IsRightFinish parts _ = ⊤
+abbrev pub IsRightFinish : CostedTask → Event → Type 0
+IsRightFinish task (finish job finding) = IfSome finding (IsRight task)
+IsRightFinish task _ = ⊤
 
 -- each finding that was handed in is right
-abbrev pub HasRightFindings : TaskParts → History → Type 0
-HasRightFindings parts history = (place : ℕ) (event : Event) (answer : Reply)
-    → slice_get history place ≡ Some (event, answer) → IsRightFinish parts event
+abbrev pub HasRightFindings : CostedTask → History → Type 0
+HasRightFindings task history = (place : ℕ) (event : Event) (answer : Reply)
+    → slice_get history place ≡ Some (event, answer) → IsRightFinish task event

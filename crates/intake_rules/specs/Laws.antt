@@ -2,13 +2,13 @@
 
 use Rattle.std.specs.Prelude.{◌≡◌, ◌≢◌, ◌↔◌, ◌⊎◌, ◌<◌, ◌≤◌, ◌++◌, ℕ, suc, List, [], ◌∷◌, Option, Some, true, false, length, map, take, slice_get, All, MatchOption}
 use Rattle.strips_task.specs.declared.plans.Plan.{Plan}
-use Rattle.strips_task.specs.declared.tasks.TaskParts.{TaskParts}
+use Rattle.plan_cost.specs.declared.costs.CostedTask.{CostedTask}
 use Rattle.intake_rules.specs.declared.finding.Finding.{Finding}
 use Rattle.intake_rules.specs.declared.refusal.Refusal.{Refusal}
 use Rattle.intake_rules.specs.declared.refusal.Refusal.TheVariants as refusal
 use Rattle.intake_rules.specs.declared.reply.Reply.{Reply}
 use Rattle.intake_rules.specs.declared.reply.Reply.TheVariants as reply
-use Rattle.intake_rules.specs.Findings.{verdict_of}
+use Rattle.intake_rules.specs.Findings.{verdict_of, counted_cost}
 use Rattle.intake_rules.specs.History.{History, jobs, accepted, is_closed, emitted, finding_of, is_finished, is_out, left_by, IsLawful, TakesLeast, HasRightFindings}
 use Rattle.intake_rules.specs.Intake.{empty_intake, jobs_of}
 use Rattle.intake_rules.specs.Jobs.{AcceptedPlan, job_eq}
@@ -41,15 +41,16 @@ abbrev pub OneHistory : ℕ → ℕ → List Event → Type 0
 OneHistory planners places events = (history : History) × IsOf planners places events history × ((other : History) → IsOf planners places events other → other ≡ history)
 
 -- the first pairs of a history are lawful where all of it is, give out the least jobs where all of it does, and have right findings where all of it has
-abbrev pub PrefixesAreLawful : ℕ → ℕ → TaskParts → History → Type 0
-PrefixesAreLawful planners places parts history = (count : ℕ) → (IsLawful planners places history → IsLawful planners places (take count history))
+abbrev pub PrefixesAreLawful : ℕ → ℕ → CostedTask → History → Type 0
+PrefixesAreLawful planners places task history = (count : ℕ) → (IsLawful planners places history → IsLawful planners places (take count history))
     × (TakesLeast planners history → TakesLeast planners (take count history))
-    × (HasRightFindings parts history → HasRightFindings parts (take count history))
+    × (HasRightFindings task history → HasRightFindings task (take count history))
 
--- for each planner, the verdicts of the findings emitted are the first of the verdicts of its accepted plans, as many as there are
-abbrev pub VerdictsInOrder : TaskParts → History → Type 0
-VerdictsInOrder parts history = (planner : ℕ) → (length (emitted planner history) ≤ length (accepted planner history))
-    × (map (λ finding. finding.verdict) (emitted planner history) ≡ take (length (emitted planner history)) (map (verdict_of parts) (accepted planner history)))
+-- for each planner, the verdicts of the findings emitted are the first of the verdicts of its accepted plans, as many as there are, and so are the costs
+abbrev pub VerdictsInOrder : CostedTask → History → Type 0
+VerdictsInOrder task history = (planner : ℕ) → (length (emitted planner history) ≤ length (accepted planner history))
+    × (map (λ finding. finding.verdict) (emitted planner history) ≡ take (length (emitted planner history)) (map (verdict_of task) (accepted planner history)))
+    × (map (λ finding. finding.cost) (emitted planner history) ≡ take (length (emitted planner history)) (map (counted_cost task) (accepted planner history)))
 
 -- two histories leave the same jobs, closed planners, emitted findings, findings of jobs and jobs that are out
 pub record LeaveTheSame (before later : History) : Type 0 where
@@ -97,7 +98,8 @@ WholeListOnceClosed history = (place planner : ℕ) (answer : Reply) → slice_g
     → (((finding : Finding) × (answer ≡ reply.Emitted finding)) ⊎ (answer ≡ reply.Refused refusal.Complete))
     × ((answer ≡ reply.Refused refusal.Complete) ↔ (length (emitted planner (take place history)) ≡ length (accepted planner (take place history))))
 
--- what was emitted for a planner when `Complete` is answered are the verdicts of all its accepted plans, in order
-abbrev pub CompleteIsWhole : TaskParts → History → Type 0
-CompleteIsWhole parts history = (place planner : ℕ) → slice_get history place ≡ Some (emit planner, reply.Refused refusal.Complete)
-    → map (λ finding. finding.verdict) (emitted planner (take place history)) ≡ map (verdict_of parts) (accepted planner (take place history))
+-- what was emitted for a planner when `Complete` is answered are the verdicts and the costs of all its accepted plans, in order
+abbrev pub CompleteIsWhole : CostedTask → History → Type 0
+CompleteIsWhole task history = (place planner : ℕ) → slice_get history place ≡ Some (emit planner, reply.Refused refusal.Complete)
+    → (map (λ finding. finding.verdict) (emitted planner (take place history)) ≡ map (verdict_of task) (accepted planner (take place history)))
+    × (map (λ finding. finding.cost) (emitted planner (take place history)) ≡ map (counted_cost task) (accepted planner (take place history)))

@@ -1,11 +1,12 @@
-//! A job with its verdict.
+//! A job with its verdict and its cost.
 ghost use Rattle.std.specs.Prelude.{◌≡◌, IfOk};
 ghost use Rattle.intake_rules.specs.Findings.{IsRight};
 
 use crate::Job;
+use plan_cost::{Assessment, Cost, CostedTask, assess};
 use std::alloc::{AllocError, Global};
 use std::sync::Arc;
-use strips_judge::{Task, Verdict, judge};
+use strips_judge::Verdict;
 
 /// What was found of a job.
 #[derive(Drop)]
@@ -14,16 +15,18 @@ pub struct Finding {
     pub job: Job,
     /// The verdict of its plan.
     pub verdict: Verdict,
+    /// What its plan costs, if it is valid and the task counts costs.
+    pub cost: Cost,
 }
 
 impl Finding {
-    /// Judges the plan of a job. Takes the memory that [`judge`] takes; the plan gets one owner more.
-    #[tactic(auto, unfolding(crate::specs::Findings::verdict_of))]
-    pub fn judge(alloc: Global, task: &Task, job: &Job) -> Result<Finding, AllocError>
+    /// Judges the plan of a job, and adds up what it costs. Takes the memory that [`assess`] takes; the plan gets one owner more.
+    #[tactic(auto, unfolding(crate::specs::Findings::verdict_of, crate::specs::Findings::counted_cost))]
+    pub fn judge(alloc: Global, task: &CostedTask, job: &Job) -> Result<Finding, AllocError>
         ensures right { IfOk result (λ finding. IsRight task.now finding) }
         ensures job { IfOk result (λ finding. finding.job ≡ job.now) }
     {
-        let verdict = judge(alloc, task, &job.plan)?;
+        let Assessment { verdict, cost } = assess(alloc, task, &job.plan)?;
         Ok(Finding {
             job: Job {
                 number: job.number,
@@ -31,6 +34,7 @@ impl Finding {
                 plan: Arc::try_clone(&job.plan)?,
             },
             verdict,
+            cost,
         })
     }
 }

@@ -3,7 +3,7 @@
 //! The first few say how a history grows: from [`empty_history`] by [`one_more`] pair, by [`least_goes_on`] in the way of an intake that gives
 //! out the least job. The others say what holds of every lawful history, and so, by [`prefixes_are_lawful`], at every moment of it.
 ghost use Rattle.std.specs.Prelude.{ℕ, List};
-ghost use Rattle.strips_task.specs.declared.tasks.TaskParts.{TaskParts};
+ghost use Rattle.plan_cost.specs.declared.costs.CostedTask.{CostedTask};
 ghost use Rattle.intake_rules.specs.declared.reply.Reply.{Reply};
 ghost use Rattle.intake_rules.specs.History.{History, IsLawful, HasRightFindings};
 ghost use Rattle.intake_rules.specs.Laws.{ComparesJobs, EmptyHistory, OneMore, LeastGoesOn, OneHistory, PrefixesAreLawful, VerdictsInOrder, RefusalsChangeNothing, RefusedAfterClose, RefusedDoubled, RefusedStrange, WholeListOnceClosed, CompleteIsWhole};
@@ -39,13 +39,14 @@ pub fn one_history_of_events()
 /// The first pairs of a lawful history are a lawful history, and the same of histories that give out the least jobs, and of those with
 /// right findings.
 pub fn prefixes_are_lawful()
-    ensures { (planners places : ℕ) (parts : TaskParts) (history : History) → PrefixesAreLawful planners places parts history }
+    ensures { (planners places : ℕ) (task : CostedTask) (history : History) → PrefixesAreLawful planners places task history }
 {}
 
-/// The verdicts emitted for a planner are the first ones of the verdicts of its accepted plans, in the order of acceptance, each once.
+/// The verdicts emitted for a planner are the first ones of the verdicts of its accepted plans, in the order of acceptance, each once, and
+/// each with the cost of its plan.
 pub fn verdicts_in_order()
-    ensures { (planners places : ℕ) (parts : TaskParts) (history : History)
-        → IsLawful planners places history → HasRightFindings parts history → VerdictsInOrder parts history }
+    ensures { (planners places : ℕ) (task : CostedTask) (history : History)
+        → IsLawful planners places history → HasRightFindings task history → VerdictsInOrder task history }
 {}
 
 /// What is refused changes nothing.
@@ -73,8 +74,8 @@ pub fn whole_list_once_closed()
     ensures { (planners places : ℕ) (history : History) → IsLawful planners places history → WholeListOnceClosed history }
 {}
 
-/// Where `Complete` is answered, the verdicts emitted are those of all accepted plans of the planner.
+/// Where `Complete` is answered, the verdicts and costs emitted are those of all accepted plans of the planner.
 pub fn complete_is_whole()
-    ensures { (planners places : ℕ) (parts : TaskParts) (history : History)
-        → IsLawful planners places history → HasRightFindings parts history → CompleteIsWhole parts history }
+    ensures { (planners places : ℕ) (task : CostedTask) (history : History)
+        → IsLawful planners places history → HasRightFindings task history → CompleteIsWhole task history }
 {}

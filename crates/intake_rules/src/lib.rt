@@ -1,7 +1,8 @@
 //! The rules by which plans are taken in, given out, judged and emitted.
 //!
-//! A [`Job`] is a plan that was accepted, with its number. A [`Finding`] is a job with its verdict, and [`Finding::judge`] makes the right
-//! one. What an intake answers to whoever asks something of it is a [`Reply`], and where it refuses, the [`Refusal`] says why.
+//! A [`Job`] is a plan that was accepted, with its number. A [`Finding`] is a job with its verdict and the cost of its plan, and
+//! [`Finding::judge`] makes the right one. What an intake answers to whoever asks something of it is a [`Reply`], and where it refuses, the
+//! [`Refusal`] says why.
 //!
 //! The rules themselves stand in `specs/`: `Intake.antt` says what an intake knows (the jobs, the [`Stage`] of each, which planners are
 //! closed, how much each was told), `Rules.antt` says by a table what it answers and what it knows afterwards, and `History.antt` says what
@@ -9,8 +10,8 @@
 //! shared by many can both be held to them.
 //!
 //! What follows from the rules is said by the functions of [`laws`], in the words of `Laws.antt`: what a history leaves is what the rules
-//! give pair by pair; and in every history that keeps to the rules each planner is told the verdicts of its accepted plans in order, what
-//! is refused changes nothing, and a planner that was closed is told all once its jobs are finished.
+//! give pair by pair; and in every history that keeps to the rules each planner is told the verdicts and costs of its accepted plans in
+//! order, what is refused changes nothing, and a planner that was closed is told all once its jobs are finished.
 #![tactic(auto)]
 
 mod finding;

@@ -7,7 +7,7 @@ use Rattle.std.proofs.lemmas.Bool.{cases_eq}
 use Rattle.std.proofs.lemmas.List.{length-append, length-map, length-set, length-replicate, map-append, take-append-le, take_all, take_more, get_or-map, get_or-set_same, get_or-set_other}
 use Rattle.std.proofs.lemmas.List.FromFn.{get_or-map-range_with_len}
 use Rattle.std.proofs.lemmas.Option.{slice_get_within, get_or_from_slice_get}
-use Rattle.strips_task.specs.declared.tasks.TaskParts.{TaskParts}
+use Rattle.plan_cost.specs.declared.costs.CostedTask.{CostedTask}
 use Rattle.intake_rules.specs.declared.finding.Finding.{Finding}
 use Rattle.intake_rules.specs.Findings.{IsRight}
 use Rattle.intake_rules.specs.Intake.{jobs_of, next_job}
@@ -51,22 +51,22 @@ zeros zero planner = refl
 zeros (suc planners) zero = refl
 zeros (suc planners) (suc planner) = zeros planners planner
 
-module _ (parts : TaskParts) where
+module _ (task : CostedTask) where
   -- at first nothing was emitted, and nothing is kept
-  pub nothing_emitted : (setting : Setting) → KeptFindings parts setting.planners (first_view setting) (nothing_kept setting.planners)
+  pub nothing_emitted : (setting : Setting) → KeptFindings task setting.planners (first_view setting) (nothing_kept setting.planners)
   unfolding jobs_of
   nothing_emitted setting = record {
     planners_are = length-replicate setting.planners false;
     count = length-replicate setting.planners 0;
     within = λ planner. let none = zeros setting.planners planner in omega arith;
     kept = nothing_found setting.planners
-        ∙ same_rows (of_planner []) (emitted_of parts (first_view setting)) 0 setting.planners
+        ∙ same_rows (of_planner []) (emitted_of task (first_view setting)) 0 setting.planners
         (λ planner h. sym (take_all (slice_index (replicate setting.planners 0) planner) [] (omega arith)));
   }
 
-  module _ (planners : ℕ) (view : View) (findings : List (List Finding)) (so_far : KeptFindings parts planners view findings) where
+  module _ (planners : ℕ) (view : View) (findings : List (List Finding)) (so_far : KeptFindings task planners view findings) where
     -- what changes neither jobs nor emissions changes nothing of it
-    pub unmoved : (later : View) → later.jobs ≡ view.jobs → later.emitted ≡ view.emitted → length later.closed ≡ length view.closed → KeptFindings parts planners later findings
+    pub unmoved : (later : View) → later.jobs ≡ view.jobs → later.emitted ≡ view.emitted → length later.closed ≡ length view.closed → KeptFindings task planners later findings
     unmoved later jobs emitted closed = record {
       planners_are = closed ∙ so_far.planners_are;
       count = ap length emitted ∙ so_far.count;
@@ -76,11 +76,11 @@ module _ (parts : TaskParts) where
           let n = ap (λ l. length (jobs_of planner l)) jobs in
           omega arith;
       kept = so_far.kept
-          ∙ (λ i. map (λ planner. take (slice_index (sym emitted i) planner) (map (right_finding parts) (jobs_of planner (sym jobs i)))) (range_with_len 0 planners));
+          ∙ (λ i. map (λ planner. take (slice_index (sym emitted i) planner) (map (right_finding task) (jobs_of planner (sym jobs i)))) (range_with_len 0 planners));
     }
 
     -- one job more
-    pub posted : (job : AcceptedPlan) → KeptFindings parts planners (with_posted view job) findings
+    pub posted : (job : AcceptedPlan) → KeptFindings task planners (with_posted view job) findings
     posted job = record {
       planners_are = so_far.planners_are;
       count = so_far.count;
@@ -88,22 +88,22 @@ module _ (parts : TaskParts) where
           let h = so_far.within planner in
           let all = ap length (jobs_of-append planner view.jobs (job ∷ [])) ∙ length-append (jobs_of planner view.jobs) (jobs_of planner (job ∷ [])) in
           omega arith;
-      kept = so_far.kept ∙ same_rows (emitted_of parts view) (emitted_of parts (with_posted view job)) 0 planners (λ planner h. sym (row planner));
+      kept = so_far.kept ∙ same_rows (emitted_of task view) (emitted_of task (with_posted view job)) 0 planners (λ planner h. sym (row planner));
     }
       where
-        row : (planner : ℕ) → emitted_of parts (with_posted view job) planner ≡ emitted_of parts view planner
+        row : (planner : ℕ) → emitted_of task (with_posted view job) planner ≡ emitted_of task view planner
         row planner =
-            let mine = map (right_finding parts) (jobs_of planner view.jobs) in
-            let new = map (right_finding parts) (jobs_of planner (job ∷ [])) in
-            let long = length-map (jobs_of planner view.jobs) (right_finding parts) in
+            let mine = map (right_finding task) (jobs_of planner view.jobs) in
+            let new = map (right_finding task) (jobs_of planner (job ∷ [])) in
+            let long = length-map (jobs_of planner view.jobs) (right_finding task) in
             let h = so_far.within planner in
-            ap (λ l. take (slice_index view.emitted planner) (map (right_finding parts) l)) (jobs_of-append planner view.jobs (job ∷ []))
-            ∙ ap (take (slice_index view.emitted planner)) (map-append (right_finding parts) (jobs_of planner view.jobs) (jobs_of planner (job ∷ [])))
+            ap (λ l. take (slice_index view.emitted planner) (map (right_finding task) l)) (jobs_of-append planner view.jobs (job ∷ []))
+            ∙ ap (take (slice_index view.emitted planner)) (map-append (right_finding task) (jobs_of planner view.jobs) (jobs_of planner (job ∷ [])))
             ∙ take-append-le (slice_index view.emitted planner) mine new (omega arith)
 
     -- one finding more is emitted and kept
-    pub emitted_more : (planner : ℕ) (finding : Finding) → planner < planners → next_job (accepted_intake view) planner ≡ Some finding.job → IsRight parts finding
-        → KeptFindings parts planners (with_emission view planner) (kept findings finding)
+    pub emitted_more : (planner : ℕ) (finding : Finding) → planner < planners → next_job (accepted_intake view) planner ≡ Some finding.job → IsRight task finding
+        → KeptFindings task planners (with_emission view planner) (kept findings finding)
     emitted_more planner finding known next right =
         let count = slice_index view.emitted planner in
         let jobs = jobs_of planner view.jobs in
@@ -111,15 +111,15 @@ module _ (parts : TaskParts) where
         let whose : finding.job.planner ≡ planner = planner_of_next planner view.jobs count finding.job next in
         let place : planner < length view.emitted = (let n = so_far.count in omega arith) in
         let more : slice_index (with_emission view planner).emitted planner ≡ suc count = get_or-set_same view.emitted planner (suc count) 0 place in
-        let rows = map (emitted_of parts view) (range_with_len 0 planners) in
+        let rows = map (emitted_of task view) (range_with_len 0 planners) in
         let at : 0 + planner ≡ planner = omega arith in
-        let f = right_finding parts in
-        let is_right : f finding.job ≡ finding = (λ i. record { job = finding.job; verdict = sym right i }) in
+        let f = right_finding task in
+        let is_right : f finding.job ≡ finding = (λ i. record { job = finding.job; verdict = sym right.0 i; cost = sym right.1 i }) in
         let last : get_or (map f jobs) count finding ≡ finding = (
         get_or-map f jobs count finding.job finding less ∙ ap f (get_or_from_slice_get jobs count finding.job finding.job next) ∙ is_right
         ) in
         let long = length-map jobs f in
-        let row : emitted_of parts (with_emission view planner) planner ≡ emitted_of parts view planner ++ finding ∷ [] = (
+        let row : emitted_of task (with_emission view planner) planner ≡ emitted_of task view planner ++ finding ∷ [] = (
         ap (λ n. take n (map f jobs)) (more ∙ sym (add-one count))
         ∙ take_more (map f jobs) count finding (omega arith)
         ∙ ap (λ x. take count (map f jobs) ++ x ∷ []) last
@@ -138,22 +138,22 @@ module _ (parts : TaskParts) where
           ];
           kept = ap (λ p. set findings p (get_or findings p [] ++ finding ∷ [])) whose
               ∙ ap (λ l. set l planner (get_or l planner [] ++ finding ∷ [])) so_far.kept
-              ∙ ap (λ l. set rows planner (l ++ finding ∷ [])) (get_or-map-range_with_len (emitted_of parts view) 0 planners planner planner [] known at)
+              ∙ ap (λ l. set rows planner (l ++ finding ∷ [])) (get_or-map-range_with_len (emitted_of task view) 0 planners planner planner [] known at)
               ∙ ap (set rows planner) (sym row)
-              ∙ sym (one_row_else (emitted_of parts view) (emitted_of parts (with_emission view planner)) planner
+              ∙ sym (one_row_else (emitted_of task view) (emitted_of task (with_emission view planner)) planner
               (λ other apart. ap (λ n. take n (map f (jobs_of other view.jobs))) (get_or-set_other view.emitted planner other (suc count) 0 apart))
               0 planners planner at known);
         }
 
     -- where all were emitted, what is kept are the right findings of all jobs
     pub all_emitted : ((planner : ℕ) → planner < planners → slice_index view.emitted planner ≡ length (jobs_of planner view.jobs))
-        → findings ≡ by_planner planners (map (right_finding parts) view.jobs)
+        → findings ≡ by_planner planners (map (right_finding task) view.jobs)
     all_emitted all =
-        so_far.kept ∙ same_rows (emitted_of parts view) (of_planner (map (right_finding parts) view.jobs)) 0 planners row
+        so_far.kept ∙ same_rows (emitted_of task view) (of_planner (map (right_finding task) view.jobs)) 0 planners row
       where
-        row : (planner : ℕ) → planner < 0 + planners → emitted_of parts view planner ≡ of_planner (map (right_finding parts) view.jobs) planner
+        row : (planner : ℕ) → planner < 0 + planners → emitted_of task view planner ≡ of_planner (map (right_finding task) view.jobs) planner
         row planner h =
-            let long = length-map (jobs_of planner view.jobs) (right_finding parts) in
+            let long = length-map (jobs_of planner view.jobs) (right_finding task) in
             let e = all planner (omega arith) in
-            take_all (slice_index view.emitted planner) (map (right_finding parts) (jobs_of planner view.jobs)) (omega arith)
-            ∙ sym (found_of parts planner view.jobs)
+            take_all (slice_index view.emitted planner) (map (right_finding task) (jobs_of planner view.jobs)) (omega arith)
+            ∙ sym (found_of task planner view.jobs)

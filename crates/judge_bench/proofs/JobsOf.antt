@@ -4,7 +4,7 @@ use Rattle.std.proofs.Common.{◌≡◌, ℕ, ◌+◌, zero, suc, Bool, true, fa
 use Rattle.std.specs.Prelude.{slice_get}
 use Rattle.std.proofs.lemmas.Bool.{eqb-true}
 use Rattle.std.proofs.lemmas.List.Elements.{filter-append}
-use Rattle.strips_task.specs.declared.tasks.TaskParts.{TaskParts}
+use Rattle.plan_cost.specs.declared.costs.CostedTask.{CostedTask}
 use Rattle.intake_rules.specs.declared.finding.Finding.{Finding}
 use Rattle.intake_rules.specs.Intake.{is_of, jobs_of}
 use Rattle.intake_rules.specs.Jobs.{AcceptedPlan}
@@ -40,14 +40,14 @@ pub planner_of_next : (planner : ℕ) (jobs : List AcceptedPlan) (place : ℕ) (
 planner_of_next planner jobs place job at = (its_slot planner jobs place job at).1
 
 -- the right findings of a planner's jobs are those of all jobs that are the planner's
-pub found_of : (parts : TaskParts) (planner : ℕ) (jobs : List AcceptedPlan) → of_planner (map (right_finding parts) jobs) planner ≡ map (right_finding parts) (jobs_of planner jobs)
+pub found_of : (task : CostedTask) (planner : ℕ) (jobs : List AcceptedPlan) → of_planner (map (right_finding task) jobs) planner ≡ map (right_finding task) (jobs_of planner jobs)
 unfolding jobs_of
-found_of parts planner [] = refl
-found_of parts planner (job ∷ jobs) = by (nat_eq job.planner planner) (of_planner (map (right_finding parts) jobs) planner) (jobs_of planner jobs) (found_of parts planner jobs)
+found_of task planner [] = refl
+found_of task planner (job ∷ jobs) = by (nat_eq job.planner planner) (of_planner (map (right_finding task) jobs) planner) (jobs_of planner jobs) (found_of task planner jobs)
   where
-    by : (b : Bool) (found : List Finding) (of_it : List AcceptedPlan) → found ≡ map (right_finding parts) of_it
-        → cond b (right_finding parts job ∷ found) found ≡ map (right_finding parts) (cond b (job ∷ of_it) of_it)
-    by true found of_it is = ap (λ l. right_finding parts job ∷ l) is
+    by : (b : Bool) (found : List Finding) (of_it : List AcceptedPlan) → found ≡ map (right_finding task) of_it
+        → cond b (right_finding task job ∷ found) found ≡ map (right_finding task) (cond b (job ∷ of_it) of_it)
+    by true found of_it is = ap (λ l. right_finding task job ∷ l) is
     by false found of_it is = is
 
 -- plans as jobs are numbered by their slots

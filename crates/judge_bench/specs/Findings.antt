@@ -2,15 +2,15 @@
 
 use Rattle.std.specs.Prelude.{ℕ, List, [], ◌∷◌, ◌++◌, map, filter, nat_eq, replicate, slice_index_or, slice_set}
 use Rattle.std.specs.List.{range_with_len}
-use Rattle.strips_task.specs.declared.tasks.TaskParts.{TaskParts}
+use Rattle.plan_cost.specs.declared.costs.CostedTask.{CostedTask}
 use Rattle.intake_rules.specs.declared.finding.Finding.{Finding}
-use Rattle.intake_rules.specs.Findings.{verdict_of}
+use Rattle.intake_rules.specs.Findings.{verdict_of, counted_cost}
 use Rattle.intake_rules.specs.Jobs.{AcceptedPlan}
 use Rattle.judge_bench.specs.Submissions.{SubmittedPlan, jobs_from}
 
 -- the right finding of a job
-abbrev pub right_finding : TaskParts → AcceptedPlan → Finding
-right_finding parts job = record { job = job; verdict = verdict_of parts job.plan }
+abbrev pub right_finding : CostedTask → AcceptedPlan → Finding
+right_finding task job = record { job = job; verdict = verdict_of task job.plan; cost = counted_cost task job.plan }
 
 -- the findings of the jobs of a planner, in order
 abbrev pub of_planner : List Finding → ℕ → List Finding
@@ -21,8 +21,8 @@ abbrev pub by_planner : ℕ → List Finding → List (List Finding)
 by_planner planners findings = map (of_planner findings) (range_with_len 0 planners)
 
 -- what a run finds: for each planner one right finding of each of its plans, in the order in which they were handed in
-unfoldable pub findings_of : TaskParts → ℕ → List SubmittedPlan → List (List Finding)
-findings_of parts planners plans = by_planner planners (map (right_finding parts) (jobs_from 0 plans))
+unfoldable pub findings_of : CostedTask → ℕ → List SubmittedPlan → List (List Finding)
+findings_of task planners plans = by_planner planners (map (right_finding task) (jobs_from 0 plans))
 
 -- no finding, for so many planners
 abbrev pub nothing_kept : ℕ → List (List Finding)

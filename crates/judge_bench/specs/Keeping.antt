@@ -2,7 +2,7 @@
 
 use Rattle.std.specs.Prelude.{◌≡◌, ◌≢◌, ◌<◌, ◌≤◌, ℕ, ◌+◌, ◌-◌, Bool, true, false, List, ◌++◌, Some, length, map, replicate, take, slice_get, slice_index}
 use Rattle.std.specs.List.{range_with_len}
-use Rattle.strips_task.specs.declared.tasks.TaskParts.{TaskParts}
+use Rattle.plan_cost.specs.declared.costs.CostedTask.{CostedTask}
 use Rattle.intake_rules.specs.declared.finding.Finding.{Finding}
 use Rattle.intake_rules.specs.Intake.{jobs_of, next_job}
 use Rattle.intake_rules.specs.Jobs.{AcceptedPlan}
@@ -14,15 +14,15 @@ use Rattle.judge_bench.specs.Seats.{accepted_intake, with_misses}
 use Rattle.judge_bench.specs.Submissions.{SubmittedPlan, jobs_from}
 
 -- the right findings of the first of a planner's jobs, as many as were emitted
-abbrev pub emitted_of : TaskParts → View → ℕ → List Finding
-emitted_of parts view planner = take (slice_index view.emitted planner) (map (right_finding parts) (jobs_of planner view.jobs))
+abbrev pub emitted_of : CostedTask → View → ℕ → List Finding
+emitted_of task view planner = take (slice_index view.emitted planner) (map (right_finding task) (jobs_of planner view.jobs))
 
 -- for each planner just the findings are kept that were emitted, which are no more than it has jobs
-pub record KeptFindings (parts : TaskParts) (planners : ℕ) (view : View) (findings : List (List Finding)) : Type 0 where
+pub record KeptFindings (task : CostedTask) (planners : ℕ) (view : View) (findings : List (List Finding)) : Type 0 where
   pub planners_are : length view.closed ≡ planners
   pub count : length view.emitted ≡ planners
   pub within : (planner : ℕ) → slice_index view.emitted planner ≤ length (jobs_of planner view.jobs)
-  pub kept : findings ≡ map (emitted_of parts view) (range_with_len 0 planners)
+  pub kept : findings ≡ map (emitted_of task view) (range_with_len 0 planners)
 
 -- the planner's next job, if it has one, was not known to be finished
 abbrev pub NextIsUnknown : ℕ → View → Type 0

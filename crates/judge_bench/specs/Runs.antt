@@ -1,7 +1,7 @@
 -- What a run begins with, and what it comes to.
 
 use Rattle.std.specs.Prelude.{◌≡◌, ◌<◌, ◌≤◌, ℕ, List, [], All, Result, IfOk, IfErr, length}
-use Rattle.strips_task.specs.declared.tasks.TaskParts.{TaskParts}
+use Rattle.plan_cost.specs.declared.costs.CostedTask.{CostedTask}
 use Rattle.intake_rules.specs.declared.finding.Finding.{Finding}
 use Rattle.bench_rule.specs.declared.views.View.{View}
 use Rattle.bench_rule.specs.Views.{first_view}
@@ -12,8 +12,8 @@ use Rattle.judge_bench.specs.Seats.{BenchFacts, SeatFacts}
 use Rattle.judge_bench.specs.Submissions.{SubmittedPlan, jobs_from}
 
 -- a bench that was made for a task and so many planners, its owner, who did nothing yet, and no finding
-pub record IsReady (bench : BenchFacts) (parts : TaskParts) (planners : ℕ) (owner : SeatFacts) (findings : List (List Finding)) : Type 0 where
-  pub task : bench.setting.task.value ≡ parts
+pub record IsReady (bench : BenchFacts) (given : CostedTask) (planners : ℕ) (owner : SeatFacts) (findings : List (List Finding)) : Type 0 where
+  pub task : bench.setting.task.value ≡ given
   pub planners_are : bench.setting.planners ≡ planners
   pub table : owner.table ≡ bench.table
   pub view : owner.view ≡ first_view bench.setting
@@ -31,6 +31,6 @@ pub record AllAccepted (plans : List SubmittedPlan) (workers : ℕ) (view : View
   pub held : view.held ≡ []
 
 -- a run finds the right findings of all plans, or refuses; and a job that it says was held is one that may be held
-pub record FoundOrHeld (parts : TaskParts) (planners : ℕ) (plans : List SubmittedPlan) (MayHold : ℕ → Type 0) (result : Result (List (List Finding)) RunFault) : Type 0 where
-  pub findings : IfOk result (λ found. found ≡ findings_of parts planners plans)
+pub record FoundOrHeld (task : CostedTask) (planners : ℕ) (plans : List SubmittedPlan) (MayHold : ℕ → Type 0) (result : Result (List (List Finding)) RunFault) : Type 0 where
+  pub findings : IfOk result (λ found. found ≡ findings_of task planners plans)
   pub held : IfErr result (λ fault. (job : ℕ) → fault ≡ Held job → MayHold job)

@@ -4,10 +4,10 @@ ghost use Rattle.bench_rule.specs.Views.{first_view};
 
 use crate::Owner;
 use bench_rule::{BenchTable, BenchWords, Setting, make_table};
+use plan_cost::CostedTask;
 use std::alloc::{AllocError, Global};
 use std::marker::Model;
 use std::snapshot::Snapshot;
-use strips_judge::Task;
 
 /// The bench that threads share: its words and slots. Contracts see which bench it is, and what it was made for.
 #[derive(Drop)]
@@ -32,7 +32,7 @@ impl Bench {
     /// the calls at the bench need: a word and a slot for each plan, and what the owner keeps of each plan and each planner.
     pub fn make(
         alloc: Global,
-        task: &Task,
+        task: &CostedTask,
         planners: u32,
         slots: u32,
     ) -> Result<(Bench, Owner), AllocError>

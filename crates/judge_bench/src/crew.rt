@@ -6,10 +6,10 @@ ghost use Rattle.judge_bench.specs.Seats.{SitsAt};
 ghost use Rattle.judge_bench.specs.Workers.{AllWorkAt, CameBack, first_held};
 
 use crate::{Bench, Ended, Gate, Owner, WorkFault, WorkerSeat, work};
+use plan_cost::CostedTask;
 use std::alloc::Global;
 use std::snapshot::Snapshot;
 use std::thread::{Promise, PromisedHandle, Scope, Threads};
-use strips_judge::Task;
 
 /// After how many rounds without a job a worker ends: some hours.
 const IDLE_ROUNDS: u32 = 1_000_000_000;
@@ -46,7 +46,7 @@ pub(crate) fn start_all<'s, E, G: Gate + Sync>(
     crew: &mut Crew<G>,
     bench: &'s Bench,
     owner: &mut Owner,
-    task: &'s Task,
+    task: &'s CostedTask,
     workers: u32,
     gate: &'s G,
 ) -> Result<(), NoThread>
@@ -81,7 +81,7 @@ fn whole_work<G: Gate>(
     alloc: Global,
     bench: &Bench,
     seat: WorkerSeat,
-    task: &Task,
+    task: &CostedTask,
     gate: &G,
 ) -> Ended
     requires seat { SitsAt bench.now seat × (seat.view ≡ worker_view (Some bench.now.setting)) }

@@ -10,8 +10,8 @@ ghost use Rattle.judge_bench.specs.Submissions.{job_of};
 
 use crate::{Bench, Findings, Intake, Owner, Submission, Ticket};
 use intake_rules::Finding;
+use plan_cost::CostedTask;
 use std::alloc::{AllocError, Global};
-use strips_judge::Task;
 
 /// The owner of a bench, and the findings that it emitted.
 #[derive(Drop)]
@@ -100,7 +100,7 @@ impl Keeper {
         self,
         alloc: Global,
         bench: &Bench,
-        task: &Task,
+        task: &CostedTask,
         planners: u32,
     ) -> Result<Findings, AllocError>
         requires seat { SitsAt bench.now self.owner }
@@ -139,7 +139,7 @@ fn judge_rest(
     alloc: Global,
     bench: &Bench,
     owner: &mut Owner,
-    task: &Task,
+    task: &CostedTask,
 ) -> Result<(), AllocError>
     requires seat { SitsAt bench.now owner.old }
     requires task { bench.now.setting.task.value ≡ task.now }
@@ -160,7 +160,7 @@ fn judge_own(
     bench: &Bench,
     owner: &mut Owner,
     ticket: Ticket,
-    task: &Task,
+    task: &CostedTask,
 ) -> Result<(), AllocError>
     requires seat { SitsAt bench.now owner.old }
     requires ticket { HoldsJob ticket.slot ticket.job owner.old.view.held }

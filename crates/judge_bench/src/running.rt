@@ -10,11 +10,11 @@ ghost use Rattle.judge_bench.specs.declared.running.RunFault.TheVariants.{Held};
 use crate::crew::{Crew, NoThread, join_all, start_all};
 use crate::keeper::Keeper;
 use crate::{Bench, Findings, Gate, Intake};
+use plan_cost::CostedTask;
 use std::alloc::{AllocError, Global};
 use std::sync::Wait;
 use std::thread;
 use std::thread::{Scope, Threads};
-use strips_judge::Task;
 
 /// Why a run gives no findings.
 #[derive(Clone, Copy, Debug, Drop, PartialEq, Eq)]
@@ -60,7 +60,7 @@ impl From<NoThread> for RunFault {
 pub fn run<R: Threads + Wait + Sync, I: Intake, G: Gate + Sync>(
     rt: &R,
     alloc: Global,
-    task: &Task,
+    task: &CostedTask,
     planners: u32,
     slots: u32,
     intake: &mut I,
@@ -91,7 +91,7 @@ fn run_at<R: Threads + Wait + Sync, I: Intake, G: Gate + Sync>(
     bench: &Bench,
     keeper: Keeper,
     crew: Crew<G>,
-    task: &Task,
+    task: &CostedTask,
     planners: u32,
     intake: &mut I,
     workers: u32,
@@ -124,7 +124,7 @@ fn conduct<'s, E, R: Threads, I: Intake, G: Gate + Sync>(
     bench: &'s Bench,
     mut keeper: Keeper,
     mut crew: Crew<G>,
-    task: &'s Task,
+    task: &'s CostedTask,
     planners: u32,
     intake: &mut I,
     workers: u32,
@@ -163,7 +163,7 @@ fn attend<'s, E, I: Intake, G: Gate + Sync>(
     bench: &'s Bench,
     keeper: &mut Keeper,
     crew: &mut Crew<G>,
-    task: &'s Task,
+    task: &'s CostedTask,
     planners: u32,
     intake: &mut I,
     workers: u32,

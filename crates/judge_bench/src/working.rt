@@ -7,9 +7,9 @@ ghost use Rattle.judge_bench.specs.Work.{Worked};
 
 use crate::{Bench, Gate, Ticket, WorkerSeat};
 use intake_rules::Finding;
+use plan_cost::CostedTask;
 use std::alloc::{AllocError, Global};
 use std::{hint, thread};
-use strips_judge::Task;
 
 /// How often a worker yields at most before it looks for a job again: together some tens of microseconds on a machine that has nothing else to do.
 const MOST_YIELDS: u32 = 32;
@@ -42,7 +42,7 @@ pub fn work<G: Gate>(
     alloc: Global,
     bench: &Bench,
     mut seat: WorkerSeat,
-    task: &Task,
+    task: &CostedTask,
     gate: &G,
     idle: u32,
 ) -> Ended
@@ -88,7 +88,7 @@ fn judge_one<G: Gate>(
     bench: &Bench,
     seat: &mut WorkerSeat,
     ticket: Ticket,
-    task: &Task,
+    task: &CostedTask,
     gate: &G,
 ) -> Result<(), WorkFault>
     requires seat { SitsAt bench.now seat.old }

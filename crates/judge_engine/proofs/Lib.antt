@@ -1,3 +1,4 @@
+pub mod CostTexts
 pub mod Planners
 pub mod Reading
 pub mod Refusals

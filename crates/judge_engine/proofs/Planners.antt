@@ -4,21 +4,21 @@ use Rattle.std.proofs.Common.{◌≡◌, ℕ, ◌+◌, suc, List, [], ◌∷◌,
 use Rattle.std.proofs.lemmas.List.{map-append}
 use Rattle.std.proofs.lemmas.Grind.{flat_map-append}
 use Rattle.std.specs.List.{flat_map}
-use Rattle.strips_task.specs.declared.tasks.TaskParts.{TaskParts}
+use Rattle.plan_cost.specs.declared.costs.CostedTask.{CostedTask}
 use Rattle.judge_engine.specs.Report.{Planner, report, header_line, planner_lines}
 use Rattle.judge_engine.proofs.Rendering.{take_one_more}
 
 -- one planner more behind the others
-pub report_more : {B : Type 0} (task : TaskParts) (planner : B → Planner) (bundles : List B) (i : ℕ) (bundle : B) → slice_get bundles i ≡ Some bundle
+pub report_more : {B : Type 0} (task : CostedTask) (planner : B → Planner) (bundles : List B) (i : ℕ) (bundle : B) → slice_get bundles i ≡ Some bundle
     → report task (map planner (take (i + 1) bundles)) ≡ report task (map planner (take i bundles)) ++ planner_lines task (planner bundle)
 report_more task planner bundles i bundle at =
-    ap (λ l. header_line task ++ l)
+    ap (λ l. header_line task.task ++ l)
     (ap (λ k. flat_map (planner_lines task) (map planner (take k bundles))) (let n : i + 1 ≡ suc i = omega arith in n)
     ∙ ap (λ l. flat_map (planner_lines task) (map planner l)) (take_one_more bundles i bundle at)
     ∙ ap (flat_map (planner_lines task)) (map-append planner (take i bundles) (bundle ∷ []))
     ∙ flat_map-append (planner_lines task) (map planner (take i bundles)) (planner bundle ∷ [])
     ∙ ap (λ l. flat_map (planner_lines task) (map planner (take i bundles)) ++ l) (append-nil (planner_lines task (planner bundle))))
-    ∙ sym (append_assoc (header_line task) (flat_map (planner_lines task) (map planner (take i bundles))) (planner_lines task (planner bundle)))
+    ∙ sym (append_assoc (header_line task.task) (flat_map (planner_lines task) (map planner (take i bundles))) (planner_lines task (planner bundle)))
 
 -- what follows of the value follows of the answer
 pub if_ok_more : {T E : Type 0} {P Q : T → Type 0} (r : Result T E) → ((x : T) → P x → Q x) → IfOk r P → IfOk r Q

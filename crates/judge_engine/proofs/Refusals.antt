@@ -5,16 +5,17 @@ use Rattle.pddl_syntax.specs.declared.fault.FaultKind.{FaultKind}
 use Rattle.pddl_syntax.specs.declared.fault.FaultKind.TheVariants.{OutOfMemory as Memory}
 use Rattle.pddl_syntax.specs.declared.fault.ReadFault.{ReadFault}
 use Rattle.pddl_reader.specs.Domain.{DomainValue}
-use Rattle.pddl_reader.specs.Texts.{domain_of_text, problem_of_text}
+use Rattle.pddl_reader.specs.Texts.{domain_in_text, problem_in_text}
 use Rattle.pddl_syntax.specs.Trees.{text_fault}
-use Rattle.strips_task.specs.declared.tasks.TaskParts.{TaskParts}
+use Rattle.plan_cost.specs.declared.costs.CostedTask.{CostedTask}
+use Rattle.pddl_syntax.specs.declared.dialect.Dialect.{Dialect}
 use Rattle.judge_engine.specs.declared.fault.JudgeFault.{JudgeFault}
 use Rattle.judge_engine.specs.declared.fault.JudgeFault.TheVariants.{TooLarge, TooManyPlanners, Domain, Problem, TooManyPlans, Steps, OutOfMemory, NoThread, Held}
 use Rattle.judge_engine.specs.Bundle.{BundleValue}
-use Rattle.judge_engine.specs.Answer.{too_large, task_of, plan_count, most_planners, most_plans}
+use Rattle.judge_engine.specs.Answer.{too_large, task_in, plan_count, most_planners, most_plans}
 use Rattle.judge_bench.specs.declared.running.RunFault.{RunFault}
 use Rattle.judge_bench.specs.declared.running.RunFault.TheVariants as run
-use Rattle.judge_engine.specs.Refusal.{IsOfTexts, ReadingCallsFor, TextsCallFor, IsFaultOf, refusal_of_run}
+use Rattle.judge_engine.specs.Refusal.{IsOfTexts, ReadingCallsFor, TextsCallForIn, IsFaultOf, refusal_of_run}
 use Rattle.judge_engine.proofs.TextFaults.{text_fault_kind}
 
 -- a refusal that is not for memory is of a fault that is not either
@@ -35,22 +36,22 @@ module _ {A T : Type 0} (text : List ℕ) (value : Option A) (fault : ReadFault)
     first = λ e is. same_error {T = T} fault e (first e is);
   }
 
-module _ {T : Type 0} (domain problem : List ℕ) where
+module _ {T : Type 0} (dialect : Dialect) (domain problem : List ℕ) where
   pub domain_fault : (fault : ReadFault) (refusal : JudgeFault) → fault.kind ≢ Memory → (fault.kind ≢ Memory → refusal ≡ Domain fault)
-      → (fault.kind ≢ Memory → domain_of_text domain ≡ None)
+      → (fault.kind ≢ Memory → domain_in_text dialect domain ≡ None)
       → ((e : ReadFault) → text_fault domain ≡ Some e → ◌≡◌ {A = Result T ReadFault} (Err fault) (Err e))
-      → ReadingCallsFor domain problem refusal
+      → ReadingCallsFor dialect domain problem refusal
   domain_fault fault refusal kind is none first =
-      subst (ReadingCallsFor domain problem) (sym (is kind)) (fault_of {T = T} domain (domain_of_text domain) fault kind none first)
+      subst (ReadingCallsFor dialect domain problem) (sym (is kind)) (fault_of {T = T} domain (domain_in_text dialect domain) fault kind none first)
 
   pub problem_fault : (value : DomainValue) (fault : ReadFault) (refusal : JudgeFault) → fault.kind ≢ Memory
-      → (fault.kind ≢ Memory → refusal ≡ Problem fault) → domain_of_text domain ≡ Some value
-      → (fault.kind ≢ Memory → problem_of_text value problem ≡ None)
+      → (fault.kind ≢ Memory → refusal ≡ Problem fault) → domain_in_text dialect domain ≡ Some value
+      → (fault.kind ≢ Memory → problem_in_text dialect value problem ≡ None)
       → ((e : ReadFault) → text_fault problem ≡ Some e → ◌≡◌ {A = Result T ReadFault} (Err fault) (Err e))
-      → ReadingCallsFor domain problem refusal
+      → ReadingCallsFor dialect domain problem refusal
   problem_fault value fault refusal kind is read none first =
-      subst (ReadingCallsFor domain problem) (sym (is kind))
-      (value, read, fault_of {T = T} problem (problem_of_text value problem) fault kind none first)
+      subst (ReadingCallsFor dialect domain problem) (sym (is kind))
+      (value, read, fault_of {T = T} problem (problem_in_text dialect value problem) fault kind none first)
 
 -- wrong bytes and parentheses of the domain are told, since finding them takes no memory
 pub told_at_once : {T U : Type 0} (domain : List ℕ) (fault : ReadFault) (refusal : JudgeFault) → (fault.kind ≢ Memory → refusal ≡ Domain fault)
@@ -67,10 +68,10 @@ err_at : {T E : Type 0} (P : E → Type 0) (r : Result T E) (e : E) → r ≡ Er
 err_at {T} {E} P (Ok x) e is h = let clash : ◌≡◌ {A = Result T E} (Ok x) (Err e) = is in cc
 err_at {T} {E} P (Err f) e is h = subst P (same_error {T = T} f e is) h
 
-module _ (domain problem : List ℕ) (bundles : List BundleValue) where
+module _ (dialect : Dialect) (domain problem : List ℕ) (bundles : List BundleValue) where
   -- where no text is too large and the planners are few, what the domain and the problem call for
   pub read_cause : (fault : JudgeFault) → None ≡ too_large domain problem bundles → length bundles ≤ most_planners
-      → ReadingCallsFor domain problem fault → TextsCallFor domain problem bundles fault
+      → ReadingCallsFor dialect domain problem fault → TextsCallForIn dialect domain problem bundles fault
   read_cause (Domain fault) none few h = (sym none, few, h)
   read_cause (Problem fault) none few h = (sym none, few, h)
   read_cause (TooLarge place) none few h = absurd h
@@ -82,11 +83,11 @@ module _ (domain problem : List ℕ) (bundles : List BundleValue) where
   read_cause (Held job) none few h = absurd h
 
   -- where there is a task, too many plans are the cause
-  pub plans_cause : (task : TaskParts) (fault : JudgeFault) → None ≡ too_large domain problem bundles → length bundles ≤ most_planners
-      → task_of domain problem ≡ Some task → (fault ≡ TooManyPlans) × (most_plans < plan_count bundles)
-      → TextsCallFor domain problem bundles fault
+  pub plans_cause : (task : CostedTask) (fault : JudgeFault) → None ≡ too_large domain problem bundles → length bundles ≤ most_planners
+      → task_in dialect domain problem ≡ Some task → (fault ≡ TooManyPlans) × (most_plans < plan_count bundles)
+      → TextsCallForIn dialect domain problem bundles fault
   plans_cause task fault none few is plans =
-      subst (TextsCallFor domain problem bundles) (sym plans.0) (sym none, few, (task, is), plans.1)
+      subst (TextsCallForIn dialect domain problem bundles) (sym plans.0) (sym none, few, (task, is), plans.1)
 
   -- the place of a text that is too large is told, and no other
   pub large_told : {T : Type 0} (place : ℕ) → Some place ≡ too_large domain problem bundles
@@ -107,14 +108,14 @@ module _ (domain problem : List ℕ) (bundles : List BundleValue) where
   )
 
   -- the readers tell no size
-  pub read_no_size : (fault : JudgeFault) → (fault ≢ OutOfMemory → ReadingCallsFor domain problem fault) → (n : ℕ) → fault ≢ TooLarge n
+  pub read_no_size : (fault : JudgeFault) → (fault ≢ OutOfMemory → ReadingCallsFor dialect domain problem fault) → (n : ℕ) → fault ≢ TooLarge n
   read_no_size fault cause n is =
-      subst (ReadingCallsFor domain problem) is (cause (λ memory. let clash : TooLarge n ≡ OutOfMemory = sym is ∙ memory in cc))
+      subst (ReadingCallsFor dialect domain problem) is (cause (λ memory. let clash : TooLarge n ≡ OutOfMemory = sym is ∙ memory in cc))
 
   -- and no held job
-  pub read_not_held : (fault : JudgeFault) → (fault ≢ OutOfMemory → ReadingCallsFor domain problem fault) → (job : ℕ) → fault ≢ Held job
+  pub read_not_held : (fault : JudgeFault) → (fault ≢ OutOfMemory → ReadingCallsFor dialect domain problem fault) → (job : ℕ) → fault ≢ Held job
   read_not_held fault cause job is =
-      subst (ReadingCallsFor domain problem) is (cause (λ memory. let clash : Held job ≡ OutOfMemory = sym is ∙ memory in cc))
+      subst (ReadingCallsFor dialect domain problem) is (cause (λ memory. let clash : Held job ≡ OutOfMemory = sym is ∙ memory in cc))
 
 -- what lies in the texts is no want of memory
 pub not_memory : (fault : JudgeFault) → IsOfTexts fault → fault ≢ OutOfMemory

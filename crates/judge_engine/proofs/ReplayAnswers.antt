@@ -3,42 +3,43 @@
 use Rattle.std.proofs.Common.{◌≡◌, List, ℕ, Option, Some, None, Err, inl, inr, ap, ◌∙◌}
 use Rattle.std.specs.Prelude.{◌≢◌, ◌⊎◌, is_none, if◌then◌else◌}
 use Rattle.std.specs.Option.{option_and_then}
-use Rattle.strips_task.specs.declared.tasks.TaskParts.{TaskParts}
+use Rattle.plan_cost.specs.declared.costs.CostedTask.{CostedTask}
+use Rattle.pddl_syntax.specs.declared.dialect.Dialect.{Dialect}
 use Rattle.steps_text.specs.declared.fault.StepsFault.{StepsFault}
 use Rattle.steps_text.specs.StepsTexts.{steps_text}
 use Rattle.judge_engine.specs.declared.fault.JudgeFault.{JudgeFault}
 use Rattle.judge_engine.specs.declared.fault.JudgeFault.TheVariants.{OutOfMemory, Steps}
-use Rattle.judge_engine.specs.Answer.{task_of}
-use Rattle.judge_engine.specs.ReplayAnswer.{replay_answer, replay_of, too_large_for_replay}
+use Rattle.judge_engine.specs.Answer.{task_in}
+use Rattle.judge_engine.specs.ReplayAnswer.{replay_answer_in, replay_of, too_large_for_replay}
 
-abbrev read_on : List ℕ → Option TaskParts → Option (List ℕ)
+abbrev read_on : List ℕ → Option CostedTask → Option (List ℕ)
 read_on steps task = option_and_then (λ parts. replay_of parts (steps_text steps)) task
 
 -- where no text is too large, the answer is by the task
-within_limits : (domain problem steps : List ℕ) → too_large_for_replay domain problem steps ≡ None → replay_answer domain problem steps ≡ read_on steps (task_of domain problem)
-unfolding replay_answer
-within_limits domain problem steps none = ap (λ (large : Option ℕ). if is_none large then read_on steps (task_of domain problem) else None) none
+within_limits : (dialect : Dialect) (domain problem steps : List ℕ) → too_large_for_replay domain problem steps ≡ None → replay_answer_in dialect domain problem steps ≡ read_on steps (task_in dialect domain problem)
+unfolding replay_answer_in
+within_limits dialect domain problem steps none = ap (λ (large : Option ℕ). if is_none large then read_on steps (task_in dialect domain problem) else None) none
 
 -- a text that is too large leaves no answer
-pub too_large_text : (domain problem steps : List ℕ) (place : ℕ) → too_large_for_replay domain problem steps ≡ Some place → replay_answer domain problem steps ≡ None
-unfolding replay_answer
-too_large_text domain problem steps place large = ap (λ (found : Option ℕ). if is_none found then read_on steps (task_of domain problem) else None) large
+pub too_large_text : (dialect : Dialect) (domain problem steps : List ℕ) (place : ℕ) → too_large_for_replay domain problem steps ≡ Some place → replay_answer_in dialect domain problem steps ≡ None
+unfolding replay_answer_in
+too_large_text dialect domain problem steps place large = ap (λ (found : Option ℕ). if is_none found then read_on steps (task_in dialect domain problem) else None) large
 
 -- texts that stand for no task leave none
-pub no_task : (domain problem steps : List ℕ) → too_large_for_replay domain problem steps ≡ None → task_of domain problem ≡ None → replay_answer domain problem steps ≡ None
-no_task domain problem steps none task = within_limits domain problem steps none ∙ ap (read_on steps) task
+pub no_task : (dialect : Dialect) (domain problem steps : List ℕ) → too_large_for_replay domain problem steps ≡ None → task_in dialect domain problem ≡ None → replay_answer_in dialect domain problem steps ≡ None
+no_task dialect domain problem steps none task = within_limits dialect domain problem steps none ∙ ap (read_on steps) task
 
 -- beside a task the answer is by the steps
-pub of_task : (domain problem steps : List ℕ) (parts : TaskParts) → too_large_for_replay domain problem steps ≡ None → task_of domain problem ≡ Some parts
-    → replay_answer domain problem steps ≡ replay_of parts (steps_text steps)
-of_task domain problem steps parts none task = within_limits domain problem steps none ∙ ap (read_on steps) task
+pub of_task : (dialect : Dialect) (domain problem steps : List ℕ) (parts : CostedTask) → too_large_for_replay domain problem steps ≡ None → task_in dialect domain problem ≡ Some parts
+    → replay_answer_in dialect domain problem steps ≡ replay_of parts (steps_text steps)
+of_task dialect domain problem steps parts none task = within_limits dialect domain problem steps none ∙ ap (read_on steps) task
 
 -- the refusal of a replay beside a task: want of memory, or the steps have this fault
 abbrev pub RefusesSteps : List ℕ → JudgeFault → Type 0
 RefusesSteps steps fault = (fault ≡ OutOfMemory) ⊎ ((e : StepsFault) × (fault ≡ Steps e) × (steps_text steps ≡ Err e))
 
 -- steps with a fault leave no answer
-pub faulty_steps : (domain problem steps : List ℕ) (parts : TaskParts) (fault : JudgeFault) → too_large_for_replay domain problem steps ≡ None → task_of domain problem ≡ Some parts
-    → RefusesSteps steps fault → fault ≢ OutOfMemory → replay_answer domain problem steps ≡ None
-faulty_steps domain problem steps parts fault none task (inl memory) other = absurd (other memory)
-faulty_steps domain problem steps parts fault none task (inr (e, is, found)) other = of_task domain problem steps parts none task ∙ ap (replay_of parts) found
+pub faulty_steps : (dialect : Dialect) (domain problem steps : List ℕ) (parts : CostedTask) (fault : JudgeFault) → too_large_for_replay domain problem steps ≡ None → task_in dialect domain problem ≡ Some parts
+    → RefusesSteps steps fault → fault ≢ OutOfMemory → replay_answer_in dialect domain problem steps ≡ None
+faulty_steps dialect domain problem steps parts fault none task (inl memory) other = absurd (other memory)
+faulty_steps dialect domain problem steps parts fault none task (inr (e, is, found)) other = of_task dialect domain problem steps parts none task ∙ ap (replay_of parts) found

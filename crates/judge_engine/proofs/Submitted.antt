@@ -7,9 +7,9 @@ use Rattle.std.proofs.lemmas.List.{map-append, length-append, length-map}
 use Rattle.std.proofs.lemmas.List.Sums.{sum_by-append}
 use Rattle.std.proofs.lemmas.List.Elements.{All-append, All-nil, All-cons, filter-append}
 use Rattle.std.proofs.lemmas.List.FromFn.{get_or-map-range_with_len, length-map-range_with_len}
-use Rattle.strips_task.specs.declared.tasks.TaskParts.{TaskParts}
+use Rattle.plan_cost.specs.declared.costs.CostedTask.{CostedTask}
 use Rattle.intake_rules.specs.declared.finding.Finding.{Finding}
-use Rattle.intake_rules.specs.Findings.{verdict_of}
+use Rattle.intake_rules.specs.Findings.{verdict_of, counted_cost}
 use Rattle.judge_bench.specs.Findings.{findings_of, of_planner, right_finding}
 use Rattle.judge_bench.specs.Submissions.{SubmittedPlan, jobs_from}
 use Rattle.plan_text.specs.Bundle.{parts}
@@ -58,7 +58,7 @@ jobs_both number (plan ∷ plans) others =
     ap (λ l. record { number = number; planner = plan.planner; plan = plan.plan } ∷ l)
     (jobs_both (suc number) plans others ∙ ap (λ n. jobs_from (suc number) plans ++ jobs_from n others) same)
 
-module _ (task : TaskParts) where
+module _ (task : CostedTask) where
   -- what is found for a planner of the plans, of which the first has this number as a job
   abbrev found : ℕ → ℕ → List SubmittedPlan → List Finding
   found planner number plans = of_planner (map (right_finding task) (jobs_from number plans)) planner
@@ -72,7 +72,7 @@ module _ (task : TaskParts) where
 
   -- of the planner's own file
   own : (planner number : ℕ) (texts : List (List ℕ)) → map as_judged (found planner number (map (plan_of_part planner) texts)) ≡ map (judged task) texts
-  unfolding judged verdict_of
+  unfolding judged verdict_of counted_cost
   own planner number [] = refl
   own planner number (text ∷ texts) =
       ap (λ b. map as_judged (cond b (right_finding task (record { number = number; planner = planner; plan = (plan_of_part planner text).plan })

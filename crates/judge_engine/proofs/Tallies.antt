@@ -6,24 +6,24 @@ use Rattle.std.specs.Option.{option_map}
 use Rattle.std.specs.List.{cons_option}
 use Rattle.strips_task.specs.declared.tasks.TaskParts.{TaskParts}
 use Rattle.judge_engine.specs.declared.planner.Tally.{Tally}
-use Rattle.judge_engine.specs.Report.{Judged, plan_line, plan_lines, valid_steps, least, steps_if_valid}
-use Rattle.judge_engine.specs.Tally.{better, one_if_valid, tally_with, tally_of, both}
+use Rattle.judge_engine.specs.Report.{Judged, plan_line, plan_lines, valid_costs, valid_steps, least, cost_if_valid, defined_cost, steps_if_valid}
+use Rattle.judge_engine.specs.Tally.{lesser, one_if_valid, tally_with, tally_of, both}
 
 min-assoc : (a b c : ℕ) → min (min a b) c ≡ min a (min b c)
 min-assoc a b c = omega arith
 
-better-assoc : (a b c : Option ℕ) → better (better a b) c ≡ better a (better b c)
-better-assoc None b c = refl
-better-assoc (Some a) None c = refl
-better-assoc (Some a) (Some b) None = refl
-better-assoc (Some a) (Some b) (Some c) = ap Some (min-assoc a b c)
+lesser-assoc : (a b c : Option ℕ) → lesser (lesser a b) c ≡ lesser a (lesser b c)
+lesser-assoc None b c = refl
+lesser-assoc (Some a) None c = refl
+lesser-assoc (Some a) (Some b) None = refl
+lesser-assoc (Some a) (Some b) (Some c) = ap Some (min-assoc a b c)
 
 -- the least of one number more
-least_more : (steps : Option ℕ) (rest : List ℕ) → least (cons_option steps rest) ≡ better steps (least rest)
+least_more : (steps : Option ℕ) (rest : List ℕ) → least (cons_option steps rest) ≡ lesser steps (least rest)
 least_more None rest = refl
 least_more (Some n) rest = by (least rest)
   where
-    by : (o : Option ℕ) → ◌≡◌ {A = Option ℕ} (Some (unwrap_or (option_map (min n) o) n)) (better (Some n) o)
+    by : (o : Option ℕ) → ◌≡◌ {A = Option ℕ} (Some (unwrap_or (option_map (min n) o) n)) (lesser (Some n) o)
     by None = refl
     by (Some m) = refl
 
@@ -32,35 +32,44 @@ count_more : (steps : Option ℕ) (rest : List ℕ) → length (cons_option step
 count_more None rest = omega arith
 count_more (Some n) rest = omega arith
 
+-- the least of these numbers and of one more
+least_with : (so_far number : Option ℕ) (rest : List ℕ) → lesser (lesser so_far number) (least rest) ≡ lesser so_far (least (cons_option number rest))
+least_with so_far number rest = lesser-assoc so_far number (least rest) ∙ ap (lesser so_far) (sym (least_more number rest))
+
 -- one plan is counted, and then the rest
-pub counted : (tally : Tally) (plan : Judged) (rest : List Judged)
-    → both (tally_with tally (steps_if_valid plan.verdict)) (tally_of rest) ≡ both tally (tally_of (plan ∷ rest))
+pub counted : (tally : Tally) (plan : Judged) (rest : List Judged) → both (tally_with tally plan) (tally_of rest) ≡ both tally (tally_of (plan ∷ rest))
 counted tally plan rest =
     let steps = steps_if_valid plan.verdict in
     let plans : (tally.plans + 1) + length rest ≡ tally.plans + suc (length rest) = omega arith in
     let valid : (tally.valid + one_if_valid steps) + length (valid_steps rest) ≡ tally.valid + length (cons_option steps (valid_steps rest)) =
     omega (arith, count_more steps (valid_steps rest)) in
-    let best : better (better tally.best steps) (least (valid_steps rest)) ≡ better tally.best (least (cons_option steps (valid_steps rest))) =
-    better-assoc tally.best steps (least (valid_steps rest)) ∙ ap (better tally.best) (sym (least_more steps (valid_steps rest))) in
-    (λ j. record { plans = plans j; valid = valid j; best = best j })
+    let best = least_with tally.best steps (valid_steps rest) in
+    let cost = least_with tally.cost (defined_cost (cost_if_valid plan.verdict plan.cost)) (valid_costs rest) in
+    (λ j. record { plans = plans j; valid = valid j; best = best j; cost = cost j })
 
 -- nothing was counted yet
-pub none_counted : (tally : Tally) → tally.plans ≡ 0 → tally.valid ≡ 0 → tally.best ≡ None → (plans : List Judged) → both tally (tally_of plans) ≡ tally_of plans
-none_counted tally p v b plans =
+pub none_counted : (tally : Tally) → tally.plans ≡ 0 → tally.valid ≡ 0 → tally.best ≡ None → tally.cost ≡ None
+    → (plans : List Judged) → both tally (tally_of plans) ≡ tally_of plans
+none_counted tally p v b c plans =
     let count : tally.plans + length plans ≡ length plans = omega arith in
     let valid : tally.valid + length (valid_steps plans) ≡ length (valid_steps plans) = omega arith in
-    (λ j. record { plans = count j; valid = valid j; best = ap (λ o. better o (least (valid_steps plans))) b j })
+    (λ j. record {
+      plans = count j;
+      valid = valid j;
+      best = ap (λ o. lesser o (least (valid_steps plans))) b j;
+      cost = ap (λ o. lesser o (least (valid_costs plans))) c j;
+    })
 
 -- and all was
-better_none : (o : Option ℕ) → better o None ≡ o
-better_none None = refl
-better_none (Some n) = refl
+lesser_none : (o : Option ℕ) → lesser o None ≡ o
+lesser_none None = refl
+lesser_none (Some n) = refl
 
 pub all_counted : (tally : Tally) → both tally (tally_of []) ≡ tally
 all_counted tally =
     let count : tally.plans + 0 ≡ tally.plans = omega arith in
     let valid : tally.valid + 0 ≡ tally.valid = omega arith in
-    (λ j. record { plans = count j; valid = valid j; best = better_none tally.best j })
+    (λ j. record { plans = count j; valid = valid j; best = lesser_none tally.best j; cost = lesser_none tally.cost j })
 
 -- the line of one plan, and then the lines of the rest
 pub told : (task : TaskParts) (name text : List ℕ) (number : ℕ) (plan : Judged) (rest : List Judged)

@@ -3,11 +3,13 @@
 use Rattle.std.specs.Prelude.{ℕ, Bool, List, ◌∷◌, length, map, nat_lt, nat_le, ◌&&◌, Option, None, is_none, if◌then◌else◌}
 use Rattle.std.specs.List.{position_from, sum_by}
 use Rattle.std.specs.Option.{option_map, option_and_then}
-use Rattle.strips_task.specs.declared.tasks.TaskParts.{TaskParts}
-use Rattle.strips_judge.specs.Verdict.{verdict}
+use Rattle.plan_cost.specs.declared.costs.CostedTask.{CostedTask}
+use Rattle.plan_cost.specs.Assessments.{assessment}
 use Rattle.plan_text.specs.Bundle.{parts}
 use Rattle.plan_text.specs.PlanReading.{plan_of}
-use Rattle.pddl_reader.specs.Texts.{domain_of_text, problem_of_text}
+use Rattle.pddl_syntax.specs.declared.dialect.Dialect.{Dialect}
+use Rattle.pddl_syntax.specs.declared.dialect.Dialect.TheVariants.{Strips}
+use Rattle.pddl_reader.specs.Texts.{domain_in_text, problem_in_text}
 use Rattle.judge_engine.specs.declared.inlet.TheConstants.{FILE_LIMIT}
 use Rattle.judge_engine.specs.Bundle.{BundleValue}
 use Rattle.judge_engine.specs.Report.{Judged, Planner, report}
@@ -19,12 +21,16 @@ most_planners = 64
 abbrev pub most_plans : ℕ
 most_plans = 65536
 
--- the plan of a text with its verdict
-unfoldable pub judged : TaskParts → List ℕ → Judged
-judged task text = record { plan = plan_of text; verdict = verdict task (plan_of text) }
+-- the plan of a text with its verdict and its cost
+unfoldable pub judged : CostedTask → List ℕ → Judged
+judged task text = record {
+  plan = plan_of text;
+  verdict = (assessment task (plan_of text)).verdict;
+  cost = (assessment task (plan_of text)).cost;
+}
 
--- a planner with its plans and their verdicts
-unfoldable pub planner_of : TaskParts → BundleValue → Planner
+-- a planner with its plans, their verdicts and their costs
+unfoldable pub planner_of : CostedTask → BundleValue → Planner
 planner_of task bundle = record { name = bundle.name; plans = map (judged task) (parts bundle.bytes) }
 
 -- whether a text is over the limit of a file
@@ -45,13 +51,17 @@ is_within_limits domain problem bundles =
     is_none (too_large domain problem bundles)
     && (nat_le (length bundles) most_planners && nat_le (plan_count bundles) most_plans)
 
--- the task that a domain text and a problem text stand for
-unfoldable pub task_of : List ℕ → List ℕ → Option TaskParts
-task_of domain problem = option_and_then (λ value. problem_of_text value problem) (domain_of_text domain)
+-- the task that a domain text and a problem text stand for in a dialect
+unfoldable pub task_in : Dialect → List ℕ → List ℕ → Option CostedTask
+task_in dialect domain problem = option_and_then (λ value. problem_in_text dialect value problem) (domain_in_text dialect domain)
 
--- the report of a run, where it is within its limits and the domain and the problem stand for a task
-unfoldable pub answer : List ℕ → List ℕ → List BundleValue → Option (List ℕ)
-answer domain problem bundles =
+-- the report of a run, if it is within its limits and the domain and the problem stand for a task in the dialect
+unfoldable pub answer_in : Dialect → List ℕ → List ℕ → List BundleValue → Option (List ℕ)
+answer_in dialect domain problem bundles =
     (if is_within_limits domain problem bundles
-    then option_map (λ task. report task (map (planner_of task) bundles)) (task_of domain problem)
+    then option_map (λ task. report task (map (planner_of task) bundles)) (task_in dialect domain problem)
     else None)
+
+-- the report of a run in the default dialect
+abbrev pub answer : List ℕ → List ℕ → List BundleValue → Option (List ℕ)
+answer domain problem bundles = answer_in Strips domain problem bundles

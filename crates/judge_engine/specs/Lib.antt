@@ -1,5 +1,7 @@
 pub mod Answer
 pub mod Bundle
+pub mod Command
+pub mod CostText
 pub mod Inlet
 pub mod Outlet
 pub mod Plans

@@ -21,6 +21,6 @@ abbrev pub plans_of_files : ℕ → List BundleValue → List SubmittedPlan
 plans_of_files planner [] = []
 plans_of_files planner (bundle ∷ bundles) = plans_of_file planner bundle ++ plans_of_files (suc planner) bundles
 
--- a finding as a plan with its verdict
+-- a finding as a plan with its verdict and its cost
 abbrev pub as_judged : Finding → Judged
-as_judged finding = record { plan = finding.job.plan; verdict = finding.verdict }
+as_judged finding = record { plan = finding.job.plan; verdict = finding.verdict; cost = finding.cost }

@@ -6,12 +6,14 @@ use Rattle.judge_bench.specs.declared.running.RunFault.TheVariants as run
 use Rattle.pddl_syntax.specs.declared.fault.FaultKind.TheVariants.{OutOfMemory as Memory}
 use Rattle.pddl_syntax.specs.declared.fault.ReadFault.{ReadFault}
 use Rattle.pddl_reader.specs.Domain.{DomainValue}
-use Rattle.pddl_reader.specs.Texts.{domain_of_text, problem_of_text}
+use Rattle.pddl_syntax.specs.declared.dialect.Dialect.{Dialect}
+use Rattle.pddl_syntax.specs.declared.dialect.Dialect.TheVariants.{Strips}
+use Rattle.pddl_reader.specs.Texts.{domain_in_text, problem_in_text}
 use Rattle.pddl_syntax.specs.Trees.{text_fault}
-use Rattle.strips_task.specs.declared.tasks.TaskParts.{TaskParts}
+use Rattle.plan_cost.specs.declared.costs.CostedTask.{CostedTask}
 use Rattle.judge_engine.specs.declared.fault.JudgeFault.{JudgeFault}
 use Rattle.judge_engine.specs.declared.fault.JudgeFault.TheVariants.{TooLarge, TooManyPlanners, Domain, Problem, TooManyPlans, Steps, OutOfMemory, NoThread, Held}
-use Rattle.judge_engine.specs.Answer.{too_large, task_of, plan_count, most_planners, most_plans}
+use Rattle.judge_engine.specs.Answer.{too_large, task_in, plan_count, most_planners, most_plans}
 use Rattle.judge_engine.specs.Bundle.{BundleValue}
 
 -- the fault lies in the texts, and not in the run over them
@@ -38,31 +40,35 @@ pub record IsFaultOf {A : Type 0} (text : List ℕ) (value : Option A) (fault : 
   pub of_the_text : fault.kind ≢ Memory
   pub first : (e : ReadFault) → text_fault text ≡ Some e → fault ≡ e
 
--- the refusal that a domain text and a problem text call for: the domain's comes first, and the problem is looked at beside a domain
-abbrev pub ReadingCallsFor : List ℕ → List ℕ → JudgeFault → Type 0
-ReadingCallsFor domain problem (Domain fault) = IsFaultOf domain (domain_of_text domain) fault
-ReadingCallsFor domain problem (Problem fault) =
-    (value : DomainValue) × (domain_of_text domain ≡ Some value) × IsFaultOf problem (problem_of_text value problem) fault
-ReadingCallsFor domain problem (TooLarge place) = ⊥
-ReadingCallsFor domain problem TooManyPlanners = ⊥
-ReadingCallsFor domain problem TooManyPlans = ⊥
-ReadingCallsFor domain problem (Steps fault) = ⊥
-ReadingCallsFor domain problem OutOfMemory = ⊥
-ReadingCallsFor domain problem NoThread = ⊥
-ReadingCallsFor domain problem (Held job) = ⊥
+-- the refusal that a domain text and a problem text call for in a dialect: the domain's comes first, and the problem is looked at beside a domain
+abbrev pub ReadingCallsFor : Dialect → List ℕ → List ℕ → JudgeFault → Type 0
+ReadingCallsFor dialect domain problem (Domain fault) = IsFaultOf domain (domain_in_text dialect domain) fault
+ReadingCallsFor dialect domain problem (Problem fault) =
+    (value : DomainValue) × (domain_in_text dialect domain ≡ Some value) × IsFaultOf problem (problem_in_text dialect value problem) fault
+ReadingCallsFor dialect domain problem (TooLarge place) = ⊥
+ReadingCallsFor dialect domain problem TooManyPlanners = ⊥
+ReadingCallsFor dialect domain problem TooManyPlans = ⊥
+ReadingCallsFor dialect domain problem (Steps fault) = ⊥
+ReadingCallsFor dialect domain problem OutOfMemory = ⊥
+ReadingCallsFor dialect domain problem NoThread = ⊥
+ReadingCallsFor dialect domain problem (Held job) = ⊥
 
--- the refusal that the texts of a run call for, the first of: a text that is too large, too many planners, what is wrong in the domain or
--- the problem, too many plans
+-- the refusal that the texts of a run call for in a dialect, the first of: a text that is too large, too many planners, what is wrong in
+-- the domain or the problem, too many plans
+abbrev pub TextsCallForIn : Dialect → List ℕ → List ℕ → List BundleValue → JudgeFault → Type 0
+TextsCallForIn dialect domain problem bundles (TooLarge place) = too_large domain problem bundles ≡ Some place
+TextsCallForIn dialect domain problem bundles TooManyPlanners = (too_large domain problem bundles ≡ None) × (most_planners < length bundles)
+TextsCallForIn dialect domain problem bundles (Domain fault) =
+    (too_large domain problem bundles ≡ None) × (length bundles ≤ most_planners) × ReadingCallsFor dialect domain problem (Domain fault)
+TextsCallForIn dialect domain problem bundles (Problem fault) =
+    (too_large domain problem bundles ≡ None) × (length bundles ≤ most_planners) × ReadingCallsFor dialect domain problem (Problem fault)
+TextsCallForIn dialect domain problem bundles TooManyPlans =
+    (too_large domain problem bundles ≡ None) × (length bundles ≤ most_planners) × ((task : CostedTask) × (task_in dialect domain problem ≡ Some task)) × (most_plans < plan_count bundles)
+TextsCallForIn dialect domain problem bundles (Steps fault) = ⊥
+TextsCallForIn dialect domain problem bundles OutOfMemory = ⊥
+TextsCallForIn dialect domain problem bundles NoThread = ⊥
+TextsCallForIn dialect domain problem bundles (Held job) = ⊥
+
+-- the refusal that they call for in the default dialect
 abbrev pub TextsCallFor : List ℕ → List ℕ → List BundleValue → JudgeFault → Type 0
-TextsCallFor domain problem bundles (TooLarge place) = too_large domain problem bundles ≡ Some place
-TextsCallFor domain problem bundles TooManyPlanners = (too_large domain problem bundles ≡ None) × (most_planners < length bundles)
-TextsCallFor domain problem bundles (Domain fault) =
-    (too_large domain problem bundles ≡ None) × (length bundles ≤ most_planners) × ReadingCallsFor domain problem (Domain fault)
-TextsCallFor domain problem bundles (Problem fault) =
-    (too_large domain problem bundles ≡ None) × (length bundles ≤ most_planners) × ReadingCallsFor domain problem (Problem fault)
-TextsCallFor domain problem bundles TooManyPlans =
-    (too_large domain problem bundles ≡ None) × (length bundles ≤ most_planners) × ((task : TaskParts) × (task_of domain problem ≡ Some task)) × (most_plans < plan_count bundles)
-TextsCallFor domain problem bundles (Steps fault) = ⊥
-TextsCallFor domain problem bundles OutOfMemory = ⊥
-TextsCallFor domain problem bundles NoThread = ⊥
-TextsCallFor domain problem bundles (Held job) = ⊥
+TextsCallFor domain problem bundles fault = TextsCallForIn Strips domain problem bundles fault

@@ -3,7 +3,9 @@
 use Rattle.std.specs.Prelude.{◌≡◌, ℕ, List, [], ◌∷◌, Option, Some, None, Result, Ok, Err, is_none, slice_get, if◌then◌else◌, option_map}
 use Rattle.std.specs.List.{position_from}
 use Rattle.std.specs.Option.{option_and_then}
-use Rattle.strips_task.specs.declared.tasks.TaskParts.{TaskParts}
+use Rattle.plan_cost.specs.declared.costs.CostedTask.{CostedTask}
+use Rattle.pddl_syntax.specs.declared.dialect.Dialect.{Dialect}
+use Rattle.pddl_syntax.specs.declared.dialect.Dialect.TheVariants.{Strips}
 use Rattle.intake_rules.specs.declared.reply.Reply.{Reply}
 use Rattle.intake_rules.specs.History.{History}
 use Rattle.intake_rules.specs.Intake.{empty_intake}
@@ -15,7 +17,7 @@ use Rattle.steps_text.specs.Asked.{Asked, to_submit, to_close, to_take, to_hand_
 use Rattle.steps_text.specs.StepsTexts.{StepsValue, steps_text}
 use Rattle.judge_engine.specs.declared.fault.JudgeFault.{JudgeFault}
 use Rattle.judge_engine.specs.declared.fault.JudgeFault.TheVariants.{TooLarge, TooManyPlanners, Domain, Problem, TooManyPlans, Steps, OutOfMemory, NoThread, Held}
-use Rattle.judge_engine.specs.Answer.{is_over_limit, task_of}
+use Rattle.judge_engine.specs.Answer.{is_over_limit, task_in}
 use Rattle.judge_engine.specs.Refusal.{ReadingCallsFor}
 use Rattle.judge_engine.specs.ReplayText.{reply_lines}
 
@@ -36,39 +38,49 @@ history_asked desk (step ∷ steps) =
     ∷ history_asked (desk_after desk (event_asked desk step) (desk_reply desk (event_asked desk step))) steps
 
 -- a new desk for a task
-abbrev pub new_desk : TaskParts → ℕ → ℕ → DeskState
+abbrev pub new_desk : CostedTask → ℕ → ℕ → DeskState
 new_desk task planners places = record { task = task; places = places; intake = empty_intake planners }
 
 -- what a new desk answers to the steps of a steps file
-abbrev pub replies_to : TaskParts → StepsValue → List Reply
+abbrev pub replies_to : CostedTask → StepsValue → List Reply
 replies_to task value = replies_of (history_asked (new_desk task value.planners value.places) value.steps)
 
 -- the lines of a replay, where the steps file has a value
-abbrev pub replay_of : TaskParts → Result StepsValue StepsFault → Option (List ℕ)
-replay_of task (Ok value) = Some (reply_lines task (replies_to task value))
+abbrev pub replay_of : CostedTask → Result StepsValue StepsFault → Option (List ℕ)
+replay_of task (Ok value) = Some (reply_lines task.task (replies_to task value))
 replay_of task (Err fault) = None
 
 -- the place of the first text that is over the limit of a file: the domain, the problem, then the steps
 unfoldable pub too_large_for_replay : List ℕ → List ℕ → List ℕ → Option ℕ
 too_large_for_replay domain problem steps = position_from is_over_limit 0 (domain ∷ problem ∷ steps ∷ [])
 
--- the lines of a replay, where no text is too large, the domain and the problem stand for a task, and the steps file has no fault
-unfoldable pub replay_answer : List ℕ → List ℕ → List ℕ → Option (List ℕ)
-replay_answer domain problem steps =
+-- the lines of a replay, if no text is too large, the domain and the problem stand for a task in the dialect, and the steps file has no fault
+unfoldable pub replay_answer_in : Dialect → List ℕ → List ℕ → List ℕ → Option (List ℕ)
+replay_answer_in dialect domain problem steps =
     (if is_none (too_large_for_replay domain problem steps)
-    then option_and_then (λ task. replay_of task (steps_text steps)) (task_of domain problem)
+    then option_and_then (λ task. replay_of task (steps_text steps)) (task_in dialect domain problem)
     else None)
 
--- the refusal that the texts of a replay call for, the first of: a text that is too large, what is wrong in the domain or the problem, the
--- first fault of the steps
+-- the lines of a replay in the default dialect
+abbrev pub replay_answer : List ℕ → List ℕ → List ℕ → Option (List ℕ)
+replay_answer domain problem steps = replay_answer_in Strips domain problem steps
+
+-- the refusal that the texts of a replay call for in a dialect, the first of: a text that is too large, what is wrong in the domain or the
+-- problem, the first fault of the steps
+abbrev pub ReplayCallsForIn : Dialect → List ℕ → List ℕ → List ℕ → JudgeFault → Type 0
+ReplayCallsForIn dialect domain problem steps (TooLarge place) = too_large_for_replay domain problem steps ≡ Some place
+ReplayCallsForIn dialect domain problem steps (Domain fault) =
+    (too_large_for_replay domain problem steps ≡ None) × ReadingCallsFor dialect domain problem (Domain fault)
+ReplayCallsForIn dialect domain problem steps (Problem fault) =
+    (too_large_for_replay domain problem steps ≡ None) × ReadingCallsFor dialect domain problem (Problem fault)
+ReplayCallsForIn dialect domain problem steps (Steps fault) =
+    (too_large_for_replay domain problem steps ≡ None) × ((task : CostedTask) × (task_in dialect domain problem ≡ Some task)) × (steps_text steps ≡ Err fault)
+ReplayCallsForIn dialect domain problem steps TooManyPlanners = ⊥
+ReplayCallsForIn dialect domain problem steps TooManyPlans = ⊥
+ReplayCallsForIn dialect domain problem steps OutOfMemory = ⊥
+ReplayCallsForIn dialect domain problem steps NoThread = ⊥
+ReplayCallsForIn dialect domain problem steps (Held job) = ⊥
+
+-- the refusal that they call for in the default dialect
 abbrev pub ReplayCallsFor : List ℕ → List ℕ → List ℕ → JudgeFault → Type 0
-ReplayCallsFor domain problem steps (TooLarge place) = too_large_for_replay domain problem steps ≡ Some place
-ReplayCallsFor domain problem steps (Domain fault) = (too_large_for_replay domain problem steps ≡ None) × ReadingCallsFor domain problem (Domain fault)
-ReplayCallsFor domain problem steps (Problem fault) = (too_large_for_replay domain problem steps ≡ None) × ReadingCallsFor domain problem (Problem fault)
-ReplayCallsFor domain problem steps (Steps fault) =
-    (too_large_for_replay domain problem steps ≡ None) × ((task : TaskParts) × (task_of domain problem ≡ Some task)) × (steps_text steps ≡ Err fault)
-ReplayCallsFor domain problem steps TooManyPlanners = ⊥
-ReplayCallsFor domain problem steps TooManyPlans = ⊥
-ReplayCallsFor domain problem steps OutOfMemory = ⊥
-ReplayCallsFor domain problem steps NoThread = ⊥
-ReplayCallsFor domain problem steps (Held job) = ⊥
+ReplayCallsFor domain problem steps fault = ReplayCallsForIn Strips domain problem steps fault

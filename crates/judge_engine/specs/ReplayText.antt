@@ -8,14 +8,15 @@ use Rattle.intake_rules.specs.declared.refusal.Refusal.TheVariants.{NotReady}
 use Rattle.intake_rules.specs.declared.reply.Reply.{Reply}
 use Rattle.intake_rules.specs.declared.reply.Reply.TheVariants.{Accepted, ClosedNow, Taken, NoJob, Returned, Finished, Emitted, Refused}
 use Rattle.intake_rules.specs.Refusals.{refusal_word}
-use Rattle.judge_engine.specs.Report.{verdict_text}
+use Rattle.judge_engine.specs.Plans.{as_judged}
+use Rattle.judge_engine.specs.Report.{judged_text}
 
 -- what stands behind the word of a refusal: the number of the job that is not ready
 abbrev pub refusal_number : Refusal → List ℕ
 refusal_number (NotReady job) = codes " " ++ decimal job
 refusal_number _ = []
 
--- what is answered; an emitted finding is told by its job and its verdict
+-- what is answered; of an emitted finding, the number of its job, its verdict, and its cost as in a report
 abbrev pub reply_text : TaskParts → Reply → List ℕ
 reply_text task (Accepted job) = codes "accepted " ++ decimal job
 reply_text task ClosedNow = codes "closed"
@@ -23,7 +24,7 @@ reply_text task (Taken job) = codes "took " ++ decimal job
 reply_text task NoJob = codes "none"
 reply_text task Returned = codes "returned"
 reply_text task Finished = codes "finished"
-reply_text task (Emitted finding) = codes "emitted " ++ decimal finding.job.number ++ codes " " ++ verdict_text task finding.job.plan finding.verdict
+reply_text task (Emitted finding) = codes "emitted " ++ decimal finding.job.number ++ codes " " ++ judged_text task (as_judged finding)
 reply_text task (Refused why) = codes "refused " ++ refusal_word why ++ refusal_number why
 
 -- the line of an answer

@@ -1,4 +1,4 @@
--- The report of a run: the text that stands for a task, the planners, their plans and the verdicts (this validator's choice).
+-- The report of a run: the text that stands for a task, the planners, their plans, the verdicts and the costs (this validator's choice).
 
 use Rattle.std.specs.Prelude.{ℕ, ◌-◌, List, [], ◌∷◌, ◌++◌, Option, None, Some, codes, decimal, map, length, slice_get, unwrap_or, if◌then◌else◌, min}
 use Rattle.std.specs.List.{flat_map, filter_map, enumerate_from}
@@ -16,6 +16,12 @@ use Rattle.strips_judge.specs.declared.verdict.Verdict.{Verdict}
 use Rattle.strips_judge.specs.declared.verdict.Verdict.TheVariants.{Valid, Fails, Goal, Unreadable as Unread}
 use Rattle.strips_judge.specs.declared.verdict.Why.{Why}
 use Rattle.strips_judge.specs.declared.verdict.Why.TheVariants.{UnknownAction, WrongCount, UnknownObject, WrongType, Missing}
+use Rattle.plan_cost.specs.declared.costs.Cost.{Cost}
+use Rattle.plan_cost.specs.declared.costs.Cost.TheVariants.{NotCounted, Undefined, Billionths}
+use Rattle.plan_cost.specs.declared.costs.CostedTask.{CostedTask}
+use Rattle.plan_cost.specs.declared.costs.Costs.{Costs}
+use Rattle.plan_cost.specs.Costs.{cost_answer}
+use Rattle.judge_engine.specs.CostText.{cost_text}
 
 -- words, each behind a space
 abbrev pub spaced : List (List ℕ) → List ℕ
@@ -75,15 +81,26 @@ verdict_text task plan (Fails number why) =
 verdict_text task plan (Goal conds) = codes "goal missing" ++ conditions_text task conds
 verdict_text task plan (Unread line) = codes "unreadable line " ++ decimal line
 
--- a plan with its verdict
+-- a plan with its verdict and its cost
 pub record Judged : Type 0 where
   pub plan : Plan
   pub verdict : Verdict
+  pub cost : Cost
+
+-- the cost that is reported beside a verdict: only that of a valid plan
+abbrev pub cost_if_valid : Verdict → Cost → Cost
+cost_if_valid (Valid steps) cost = cost
+cost_if_valid (Fails number why) cost = NotCounted
+cost_if_valid (Goal conds) cost = NotCounted
+cost_if_valid (Unread line) cost = NotCounted
+
+-- what is found about a plan: its verdict, and its cost if it is valid and costs are counted
+abbrev pub judged_text : TaskParts → Judged → List ℕ
+judged_text task judged = verdict_text task judged.plan judged.verdict ++ cost_text (cost_if_valid judged.verdict judged.cost)
 
 -- the line of a planner's plan; plans count from 1
 abbrev pub plan_line : TaskParts → List ℕ → ℕ → Judged → List ℕ
-plan_line task name number judged =
-    name ++ codes " " ++ decimal number ++ codes " " ++ verdict_text task judged.plan judged.verdict ++ codes "\n"
+plan_line task name number judged = name ++ codes " " ++ decimal number ++ codes " " ++ judged_text task judged ++ codes "\n"
 
 -- the number of steps, where the verdict is that the plan is valid
 abbrev pub steps_if_valid : Verdict → Option ℕ
@@ -96,6 +113,16 @@ steps_if_valid (Unread line) = None
 abbrev pub valid_steps : List Judged → List ℕ
 valid_steps plans = filter_map (λ judged. steps_if_valid judged.verdict) plans
 
+-- a cost as a number of billionths, if it is defined
+abbrev pub defined_cost : Cost → Option ℕ
+defined_cost NotCounted = None
+defined_cost Undefined = None
+defined_cost (Billionths billionths) = Some billionths
+
+-- the defined costs of the valid plans
+abbrev pub valid_costs : List Judged → List ℕ
+valid_costs plans = filter_map (λ judged. defined_cost (cost_if_valid judged.verdict judged.cost)) plans
+
 -- the least number of a list, if there is one
 abbrev pub least : List ℕ → Option ℕ
 least [] = None
@@ -106,16 +133,22 @@ abbrev pub best_text : Option ℕ → List ℕ
 best_text None = codes "-"
 best_text (Some steps) = decimal steps
 
--- a planner's last line, of these numbers of plans and of valid plans, and the least number of steps of a valid one
-abbrev pub summary_text : List ℕ → ℕ → ℕ → Option ℕ → List ℕ
-summary_text name plans valid best =
-    name ++ codes " plans " ++ decimal plans ++ codes " valid " ++ decimal valid ++ codes " best " ++ best_text best ++ codes "\n"
+-- the least defined cost of a valid plan: undefined if there is none, and not counted if the task counts no costs
+abbrev pub least_cost : Option Costs → Option ℕ → Cost
+least_cost None cost = NotCounted
+least_cost (Some costs) cost = cost_answer cost
+
+-- a planner's last line, of these numbers of plans and of valid plans, the least number of steps of a valid one, and the least cost of one
+abbrev pub summary_text : List ℕ → ℕ → ℕ → Option ℕ → Cost → List ℕ
+summary_text name plans valid best cost =
+    name ++ codes " plans " ++ decimal plans ++ codes " valid " ++ decimal valid ++ codes " best " ++ best_text best ++ cost_text cost ++ codes "\n"
 
 -- the last line of a planner with these plans
-abbrev pub summary_line : List ℕ → List Judged → List ℕ
-summary_line name plans = summary_text name (length plans) (length (valid_steps plans)) (least (valid_steps plans))
+abbrev pub summary_line : Option Costs → List ℕ → List Judged → List ℕ
+summary_line costs name plans =
+    summary_text name (length plans) (length (valid_steps plans)) (least (valid_steps plans)) (least_cost costs (least (valid_costs plans)))
 
--- a planner's name with its plans and verdicts
+-- a planner's name with its plans, their verdicts and their costs
 pub record Planner : Type 0 where
   pub name : List ℕ
   pub plans : List Judged
@@ -125,13 +158,13 @@ abbrev pub plan_lines : TaskParts → List ℕ → ℕ → List Judged → List 
 plan_lines task name number plans = flat_map (λ e. plan_line task name e.0 e.1) (enumerate_from number plans)
 
 -- the lines of a planner
-abbrev pub planner_lines : TaskParts → Planner → List ℕ
-planner_lines task planner = plan_lines task planner.name 1 planner.plans ++ summary_line planner.name planner.plans
+abbrev pub planner_lines : CostedTask → Planner → List ℕ
+planner_lines task planner = plan_lines task.task planner.name 1 planner.plans ++ summary_line task.costs planner.name planner.plans
 
 -- the first line
 abbrev pub header_line : TaskParts → List ℕ
 header_line task = codes "domain " ++ task.domain ++ codes " problem " ++ task.problem ++ codes "\n"
 
 -- the report
-abbrev pub report : TaskParts → List Planner → List ℕ
-report task planners = header_line task ++ flat_map (planner_lines task) planners
+abbrev pub report : CostedTask → List Planner → List ℕ
+report task planners = header_line task.task ++ flat_map (planner_lines task) planners

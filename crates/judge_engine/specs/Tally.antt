@@ -2,27 +2,36 @@
 
 use Rattle.std.specs.Prelude.{ℕ, ◌+◌, List, length, min, Option, None, Some}
 use Rattle.judge_engine.specs.declared.planner.Tally.{Tally}
-use Rattle.judge_engine.specs.Report.{Judged, valid_steps, least}
+use Rattle.judge_engine.specs.Report.{Judged, cost_if_valid, defined_cost, steps_if_valid, valid_costs, valid_steps, least}
 
--- the lesser of two numbers of steps, as far as there are any
-abbrev pub better : Option ℕ → Option ℕ → Option ℕ
-better None other = other
-better (Some steps) None = Some steps
-better (Some steps) (Some others) = Some (min steps others)
+-- the lesser of two numbers, as far as there are any
+abbrev pub lesser : Option ℕ → Option ℕ → Option ℕ
+lesser None other = other
+lesser (Some number) None = Some number
+lesser (Some number) (Some other) = Some (min number other)
 
 -- one where there are steps
 abbrev pub one_if_valid : Option ℕ → ℕ
 one_if_valid None = 0
 one_if_valid (Some steps) = 1
 
--- one plan more, of so many steps where it is valid
-abbrev pub tally_with : Tally → Option ℕ → Tally
-tally_with tally steps = record { plans = tally.plans + 1; valid = tally.valid + one_if_valid steps; best = better tally.best steps }
+-- one plan more, with this number of steps if it is valid, and with this cost if that is defined
+abbrev pub tally_over : Tally → Option ℕ → Option ℕ → Tally
+tally_over tally steps cost = record {
+  plans = tally.plans + 1;
+  valid = tally.valid + one_if_valid steps;
+  best = lesser tally.best steps;
+  cost = lesser tally.cost cost;
+}
+
+-- this plan more
+abbrev pub tally_with : Tally → Judged → Tally
+tally_with tally judged = tally_over tally (steps_if_valid judged.verdict) (defined_cost (cost_if_valid judged.verdict judged.cost))
 
 -- what is told of these plans
 abbrev pub tally_of : List Judged → Tally
-tally_of plans = record { plans = length plans; valid = length (valid_steps plans); best = least (valid_steps plans) }
+tally_of plans = record { plans = length plans; valid = length (valid_steps plans); best = least (valid_steps plans); cost = least (valid_costs plans) }
 
 -- both together
 abbrev pub both : Tally → Tally → Tally
-both a b = record { plans = a.plans + b.plans; valid = a.valid + b.valid; best = better a.best b.best }
+both a b = record { plans = a.plans + b.plans; valid = a.valid + b.valid; best = lesser a.best b.best; cost = lesser a.cost b.cost }

@@ -2,14 +2,19 @@
 //!
 //! [`parse`] turns the words of the command line into a [`Request`]. The words are read by `clap`, whose texts carry no promise here.
 
-ghost use Rattle.std.specs.Prelude.{◌≤◌};
+ghost use Rattle.std.specs.Prelude.{◌≡◌, ◌≤◌};
+ghost use Rattle.judge_engine.specs.Command.{dialect_named};
 
 use clap::error::ErrorKind;
 use clap::{Arg, ArgAction, Command, Error, value_parser};
+use pddl_reader::Dialect;
 use std::alloc::{AllocError, Global};
 
 /// The most threads that may judge.
 const MOST_WORKERS: u32 = 32;
+
+/// The names of the dialects.
+const DIALECTS: [&str; 2] = ["strips", "ipc"];
 
 const ABOUT: &str =
     "Judges the plans of classical planners: says of each whether it is valid, or which step fails first and what is missing.";
@@ -50,6 +55,12 @@ The report, on standard output:
   FILE K unreadable line L                   the text is no plan
   FILE plans N valid M best B                B is the least number of steps of a valid plan, or -
 
+With --dialect ipc a domain may also have :functions, effects that increase (total-cost), = between terms in
+preconditions and goals, and types with a second parent object; the problem gives values to functions in :init.
+Where the domain declares total-cost, two lines have a cost at their end:
+  FILE K valid N cost C                      C is the cost of plan K, as 12 or 0.5, or - if it is undefined
+  FILE plans N valid M best B cost C         C is the least cost of a valid plan, or -
+
 Exit status:
   0  the report was written, whatever the verdicts
   1  a file could not be read, is too large, or holds no domain or problem that this judge reads; or there are
@@ -80,6 +91,11 @@ The answers, on standard output, one line a step:
   accepted J, closed, took J, none, returned, finished, refused WHY
   emitted J VERDICT  the verdict of job J, as in a report
 
+With --dialect ipc a domain may also have :functions, effects that increase (total-cost), = between terms in
+preconditions and goals, and types with a second parent object; the problem gives values to functions in :init.
+Where the domain declares total-cost, the verdict of a valid plan has its cost at the end:
+  emitted 0 valid 2 cost 3.25
+
 Exit status: as for judge; 1 also where a line of the steps is faulty.
 
 Example:
@@ -109,6 +125,8 @@ pub struct JudgeRequest<'a> {
     pub problem: &'a str,
     /// The names of the files of plans, one for each planner, who has the name of the file.
     pub plans: Vec<&'a str>,
+    /// The dialect of the domain and the problem.
+    pub dialect: Dialect,
     /// How many threads may judge, 1 to 32.
     pub workers: u32,
     ghost some: { 1 ≤ workers },
@@ -124,6 +142,8 @@ pub struct ReplayRequest<'a> {
     pub problem: &'a str,
     /// The name of the file of the steps.
     pub steps: &'a str,
+    /// The dialect of the domain and the problem.
+    pub dialect: Dialect,
 }
 
 /// What the words of a command line ask for; the first is the program's name.
@@ -134,6 +154,8 @@ pub(crate) fn parse<'a>(alloc: Global, words: &'a [String]) -> Result<Request<'a
                 && let Some(domain) = judge.get_str("domain")
                 && let Some(problem) = judge.get_str("problem")
                 && let Some(plans) = judge.get_strs("plans")
+                && let Some(dialect) = judge.get_str("dialect")
+                && let Some(dialect) = dialect_named(dialect)
                 && let Some(workers) = judge.get_one::<u32>("workers")
                 && 1 <= workers
                 && workers <= MOST_WORKERS
@@ -142,6 +164,7 @@ pub(crate) fn parse<'a>(alloc: Global, words: &'a [String]) -> Result<Request<'a
                     domain,
                     problem,
                     plans: plans.to_vec(alloc)?,
+                    dialect,
                     workers,
                 }));
             }
@@ -149,17 +172,33 @@ pub(crate) fn parse<'a>(alloc: Global, words: &'a [String]) -> Result<Request<'a
                 && let Some(domain) = replay.get_str("domain")
                 && let Some(problem) = replay.get_str("problem")
                 && let Some(steps) = replay.get_str("steps")
+                && let Some(dialect) = replay.get_str("dialect")
+                && let Some(dialect) = dialect_named(dialect)
             {
                 return Ok(Request::Replay(ReplayRequest {
                     domain,
                     problem,
                     steps,
+                    dialect,
                 }));
             }
             let text = String::from_str(alloc, "a command is missing; try --help\n")?;
             Ok(Request::Refused(text))
         }
         Err(error) => refusal(alloc, error),
+    }
+}
+
+/// The dialect with a name.
+fn dialect_named(name: &str) -> Option<Dialect>
+    ensures { result ≡ dialect_named name.now }
+{
+    if name == "strips" {
+        Some(Dialect::Strips)
+    } else if name == "ipc" {
+        Some(Dialect::Ipc)
+    } else {
+        None
     }
 }
 
@@ -207,6 +246,7 @@ fn judge_command<'a>(alloc: Global) -> Result<Command<'a>, AllocError> {
         .after_help(JUDGE_AFTER_HELP)
         .arg(domain_file(alloc))?
         .arg(problem_file(alloc))?
+        .arg(dialect(alloc))?
         .arg(workers)?
         .arg(plans)
 }
@@ -224,7 +264,8 @@ fn replay_command<'a>(alloc: Global) -> Result<Command<'a>, AllocError> {
         .after_help(REPLAY_AFTER_HELP)
         .arg(domain_file(alloc))?
         .arg(problem_file(alloc))?
-        .arg(steps)
+        .arg(steps)?
+        .arg(dialect(alloc))
 }
 
 fn domain_file<'a>(alloc: Global) -> Arg<'a> {
@@ -243,4 +284,13 @@ fn problem_file<'a>(alloc: Global) -> Arg<'a> {
         .help("The problem, in PDDL")
         .required(true)
         .action(ArgAction::Set)
+}
+
+fn dialect<'a>(alloc: Global) -> Arg<'a> {
+    Arg::new(alloc, "dialect")
+        .long("dialect")
+        .value_name("DIALECT")
+        .help("The language of the domain and the problem; ipc adds action costs and equality")
+        .value_parser(DIALECTS.as_slice())
+        .default_value("strips")
 }

@@ -6,9 +6,9 @@ ghost use Rattle.std.specs.Prelude.{◌≡◌, ◌≢◌, ◌↔◌, ◌+◌, �
 ghost use Rattle.judge_bench.specs.Findings.{findings_of};
 ghost use Rattle.pddl_syntax.specs.declared.fault.ReadFault as read_fault;
 ghost use Rattle.pddl_syntax.specs.Trees.{text_fault};
-ghost use Rattle.judge_engine.specs.Answer.{answer, task_of, planner_of, too_large, plan_count, most_planners, most_plans};
+ghost use Rattle.judge_engine.specs.Answer.{answer, answer_in, task_in, planner_of, too_large, plan_count, most_planners, most_plans};
 ghost use Rattle.judge_engine.specs.Plans.{plans_of_files};
-ghost use Rattle.judge_engine.specs.Refusal.{IsOfTexts, ReadingCallsFor, TextsCallFor};
+ghost use Rattle.judge_engine.specs.Refusal.{IsOfTexts, ReadingCallsFor, TextsCallFor, TextsCallForIn};
 ghost use Rattle.judge_engine.specs.Report.{report};
 ghost use Rattle.judge_engine.specs.declared.fault.JudgeFault.TheVariants.{OutOfMemory, TooLarge, TooManyPlanners, TooManyPlans, Domain, Held};
 
@@ -21,12 +21,13 @@ use crate::plans::FilePlans;
 use crate::report::Report;
 use crate::text::Text;
 use judge_bench::{Findings, Gate, run};
-use pddl_reader::{FaultKind, ReadFault, read_domain, read_problem};
+use pddl_reader::{Dialect, FaultKind, ReadFault, read_domain_in, read_problem_in};
+use plan_cost::CostedTask;
 use plan_text::count_parts;
 use std::alloc::{AllocError, Global};
 use std::sync::Wait;
 use std::thread::Threads;
-use strips_task::{Seed, Task};
+use strips_task::Seed;
 
 /// The most planners of a run.
 pub const MOST_PLANNERS: usize = 64;
@@ -34,18 +35,8 @@ pub const MOST_PLANNERS: usize = 64;
 /// The most plans of a run, of all planners together.
 pub const MOST_PLANS: usize = 65536;
 
-/// The report of a run over a domain text, a problem text and the files of planners, whose plans so many threads judge at most.
-///
-/// A file holds one plan or more (`plan_text::Parts`). Their reading and judging never refuse: a text that is no plan is a verdict. The
-/// plans are jobs, numbered from 0 in the order of the files and of the parts of each. They are read one after another, while those that
-/// were read are judged, and the gate is asked of each before it is judged. The whole report is made before anything is written; without
-/// planners it is the first line alone. Tables of names and atoms hash with the seed; the report is the same with any. Waits until all
-/// threads are done.
-///
-/// A run without a report is refused for the first cause in the order of `JudgeFault`. The plans are counted before any is read. Which kind
-/// of fault a text has, and where, once its bytes and parentheses are right, is the reader's to say. Want of memory can come in place of any
-/// cause but those that take no memory to find: that a text is too large, too many planners, and the wrong bytes and parentheses of the
-/// domain.
+/// The report of a run over a domain text, a problem text and the files of planners, in the default dialect: [`judge_bytes_in`] with
+/// [`Dialect::Strips`].
 pub fn judge_bytes<R: Threads + Wait + Sync, G: Gate + Sync>(
     rt: &R,
     alloc: Global,
@@ -68,13 +59,63 @@ pub fn judge_bytes<R: Threads + Wait + Sync, G: Gate + Sync>(
     ensures domain_text { (e : read_fault.ReadFault) → too_large domain.now problem.now bundles.now ≡ None → length bundles.now ≤ most_planners
         → text_fault domain.now ≡ Some e → result ≡ Err (Domain e) }
 {
+    judge_bytes_in(
+        rt,
+        alloc,
+        seed,
+        Dialect::Strips,
+        domain,
+        problem,
+        bundles,
+        workers,
+        gate,
+    )
+}
+
+/// The report of a run over a domain text and a problem text, both in this dialect, and the files of planners. At most `workers` threads
+/// judge the plans.
+///
+/// A file holds one plan or more (`plan_text::Parts`). Reading and judging a plan never refuses the run: a text that is no plan is a
+/// verdict. The plans are jobs, numbered from 0 in the order of the files and of the parts of each. They are read one after another, while
+/// those that were read are judged, and the gate is asked of each before it is judged. If the domain declares `total-cost`, the cost of each
+/// valid plan is reported beside its verdict, and the least of them in the planner's last line. The whole report is made before anything
+/// is written; without planners it is the first line alone. Tables of names and atoms hash with the seed; the report is the same with any.
+/// Waits until all threads are done.
+///
+/// A run without a report is refused for the first cause in the order of `JudgeFault`. The plans are counted before any is read. Which kind
+/// of fault a text has, and where, once its bytes and parentheses are right, is the reader's to say. Running out of memory can come in place
+/// of any cause but those that take no memory to find: that a text is too large, too many planners, and the wrong bytes and parentheses of
+/// the domain.
+pub fn judge_bytes_in<R: Threads + Wait + Sync, G: Gate + Sync>(
+    rt: &R,
+    alloc: Global,
+    seed: Seed,
+    dialect: Dialect,
+    domain: &[u8],
+    problem: &[u8],
+    bundles: &[Bundle],
+    workers: u32,
+    gate: &G,
+) -> Result<Report, JudgeFault>
+    requires { (1 ≤ workers) × (workers ≤ 32) }
+    ensures answer { IfOk result (λ report. answer_in dialect domain.now problem.now bundles.now ≡ Some report) }
+    ensures refusal { IfErr result (λ fault. IsOfTexts fault → answer_in dialect domain.now problem.now bundles.now ≡ None) }
+    ensures cause { IfErr result (λ fault. IsOfTexts fault → TextsCallForIn dialect domain.now problem.now bundles.now fault) }
+    ensures held { IfErr result (λ fault. (job : ℕ) → fault ≡ Held job → G.may_hold gate.now job) }
+
+    // What takes no memory to find is always told.
+    ensures large { (place : ℕ) → (result ≡ Err (TooLarge place)) ↔ (too_large domain.now problem.now bundles.now ≡ Some place) }
+    ensures planners { too_large domain.now problem.now bundles.now ≡ None → most_planners < length bundles.now → result ≡ Err TooManyPlanners }
+    ensures domain_text { (e : read_fault.ReadFault) → too_large domain.now problem.now bundles.now ≡ None → length bundles.now ≤ most_planners
+        → text_fault domain.now ≡ Some e → result ≡ Err (Domain e) }
+{
     match too_large(domain, problem, bundles) {
         Some(place) => Err(JudgeFault::TooLarge(place)),
         None => {
             if bundles.len() > MOST_PLANNERS {
                 return Err(JudgeFault::TooManyPlanners);
             }
-            match read_task(alloc, seed, domain, problem) {
+            match read_task(alloc, seed, dialect, domain, problem) {
                 Ok(task) => judge_planners(rt, alloc, &task, bundles, workers, gate),
                 Err(fault) => Err(fault),
             }
@@ -100,24 +141,25 @@ fn too_large(domain: &[u8], problem: &[u8], bundles: &[Bundle]) -> Option<usize>
     None
 }
 
-/// The task of a domain text and a problem text, which hashes with a seed.
+/// The task of a domain text and a problem text in a dialect, which hashes with a seed.
 pub(crate) fn read_task(
     alloc: Global,
     seed: Seed,
+    dialect: Dialect,
     domain: &[u8],
     problem: &[u8],
-) -> Result<Task, JudgeFault>
-    ensures task { IfOk result (λ task. task_of domain.now problem.now ≡ Some task) }
-    ensures refusal { IfErr result (λ fault. fault ≢ OutOfMemory → task_of domain.now problem.now ≡ None) }
-    ensures cause { IfErr result (λ fault. fault ≢ OutOfMemory → ReadingCallsFor domain.now problem.now fault) }
+) -> Result<CostedTask, JudgeFault>
+    ensures task { IfOk result (λ task. task_in dialect domain.now problem.now ≡ Some task) }
+    ensures refusal { IfErr result (λ fault. fault ≢ OutOfMemory → task_in dialect domain.now problem.now ≡ None) }
+    ensures cause { IfErr result (λ fault. fault ≢ OutOfMemory → ReadingCallsFor dialect domain.now problem.now fault) }
     ensures domain_text { (e : read_fault.ReadFault) → text_fault domain.now ≡ Some e → result ≡ Err (Domain e) }
     ensures reader { IfErr result (λ fault. (place : ℕ) → fault ≢ TooLarge place) }
 {
-    let domain = match read_domain(alloc, seed, domain) {
+    let domain = match read_domain_in(alloc, seed, dialect, domain) {
         Ok(domain) => domain,
         Err(fault) => return Err(refusal(fault, JudgeFault::Domain(fault))),
     };
-    match read_problem(alloc, domain, problem) {
+    match read_problem_in(alloc, dialect, domain, problem) {
         Ok(task) => Ok(task),
         Err(fault) => Err(refusal(fault, JudgeFault::Problem(fault))),
     }
@@ -138,7 +180,7 @@ fn refusal(fault: ReadFault, other: JudgeFault) -> JudgeFault
 fn judge_planners<R: Threads + Wait + Sync, G: Gate + Sync>(
     rt: &R,
     alloc: Global,
-    task: &Task,
+    task: &CostedTask,
     bundles: &[Bundle],
     workers: u32,
     gate: &G,
@@ -165,7 +207,7 @@ fn judge_planners<R: Threads + Wait + Sync, G: Gate + Sync>(
 fn judge_plans<R: Threads + Wait + Sync, G: Gate + Sync>(
     rt: &R,
     alloc: Global,
-    task: &Task,
+    task: &CostedTask,
     bundles: &[Bundle],
     plans: u32,
     workers: u32,
@@ -206,7 +248,7 @@ fn count_plans(bundles: &[Bundle]) -> Option<u32>
 /// The report of a task's plans, of which this was found.
 fn report_of(
     alloc: Global,
-    task: &Task,
+    task: &CostedTask,
     bundles: &[Bundle],
     findings: &Findings,
 ) -> Result<Report, AllocError>
@@ -215,7 +257,7 @@ fn report_of(
     ensures { IfOk result (λ text. text ≡ report task.now (map (planner_of task.now) bundles.now)) }
 {
     let mut text = Text::new(alloc);
-    push_header(&mut text, task)?;
+    push_header(&mut text, &task.task)?;
     for (planner, bundle) in bundles.iter().enumerate() {
         push_planner(&mut text, task, bundle.name(), findings, planner)?;
     }

@@ -8,11 +8,13 @@
 //! ```
 //!
 //! [`engine::judge_bytes`] makes the report of a run and [`replay::replay_bytes`] the lines of a replay, each from the bytes of its input
-//! files. [`program::main_with`] reads the command line and the files, and writes what they answer.
+//! files; [`engine::judge_bytes_in`] and [`replay::replay_bytes_in`] do the same in a [`Dialect`] of the caller's choice.
+//! [`program::main_with`] reads the command line and the files, and writes what they answer.
 #![tactic(auto)]
 
 pub mod bundle;
 pub mod command;
+mod costs;
 pub mod engine;
 pub mod fault;
 pub mod inlet;
@@ -27,4 +29,5 @@ mod replies;
 pub mod report;
 mod text;
 
+pub use pddl_reader::Dialect;
 pub use strips_task::Seed;

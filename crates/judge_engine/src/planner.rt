@@ -1,18 +1,20 @@
-//! The lines of one planner: what was found of its plans, and how many of them are valid.
-ghost use Rattle.std.specs.Prelude.{◌≡◌, ◌++◌, ◌<◌, ◌≤◌, [], length, map, slice_index_or, IfOk, OnOk};
+//! The lines of one planner: what was found about its plans, how many of them are valid, and the best of these.
+ghost use Rattle.std.specs.Prelude.{◌≡◌, ◌++◌, ◌<◌, ◌≤◌, [], length, map, slice_index_or, OnOk};
+ghost use Rattle.plan_cost.specs.Costs.{cost_answer};
 ghost use Rattle.judge_engine.specs.Plans.{as_judged};
-ghost use Rattle.judge_engine.specs.Report.{plan_line, planner_lines, steps_if_valid};
-ghost use Rattle.judge_engine.specs.Tally.{tally_with};
+ghost use Rattle.judge_engine.specs.Report.{defined_cost, least_cost, planner_lines, steps_if_valid};
+ghost use Rattle.judge_engine.specs.Tally.{lesser, tally_over, tally_with};
 
 use crate::lines::{push_plan_line, push_summary};
+use crate::render::cost_if_valid;
 use crate::text::Text;
 use intake_rules::Finding;
 use judge_bench::Findings;
+use plan_cost::{Cost, CostedTask, Costs};
 use std::alloc::AllocError;
 use strips_judge::Verdict;
-use strips_task::Task;
 
-/// What the last line of a planner tells.
+/// What the last line of a planner sums up.
 #[derive(Clone, Copy, Debug)]
 pub(crate) struct Tally {
     /// How many plans there are.
@@ -21,12 +23,14 @@ pub(crate) struct Tally {
     pub(crate) valid: usize,
     /// The least number of steps of a valid one.
     pub(crate) best: Option<u32>,
+    /// The least defined cost of a valid one, in billionths.
+    pub(crate) cost: Option<u128>,
 }
 
 /// Adds the lines of a planner: one for each of its plans, which count from 1, and a last one.
 pub(crate) fn push_planner(
     text: &mut Text,
-    task: &Task,
+    task: &CostedTask,
     name: &[u8],
     findings: &Findings,
     planner: usize,
@@ -40,37 +44,46 @@ pub(crate) fn push_planner(
         plans: 0,
         valid: 0,
         best: None,
+        cost: None,
     };
     for place in 0..findings.plans(planner) {
-        let steps = push_found(text, task, name, place + 1, findings.get(planner, place))?;
-        tally = counted(tally, steps);
+        let finding = findings.get(planner, place);
+        push_plan_line(text, &task.task, name, place + 1, finding)?;
+        tally = counted(tally, finding);
     }
-    push_summary(text, name, tally.plans, tally.valid, tally.best)
+    let cost = least_cost(&task.costs, tally.cost);
+    push_summary(text, name, tally.plans, tally.valid, tally.best, cost)
 }
 
-/// Adds the line of a plan that was judged, and answers how many steps it has where it is valid. Plans count from 1.
-fn push_found(
-    text: &mut Text,
-    task: &Task,
-    name: &[u8],
-    number: usize,
-    finding: &Finding,
-) -> Result<Option<u32>, AllocError>
-    ensures line { OnOk result (text.new ≡ text.old ++ plan_line task.now name.now number (as_judged finding.now)) }
-    ensures steps { IfOk result (λ steps. steps ≡ steps_if_valid finding.now.verdict) }
+/// A tally with one plan more.
+fn counted(tally: Tally, finding: &Finding) -> Tally
+    requires few { tally.plans < 65536 }
+    requires some { tally.valid ≤ tally.plans }
+    ensures { result ≡ tally_with tally (as_judged finding.now) }
 {
-    push_plan_line(
-        text,
-        task,
-        name,
-        number,
-        &finding.job.plan,
-        &finding.verdict,
-    )?;
-    Ok(valid_steps(&finding.verdict))
+    let cost = cost_if_valid(&finding.verdict, finding.cost);
+    tally_over(tally, valid_steps(&finding.verdict), defined_cost(cost))
 }
 
-/// The number of steps, where the verdict is that the plan is valid.
+/// A tally with one plan more, which has this number of steps if it is valid, and this cost if that is defined.
+fn tally_over(tally: Tally, steps: Option<u32>, cost: Option<u128>) -> Tally
+    requires few { tally.plans < 65536 }
+    requires some { tally.valid ≤ tally.plans }
+    ensures { result ≡ tally_over tally steps cost }
+{
+    let valid = match steps {
+        Some(_) => tally.valid + 1,
+        None => tally.valid,
+    };
+    Tally {
+        plans: tally.plans + 1,
+        valid,
+        best: lesser_steps(tally.best, steps),
+        cost: lesser_cost(tally.cost, cost),
+    }
+}
+
+/// The number of steps, if the verdict is that the plan is valid.
 fn valid_steps(verdict: &Verdict) -> Option<u32>
     ensures { result ≡ steps_if_valid verdict.now }
 {
@@ -80,24 +93,45 @@ fn valid_steps(verdict: &Verdict) -> Option<u32>
     }
 }
 
-/// A tally with one plan more, of so many steps where it is valid.
-fn counted(tally: Tally, steps: Option<u32>) -> Tally
-    requires few { tally.plans < 65536 }
-    requires some { tally.valid ≤ tally.plans }
-    ensures { result ≡ tally_with tally steps }
+/// A cost as a number of billionths, if it is defined.
+fn defined_cost(cost: Cost) -> Option<u128>
+    ensures { result ≡ defined_cost cost }
 {
-    match steps {
-        Some(steps) => Tally {
-            plans: tally.plans + 1,
-            valid: tally.valid + 1,
-            best: match tally.best {
-                Some(best) => Some(best.min(steps)),
-                None => Some(steps),
-            },
-        },
-        None => Tally {
-            plans: tally.plans + 1,
-            ..tally
-        },
+    match cost {
+        Cost::NotCounted | Cost::Undefined => None,
+        Cost::Billionths(billionths) => Some(billionths),
+    }
+}
+
+/// The lesser of two numbers of steps, as far as there are any.
+fn lesser_steps(steps: Option<u32>, other: Option<u32>) -> Option<u32>
+    ensures { result ≡ lesser steps other }
+{
+    match (steps, other) {
+        (Some(steps), Some(other)) => Some(steps.min(other)),
+        (Some(steps), None) => Some(steps),
+        (None, other) => other,
+    }
+}
+
+/// The lesser of two costs, as far as there are any.
+fn lesser_cost(cost: Option<u128>, other: Option<u128>) -> Option<u128>
+    ensures { result ≡ lesser cost other }
+{
+    match (cost, other) {
+        (Some(cost), Some(other)) => Some(cost.min(other)),
+        (Some(cost), None) => Some(cost),
+        (None, other) => other,
+    }
+}
+
+/// The least defined cost of a valid plan as a cost: undefined if there is none, and not counted if the task counts no costs.
+fn least_cost(costs: &Option<Costs>, least: Option<u128>) -> Cost
+    ensures { result ≡ least_cost costs.now least }
+{
+    match (costs, least) {
+        (None, _) => Cost::NotCounted,
+        (Some(_), None) => Cost::Undefined,
+        (Some(_), Some(billionths)) => Cost::Billionths(billionths),
     }
 }

@@ -9,11 +9,11 @@ ghost use Rattle.judge_engine.specs.Run.{IsReportOver, WritesReport, CutsReport,
 use crate::Seed;
 use crate::bundle::Bundle;
 use crate::command::{JudgeRequest, ReplayRequest, Request, parse};
-use crate::engine::judge_bytes;
+use crate::engine::judge_bytes_in;
 use crate::fault::JudgeFault;
 use crate::inlet::{InFault, Sources};
 use crate::outlet::{Outlet, write_bytes, write_report};
-use crate::replay::replay_bytes;
+use crate::replay::replay_bytes_in;
 use crate::report::Report;
 use crate::text::Text;
 use judge_bench::Open;
@@ -89,9 +89,9 @@ pub fn judge_with<R: AllocGlobal + Threads + Wait + Sync, S: Sources, O: Outlet,
 ) -> u8
     requires { O.failed out.old ≡ false }
     ensures status { result ≤ 4 }
-    ensures written { result ≡ 0 → WritesReport (S.may_hold sources.now) files.now.domain.now files.now.problem.now (map (λ name. name.now) files.now.plans.items)
+    ensures written { result ≡ 0 → WritesReport files.now.dialect (S.may_hold sources.now) files.now.domain.now files.now.problem.now (map (λ name. name.now) files.now.plans.items)
         (O.taken out.old) (O.taken out.new) }
-    ensures cut { result ≡ 4 → CutsReport (S.may_hold sources.now) files.now.domain.now files.now.problem.now (map (λ name. name.now) files.now.plans.items)
+    ensures cut { result ≡ 4 → CutsReport files.now.dialect (S.may_hold sources.now) files.now.domain.now files.now.problem.now (map (λ name. name.now) files.now.plans.items)
         (O.taken out.old) (O.taken out.new) }
     ensures unwritten { (result ≡ 4) ↔ (O.failed out.new ≡ true) }
     ensures untouched { 0 < result → result < 4 → out.new ≡ out.old }
@@ -113,9 +113,9 @@ pub fn replay_with<S: Sources, O: Outlet, E: Outlet>(
 ) -> u8
     requires { O.failed out.old ≡ false }
     ensures status { result ≤ 4 }
-    ensures written { result ≡ 0 → WritesReplay (S.may_hold sources.now) files.now.domain.now files.now.problem.now files.now.steps.now
+    ensures written { result ≡ 0 → WritesReplay files.now.dialect (S.may_hold sources.now) files.now.domain.now files.now.problem.now files.now.steps.now
         (O.taken out.old) (O.taken out.new) }
-    ensures cut { result ≡ 4 → CutsReplay (S.may_hold sources.now) files.now.domain.now files.now.problem.now files.now.steps.now
+    ensures cut { result ≡ 4 → CutsReplay files.now.dialect (S.may_hold sources.now) files.now.domain.now files.now.problem.now files.now.steps.now
         (O.taken out.old) (O.taken out.new) }
     ensures unwritten { (result ≡ 4) ↔ (O.failed out.new ≡ true) }
     ensures untouched { 0 < result → result < 4 → out.new ≡ out.old }
@@ -182,16 +182,17 @@ fn judge_files<R: AllocGlobal + Threads + Wait + Sync, S: Sources>(
     files: &JudgeRequest<'_>,
     sources: &S,
 ) -> Result<Report, Stop>
-    ensures { IfOk result (IsReportOver (S.may_hold sources.now) files.now.domain.now files.now.problem.now (map (λ name. name.now) files.now.plans.items)) }
+    ensures { IfOk result (IsReportOver files.now.dialect (S.may_hold sources.now) files.now.domain.now files.now.problem.now (map (λ name. name.now) files.now.plans.items)) }
 {
     let alloc = rt.alloc();
     let domain = read(alloc, sources, files.domain)?;
     let problem = read(alloc, sources, files.problem)?;
     let bundles = read_bundles(alloc, sources, files.plans.as_slice())?;
-    match judge_bytes(
+    match judge_bytes_in(
         rt,
         alloc,
         seed,
+        files.dialect,
         domain.as_slice(),
         problem.as_slice(),
         bundles.as_slice(),
@@ -213,14 +214,15 @@ fn replay_files<S: Sources>(
     files: &ReplayRequest<'_>,
     sources: &S,
 ) -> Result<Report, Stop>
-    ensures { IfOk result (IsReplayOver (S.may_hold sources.now) files.now.domain.now files.now.problem.now files.now.steps.now) }
+    ensures { IfOk result (IsReplayOver files.now.dialect (S.may_hold sources.now) files.now.domain.now files.now.problem.now files.now.steps.now) }
 {
     let domain = read(alloc, sources, files.domain)?;
     let problem = read(alloc, sources, files.problem)?;
     let steps = read(alloc, sources, files.steps)?;
-    match replay_bytes(
+    match replay_bytes_in(
         alloc,
         seed,
+        files.dialect,
         domain.as_slice(),
         problem.as_slice(),
         steps.as_slice(),

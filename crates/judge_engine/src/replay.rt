@@ -5,7 +5,7 @@
 ghost use Rattle.std.specs.Prelude.{◌≡◌, ◌≢◌, ◌≤◌, ◌⊎◌, length, IfNone, IfOk, IfErr, Some, None, Err};
 ghost use Rattle.steps_text.specs.StepsTexts.{steps_text};
 ghost use Rattle.steps_text.specs.Telling.{value_of};
-ghost use Rattle.judge_engine.specs.ReplayAnswer.{replay_answer, replay_of, replies_to, too_large_for_replay, ReplayCallsFor};
+ghost use Rattle.judge_engine.specs.ReplayAnswer.{replay_answer, replay_answer_in, replay_of, replies_to, too_large_for_replay, ReplayCallsFor, ReplayCallsForIn};
 ghost use Rattle.judge_engine.specs.ReplayText.{reply_lines};
 ghost use Rattle.judge_engine.specs.declared.fault.JudgeFault.TheVariants.{OutOfMemory, Steps};
 
@@ -15,16 +15,14 @@ use crate::inlet::FILE_LIMIT;
 use crate::replies::text_of;
 use crate::report::Report;
 use intake_core::{ReplayFault, replay};
+use pddl_reader::Dialect;
+use plan_cost::CostedTask;
 use std::alloc::{AllocError, Global};
 use steps_text::{StepsRefusal, StepsText, read_steps};
-use strips_task::{Seed, Task};
+use strips_task::Seed;
 
-/// The lines that a new desk answers to the steps of a text, for the task of a domain text and a problem text.
-///
-/// All texts are read before a step is run, and all lines are made before anything is written. Tables of names and atoms hash with the
-/// seed; the lines are the same with any. A replay without lines is refused for the
-/// first cause in the order of `JudgeFault`. Want of memory can come in place of any cause but that a text is too large.
-#[tactic(auto, using(crate::proofs::ReplayAnswers::too_large_text, crate::proofs::ReplayAnswers::no_task, crate::proofs::ReplayAnswers::of_task, crate::proofs::ReplayAnswers::faulty_steps))]
+/// The lines that a new desk answers to the steps of a text, for the task of a domain text and a problem text in the default dialect:
+/// [`replay_bytes_in`] with [`Dialect::Strips`].
 pub fn replay_bytes(
     alloc: Global,
     seed: Seed,
@@ -36,9 +34,30 @@ pub fn replay_bytes(
     ensures refusal { IfErr result (λ fault. fault ≢ OutOfMemory → replay_answer domain.now problem.now steps.now ≡ None) }
     ensures cause { IfErr result (λ fault. fault ≢ OutOfMemory → ReplayCallsFor domain.now problem.now steps.now fault) }
 {
+    replay_bytes_in(alloc, seed, Dialect::Strips, domain, problem, steps)
+}
+
+/// The lines that a new desk answers to the steps of a text, for the task of a domain text and a problem text, both in this dialect.
+///
+/// All texts are read before a step is run, and all lines are made before anything is written. Tables of names and atoms hash with the
+/// seed; the lines are the same with any. A replay without lines is refused for the first cause in the order of `JudgeFault`. Running out
+/// of memory can come in place of any cause but that a text is too large.
+#[tactic(auto, using(crate::proofs::ReplayAnswers::too_large_text, crate::proofs::ReplayAnswers::no_task, crate::proofs::ReplayAnswers::of_task, crate::proofs::ReplayAnswers::faulty_steps))]
+pub fn replay_bytes_in(
+    alloc: Global,
+    seed: Seed,
+    dialect: Dialect,
+    domain: &[u8],
+    problem: &[u8],
+    steps: &[u8],
+) -> Result<Report, JudgeFault>
+    ensures answer { IfOk result (λ report. replay_answer_in dialect domain.now problem.now steps.now ≡ Some report) }
+    ensures refusal { IfErr result (λ fault. fault ≢ OutOfMemory → replay_answer_in dialect domain.now problem.now steps.now ≡ None) }
+    ensures cause { IfErr result (λ fault. fault ≢ OutOfMemory → ReplayCallsForIn dialect domain.now problem.now steps.now fault) }
+{
     match too_large(domain, problem, steps) {
         Some(place) => Err(JudgeFault::TooLarge(place)),
-        None => match read_task(alloc, seed, domain, problem) {
+        None => match read_task(alloc, seed, dialect, domain, problem) {
             Ok(task) => match replay_for(alloc, task, steps) {
                 Ok(report) => Ok(report),
                 Err(fault) => Err(fault),
@@ -67,7 +86,7 @@ fn too_large(domain: &[u8], problem: &[u8], steps: &[u8]) -> Option<usize>
 }
 
 /// The lines that a new desk for a task answers to the steps of a text. The task is dropped.
-fn replay_for(alloc: Global, task: Task, steps: &[u8]) -> Result<Report, JudgeFault>
+fn replay_for(alloc: Global, task: CostedTask, steps: &[u8]) -> Result<Report, JudgeFault>
     requires { length steps.now ≤ 16777216 }
     ensures answer { IfOk result (λ report. replay_of task (steps_text steps.now) ≡ Some report) }
     ensures fault { IfErr result (λ fault. (fault ≡ OutOfMemory) ⊎ ((e : _) × (fault ≡ Steps e) × (steps_text steps.now ≡ Err e))) }
@@ -76,7 +95,7 @@ fn replay_for(alloc: Global, task: Task, steps: &[u8]) -> Result<Report, JudgeFa
 }
 
 /// The lines that a new desk for a task answers to the steps of a text.
-fn replay_text(alloc: Global, task: &Task, steps: &[u8]) -> Result<Report, JudgeFault>
+fn replay_text(alloc: Global, task: &CostedTask, steps: &[u8]) -> Result<Report, JudgeFault>
     requires { length steps.now ≤ 16777216 }
     ensures answer { IfOk result (λ report. replay_of task.now (steps_text steps.now) ≡ Some report) }
     ensures fault { IfErr result (λ fault. (fault ≡ OutOfMemory) ⊎ ((e : _) × (fault ≡ Steps e) × (steps_text steps.now ≡ Err e))) }
@@ -93,10 +112,10 @@ fn replay_text(alloc: Global, task: &Task, steps: &[u8]) -> Result<Report, Judge
 
 /// The lines that a new desk for a task answers to steps.
 #[tactic(auto, using(crate::proofs::Replaying::same_history))]
-fn run(alloc: Global, task: &Task, read: StepsText) -> Result<Report, AllocError>
+fn run(alloc: Global, task: &CostedTask, read: StepsText) -> Result<Report, AllocError>
     requires planners { read.planners ≤ 64 }
     requires places { read.places ≤ 65536 }
-    ensures { IfOk result (λ report. report ≡ reply_lines task.now (replies_to task.now (value_of read))) }
+    ensures { IfOk result (λ report. report ≡ reply_lines task.now.task (replies_to task.now (value_of read))) }
 {
     let StepsText {
         planners,
@@ -105,7 +124,7 @@ fn run(alloc: Global, task: &Task, read: StepsText) -> Result<Report, AllocError
     } = read;
     match replay(alloc, task, planners, places, steps) {
         Ok(replies) => {
-            let text = text_of(alloc, task, &replies)?;
+            let text = text_of(alloc, &task.task, &replies)?;
             Ok(Report::from_bytes(text.into_bytes()))
         }
         Err(ReplayFault::OutOfMemory { .. }) => Err(AllocError),

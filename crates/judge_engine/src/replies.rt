@@ -3,7 +3,7 @@ ghost use Rattle.std.specs.Prelude.{◌≡◌, ◌++◌, ◌∷◌, [], ℕ, Lis
 ghost use Rattle.intake_rules.specs.Refusals.{refusal_word};
 ghost use Rattle.judge_engine.specs.ReplayText.{refusal_number, reply_text, reply_line, reply_lines};
 
-use crate::render::push_verdict;
+use crate::render::push_finding;
 use crate::text::Text;
 use intake_core::{Refusal, Reply, ReplyList};
 use std::alloc::{AllocError, Global};
@@ -50,7 +50,7 @@ fn push_reply(text: &mut Text, task: &Task, reply: &Reply) -> Result<(), AllocEr
         Reply::Emitted(finding) => {
             push_with_number(text, b"emitted ", finding.job.number)?;
             text.push(b" ")?;
-            push_verdict(text, task, &finding.job.plan, &finding.verdict)
+            push_finding(text, task, finding)
         }
         Reply::Refused(why) => push_refusal(text, *why),
     }

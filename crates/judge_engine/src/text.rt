@@ -45,6 +45,16 @@ impl Text {
         Ok(())
     }
 
+    /// Adds a number of up to 128 bits in decimal digits.
+    pub(crate) fn push_wide_number(&mut self, number: u128) -> Result<(), AllocError>
+        ensures { OnOk result (self.new ≡ self.old ++ decimal number) }
+    {
+        let mut buffer = Buffer::new();
+        self.bytes
+            .extend_from_slice(buffer.format(number).as_bytes())?;
+        Ok(())
+    }
+
     /// The bytes. Takes no memory.
     pub(crate) fn into_bytes(self) -> Vec<u8>
         ensures { result.items ≡ self }

@@ -8,12 +8,13 @@ use crate::fixtures::is_raised_in_time;
 use crate::intakes::{lamp_1, light};
 use intake_rules::{Finding, Refusal};
 use judge_bench::{Bench, Ended, Gate, Open, Owner, Ticket, WorkFault, WorkerSeat, work};
+use plan_cost::CostedTask;
 use std::alloc::{AllocError, Global};
 use std::sync::atomic::{AtomicBool, Ordering};
 use std::test::Fail;
 use std::thread;
 use std::thread::Threads;
-use strips_judge::{Task, Verdict};
+use strips_judge::Verdict;
 
 /// What comes of submitting a plan that lights the lamp.
 fn submit(
@@ -48,7 +49,7 @@ fn finish(
     alloc: Global,
     bench: &Bench,
     seat: &mut WorkerSeat,
-    task: &Task,
+    task: &CostedTask,
     ticket: Ticket,
 ) -> Result<(), AllocError>
     requires seat { SitsAt bench.now seat.old }
@@ -66,7 +67,7 @@ fn judge_next(
     alloc: Global,
     bench: &Bench,
     seat: &mut WorkerSeat,
-    task: &Task,
+    task: &CostedTask,
 ) -> Result<Option<u32>, AllocError>
     requires seat { SitsAt bench.now seat.old }
     requires task { bench.now.setting.task.value ≡ task.now }
@@ -123,7 +124,7 @@ fn judge_in_turn(
     owner: &mut Owner,
     one: &mut WorkerSeat,
     other: &mut WorkerSeat,
-    task: &Task,
+    task: &CostedTask,
 ) -> Result<bool, AllocError>
     requires seats { SitsAt bench.now owner.old × SitsAt bench.now one.old × SitsAt bench.now other.old }
     requires task { bench.now.setting.task.value ≡ task.now }
@@ -155,7 +156,7 @@ fn tells_all(alloc: Global, bench: &Bench, owner: &mut Owner) -> Result<bool, Al
 }
 
 /// What one thread with all seats sees at a bench with two slots. Whether it is right.
-fn one_thread_judges(alloc: Global, task: &Task) -> Result<bool, AllocError> {
+fn one_thread_judges(alloc: Global, task: &CostedTask) -> Result<bool, AllocError> {
     let (bench, mut owner) = Bench::make(alloc, task, 1, 2)?;
     let filled = fills(alloc, &bench, &mut owner)?;
     let Some((mut one, mut other)) = two_seats(&bench, &mut owner) else {
@@ -182,7 +183,7 @@ fn work_by_two<G: Gate + Sync>(
     rt: &(impl AllocGlobal + Threads + Sync),
     bench: &Bench,
     owner: &mut Owner,
-    task: &Task,
+    task: &CostedTask,
     gate: &G,
 ) -> bool
     requires seat { SitsAt bench.now owner.old × (owner.old.view.seats_out ≡ 0) }
@@ -243,7 +244,7 @@ fn emit_all(bench: &Bench, owner: &mut Owner, plans: u32) -> bool
 /// Submits so many plans to a bench that is then shut, lets two threads work and emits all findings. Whether each was there, in order.
 fn judges_all<G: Gate + Sync>(
     rt: &(impl AllocGlobal + Threads + Sync),
-    task: &Task,
+    task: &CostedTask,
     plans: u32,
     gate: &G,
 ) -> Result<bool, AllocError>
@@ -314,7 +315,7 @@ fn look_and_work(
     alloc: Global,
     bench: &Bench,
     mut seat: WorkerSeat,
-    task: &Task,
+    task: &CostedTask,
 ) -> (bool, Option<WorkFault>, WorkerSeat)
     requires seat { SitsAt bench.now seat }
     requires task { bench.now.setting.task.value ≡ task.now }
@@ -326,7 +327,7 @@ fn look_and_work(
 }
 
 /// Whether a worker ends for want of jobs while the bench is open, and without a fault once it is shut.
-fn ends_when_shut(alloc: Global, task: &Task) -> Result<bool, AllocError> {
+fn ends_when_shut(alloc: Global, task: &CostedTask) -> Result<bool, AllocError> {
     let (bench, mut owner) = Bench::make(alloc, task, 1, 2)?;
     let seat = owner.seat(&bench);
     let (was_shut, idle, seat) = look_and_work(alloc, &bench, seat, task);

@@ -8,13 +8,14 @@ use crate::fixtures::{LAMP, LAMP_1, is_raised_in_time};
 use crate::gates::Meeting;
 use judge_bench::{Findings, Gate, Intake, Listed, RunFault, Submission, run};
 use pddl_reader::{ReadFault, Seed, read_domain, read_problem};
+use plan_cost::CostedTask;
 use plan_text::read_plan;
 use std::alloc::{AllocError, Global};
 use std::sync::atomic::{AtomicBool, Ordering};
 use std::sync::{Arc, Wait};
 use std::test::Fail;
 use std::thread::Threads;
-use strips_judge::{Task, Verdict};
+use strips_judge::Verdict;
 
 /// The gate that holds no job, and raises a flag when it is asked of job 0.
 #[derive(Drop)]
@@ -60,9 +61,10 @@ impl Intake for Late<'_> {
     }
 }
 
-/// The task of the lamp that is dark.
-pub(crate) fn lamp_1(alloc: Global) -> Result<Task, ReadFault> {
-    read_problem(alloc, read_domain(alloc, Seed::fixed(), LAMP)?, LAMP_1)
+/// The task of the lamp that is dark, which counts no costs.
+pub(crate) fn lamp_1(alloc: Global) -> Result<CostedTask, ReadFault> {
+    let task = read_problem(alloc, read_domain(alloc, Seed::fixed(), LAMP)?, LAMP_1)?;
+    Ok(CostedTask { task, costs: None })
 }
 
 /// The plan of the first planner that lights the lamp.
@@ -114,7 +116,7 @@ fn two_with_a_pause(alloc: Global, asked_of_0: &AtomicBool) -> Result<Late<'_>, 
 /// What comes of the plans of such an intake, with two workers.
 fn run_late(
     rt: &(impl AllocGlobal + Threads + Wait + Sync),
-    task: &Task,
+    task: &CostedTask,
     intake: &mut Late<'_>,
     gate: &Watched,
 ) -> Result<Findings, RunFault>
@@ -142,7 +144,7 @@ fn judges_while_the_intake_goes_on(rt: HostRuntime) -> Result<(), Fail> {
 /// What comes of two plans of one planner, with a gate where the two jobs wait for each other.
 fn run_meeting(
     rt: &(impl AllocGlobal + Threads + Wait + Sync),
-    task: &Task,
+    task: &CostedTask,
     plans: Vec<Submission>,
     workers: u32,
 ) -> Result<Findings, RunFault>

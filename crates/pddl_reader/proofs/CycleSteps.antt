@@ -15,11 +15,12 @@ use Rattle.strips_task.specs.Types.{IsTypeTree, is_within, is_below, ancestor}
 use Rattle.strips_task.proofs.Numbered.{item_within}
 use Rattle.strips_task.proofs.TypeTrees.{below_from_within, ancestor-object}
 use Rattle.pddl_reader.specs.declared.resolution.types.TypeTables.{TypeTables}
+use Rattle.pddl_syntax.specs.declared.dialect.Dialect.{Dialect}
 use Rattle.pddl_syntax.specs.Keywords.{object_word}
 use Rattle.pddl_syntax.specs.Optional.{guard, through}
 use Rattle.pddl_syntax.specs.Syntax.{NameGroup}
 use Rattle.pddl_reader.specs.Tables.{value_at, value_named}
-use Rattle.pddl_reader.specs.TypeOrder.{TypeNames, TypeParents, numbered, under, declared_under, tables_of, type_declared, parent_numbered, group_declared, object_alone, types_declared, parent_name, parent_number, parents_of, is_tree, is_under_itself, numbers_cycle, names_cycle, declares_cycle}
+use Rattle.pddl_reader.specs.TypeOrder.{TypeNames, TypeParents, numbered, under, counts_as_parent, declared_under, tables_of, type_declared, parent_numbered, group_declared, object_alone, types_declared, parent_name, parent_number, parents_of, is_tree, is_under_itself, numbers_cycle, names_cycle, declares_cycle}
 use Rattle.pddl_syntax.proofs.Guards.{guard_held}
 use Rattle.pddl_reader.proofs.Through.{through_keeps}
 use Rattle.pddl_reader.proofs.TypeCycles.{tree_without_cycles}
@@ -81,7 +82,7 @@ under-begins parents next name parent begins (Some known) h =
     (begins.0, sym held.1 ∙ begins.1)
 
 -- what two tables that are put together are
-put_together : (names : Option TypeNames) (parents : Option TypeParents) (tables : TypeTables) → tables_of names parents ≡ Some tables →
+pub put_together : (names : Option TypeNames) (parents : Option TypeParents) (tables : TypeTables) → tables_of names parents ≡ Some tables →
     (names ≡ Some tables.names) × (parents ≡ Some tables.parents)
 unfolding tables_of
 put_together None parents tables h = cc
@@ -90,19 +91,25 @@ put_together (Some names) (Some parents) tables h =
     let same : record { names = names; parents = parents } ≡ tables = cc in
     (ap (λ (t : TypeTables). Some t.names) same, ap (λ (t : TypeTables). Some t.parents) same)
 
-type-begins : (parent : List ℕ) (tables : TypeTables) (word : List ℕ) (next : TypeTables) → HasObject tables → type_declared parent tables word ≡ Some next → HasObject next
+declared_under-begins : (parents next : TypeParents) (name parent : List ℕ) → (more : TypeParents) × (parents ≡ (object_word, object_word) ∷ more) →
+    (counts : Bool) → (if counts then under (value_named parents name) parents name parent else Some parents) ≡ Some next →
+    (more : TypeParents) × (next ≡ (object_word, object_word) ∷ more)
+declared_under-begins parents next name parent begins true h = under-begins parents next name parent begins _ h
+declared_under-begins parents next name parent begins false h = let same : parents ≡ next = cc in (begins.0, sym same ∙ begins.1)
+
+type-begins : (dialect : Dialect) (parent : List ℕ) (tables : TypeTables) (word : List ℕ) (next : TypeTables) → HasObject tables → type_declared dialect parent tables word ≡ Some next → HasObject next
 unfolding type_declared declared_under
-type-begins parent tables word next begins h =
-    let parts = put_together (numbered tables.names (folded word)) (declared_under tables.parents (folded word) (folded parent)) next h in
+type-begins dialect parent tables word next begins h =
+    let parts = put_together (numbered tables.names (folded word)) (declared_under dialect tables.parents (folded word) (folded parent)) next h in
     record {
       names = numbered-begins tables.names next.names (folded word) begins.names parts.0;
-      parents = under-begins tables.parents next.parents (folded word) (folded parent) begins.parents _ parts.1;
+      parents = declared_under-begins tables.parents next.parents (folded word) (folded parent) begins.parents _ parts.1;
     }
 
-group-begins : (tables : TypeTables) (group : NameGroup) (next : TypeTables) → HasObject tables → group_declared tables group ≡ Some next → HasObject next
+group-begins : (dialect : Dialect) (tables : TypeTables) (group : NameGroup) (next : TypeTables) → HasObject tables → group_declared dialect tables group ≡ Some next → HasObject next
 unfolding group_declared parent_numbered
-group-begins tables group next begins h =
-    by (through (type_declared group.type) tables group.names) (λ t e. through_keeps HasObject (type_declared group.type) (type-begins group.type) tables group.names t begins e) h
+group-begins dialect tables group next begins h =
+    by (through (type_declared dialect group.type) tables group.names) (λ t e. through_keeps HasObject (type_declared dialect group.type) (type-begins dialect group.type) tables group.names t begins e) h
   where
     by : (between : Option TypeTables) → ((t : TypeTables) → between ≡ Some t → HasObject t) → parent_numbered group.type between ≡ Some next → HasObject next
     by None kept e = cc
@@ -115,10 +122,10 @@ group-begins tables group next begins h =
           parents = subst (λ ps. (more : TypeParents) × (ps ≡ (object_word, object_word) ∷ more)) same had.parents;
         }
 
-declared-begins : (groups : List NameGroup) (tables : TypeTables) → types_declared groups ≡ Some tables → HasObject tables
+declared-begins : (dialect : Dialect) (groups : List NameGroup) (tables : TypeTables) → types_declared dialect groups ≡ Some tables → HasObject tables
 unfolding types_declared
-declared-begins groups tables h =
-    through_keeps HasObject group_declared group-begins object_alone groups tables (record { names = ([], refl); parents = ([], refl) }) h
+declared-begins dialect groups tables h =
+    through_keeps HasObject (group_declared dialect) (group-begins dialect) object_alone groups tables (record { names = ([], refl); parents = ([], refl) }) h
 
 -- what stands behind a list of steps stood before it, where each step that no item passes a test in brings it from before
 through_back : {S X : Type 0} (P : S → Type 0) (any : X → Bool) (step : S → X → Option S) →
@@ -133,6 +140,10 @@ through_back {S} {X} P any step back s (x ∷ xs) t miss h had =
         option_and_then (λ state. through step state xs) next ≡ Some t → P s
     by None first rest e = cc
     by (Some u) first rest e = first u refl (rest u e)
+
+none_any : {X : Type 0} (xs : List X) → list_any (λ _. false) xs ≡ false
+none_any [] = refl
+none_any (x ∷ xs) = none_any xs
 
 module _ (name : List ℕ) (test : List ℕ → Bool) (passes : (word : List ℕ) → folded word ≡ name → test word ≡ true) where
   -- the name is declared
@@ -153,19 +164,47 @@ module _ (name : List ℕ) (test : List ℕ → Bool) (passes : (word : List ℕ
       let held = guard_held (bytes_eq known parent) parents next h in
       subst (λ ps. is_some (number_named ps name) ≡ true) (sym held.1) had
 
-  type_before : (parent : List ℕ) (tables : TypeTables) (word : List ℕ) (next : TypeTables) → test word ≡ false → type_declared parent tables word ≡ Some next →
+  declared_before : (parents next : TypeParents) (word parent : List ℕ) → test word ≡ false → (counts : Bool) →
+      (if counts then under (value_named parents (folded word)) parents (folded word) parent else Some parents) ≡ Some next →
+      is_some (number_named next name) ≡ true → is_some (number_named parents name) ≡ true
+  declared_before parents next word parent miss true h had = under_before parents next word parent miss _ h had
+  declared_before parents next word parent miss false h had =
+      let same : parents ≡ next = cc in
+      subst (λ ps. is_some (number_named ps name) ≡ true) (sym same) had
+
+  -- a declaration that does not count declares nothing
+  idle_before : (dialect : Dialect) (parent : List ℕ) (tables : TypeTables) (word : List ℕ) (next : TypeTables) → counts_as_parent dialect (folded parent) ≡ false →
+      type_declared dialect parent tables word ≡ Some next → IsDeclared next → IsDeclared tables
+  unfolding type_declared declared_under
+  idle_before dialect parent tables word next idle h had =
+      let parts = put_together (numbered tables.names (folded word)) (declared_under dialect tables.parents (folded word) (folded parent)) next h in
+      let same : tables.parents ≡ next.parents =
+      (let kept : Some tables.parents ≡ Some next.parents = sym (ap (λ b. if b then under (value_named tables.parents (folded word)) tables.parents (folded word) (folded parent) else Some tables.parents) idle) ∙ parts.1 in cc) in
+      subst (λ ps. is_some (number_named ps name) ≡ true) (sym same) had
+
+  type_before : (dialect : Dialect) (parent : List ℕ) (tables : TypeTables) (word : List ℕ) (next : TypeTables) → test word ≡ false → type_declared dialect parent tables word ≡ Some next →
       IsDeclared next → IsDeclared tables
   unfolding type_declared declared_under
-  type_before parent tables word next miss h had =
-      let parts = put_together (numbered tables.names (folded word)) (declared_under tables.parents (folded word) (folded parent)) next h in
-      under_before tables.parents next.parents word (folded parent) miss _ parts.1 had
+  type_before dialect parent tables word next miss h had =
+      let parts = put_together (numbered tables.names (folded word)) (declared_under dialect tables.parents (folded word) (folded parent)) next h in
+      declared_before tables.parents next.parents word (folded parent) miss _ parts.1 had
 
-  group_before : (tables : TypeTables) (group : NameGroup) (next : TypeTables) → list_any test group.names ≡ false → group_declared tables group ≡ Some next →
+  group_before : (dialect : Dialect) (tables : TypeTables) (group : NameGroup) (next : TypeTables) →
+      (counts_as_parent dialect (folded group.type) && list_any test group.names) ≡ false → group_declared dialect tables group ≡ Some next →
       IsDeclared next → IsDeclared tables
   unfolding group_declared parent_numbered
-  group_before tables group next miss h had =
-      by (through (type_declared group.type) tables group.names) (λ t e. through_back IsDeclared test (type_declared group.type) (type_before group.type) tables group.names t miss e) h
+  group_before dialect tables group next miss h had =
+      by (through (type_declared dialect group.type) tables group.names) (before (counts_as_parent dialect (folded group.type)) refl) h
     where
+      before : (counts : Bool) → counts_as_parent dialect (folded group.type) ≡ counts → (t : TypeTables) →
+          through (type_declared dialect group.type) tables group.names ≡ Some t → IsDeclared t → IsDeclared tables
+      before true is t e =
+          through_back IsDeclared test (type_declared dialect group.type) (type_before dialect group.type) tables group.names t
+          (sym (ap (λ b. b && list_any test group.names) is) ∙ miss) e
+      before false is t e =
+          through_back IsDeclared (λ _. false) (type_declared dialect group.type) (λ s x u _. idle_before dialect group.type s x u is) tables group.names t
+          (none_any group.names) e
+
       by : (between : Option TypeTables) → ((t : TypeTables) → between ≡ Some t → IsDeclared t → IsDeclared tables) → parent_numbered group.type between ≡ Some next →
           IsDeclared tables
       by None before e = cc
@@ -270,15 +309,15 @@ unfolding names_cycle numbers_cycle is_under_itself is_below
 word_in_cycle tables word type named positive within = rw (named, lt-ltb 0 type positive, within) refl
 
 -- a parent that is not `object` does not stand under itself, where no word of the groups names a type that does
-parent_free : (groups : List NameGroup) (tables : TypeTables) → types_declared groups ≡ Some tables →
-    list_any (declares_cycle tables.names (parents_of tables)) groups ≡ false → (name : List ℕ) (type : ℕ) → number_named tables.names name ≡ Some type → type ≢ 0 →
+parent_free : (dialect : Dialect) (groups : List NameGroup) (tables : TypeTables) → types_declared dialect groups ≡ Some tables →
+    list_any (declares_cycle dialect tables.names (parents_of tables)) groups ≡ false → (name : List ℕ) (type : ℕ) → number_named tables.names name ≡ Some type → type ≢ 0 →
     is_within (parents_of tables) (length (parents_of tables)) (slice_index (parents_of tables) type) type ≡ false
 unfolding types_declared declares_cycle
-parent_free groups tables declared miss name type named other =
+parent_free dialect groups tables declared miss name type named other =
     by (is_within (parents_of tables) (length (parents_of tables)) (slice_index (parents_of tables) type) type) refl (object_or_declared tables begins name type named)
   where
     begins : HasObject tables
-    begins = declared-begins groups tables declared
+    begins = declared-begins dialect groups tables declared
 
     by : (test : Bool) → is_within (parents_of tables) (length (parents_of tables)) (slice_index (parents_of tables) type) type ≡ test →
         (slice_index (parents_of tables) type ≡ 0) ⊎ (is_some (number_named tables.parents name) ≡ true) →
@@ -289,20 +328,20 @@ parent_free groups tables declared miss name type named other =
     by true e (inr there) =
         let passes : (word : List ℕ) → folded word ≡ name → names_cycle tables.names (parents_of tables) word ≡ true =
         λ word same. word_in_cycle tables word type (ap (number_named tables.names) same ∙ named) (omega (arith, other)) e in
-        let first = through_back (IsDeclared name (names_cycle tables.names (parents_of tables)) passes) (λ g. list_any (names_cycle tables.names (parents_of tables)) g.names) group_declared
-        (group_before name (names_cycle tables.names (parents_of tables)) passes) object_alone groups tables miss declared there in
+        let first = through_back (IsDeclared name (names_cycle tables.names (parents_of tables)) passes) (declares_cycle dialect tables.names (parents_of tables)) (group_declared dialect)
+        (group_before name (names_cycle tables.names (parents_of tables)) passes dialect) object_alone groups tables miss declared there in
         let same : name ≡ object_word = declared_object name first in
         let zero_type : Some type ≡ Some 0 = sym named ∙ ap (number_named tables.names) same ∙ object_numbered tables begins in
         absurd (other (let z : type ≡ 0 = cc in z))
 
 -- where no word of the groups names a type under itself, the parents form a tree
-pub cycle_free : (groups : List NameGroup) (tables : TypeTables) → types_declared groups ≡ Some tables →
-    list_any (declares_cycle tables.names (parents_of tables)) groups ≡ false → guard (is_tree (parents_of tables)) (Some (parents_of tables)) ≡ Some (parents_of tables)
+pub cycle_free : (dialect : Dialect) (groups : List NameGroup) (tables : TypeTables) → types_declared dialect groups ≡ Some tables →
+    list_any (declares_cycle dialect tables.names (parents_of tables)) groups ≡ false → guard (is_tree (parents_of tables)) (Some (parents_of tables)) ≡ Some (parents_of tables)
 unfolding guard
-cycle_free groups tables declared miss = rw tree refl
+cycle_free dialect groups tables declared miss = rw tree refl
   where
     begins : HasObject tables
-    begins = declared-begins groups tables declared
+    begins = declared-begins dialect groups tables declared
 
     free : (d : ℕ) → d < length (parents_of tables) → slice_index (parents_of tables) d ≢ 0 →
         is_within (parents_of tables) (length (parents_of tables)) (slice_index (parents_of tables) (slice_index (parents_of tables) d)) (slice_index (parents_of tables) d) ≡ false
@@ -316,7 +355,7 @@ cycle_free groups tables declared miss = rw tree refl
             is_within (parents_of tables) (length (parents_of tables)) (slice_index (parents_of tables) (slice_index (parents_of tables) d)) (slice_index (parents_of tables) d) ≡ false
         by key is (inl top) = absurd (other (is ∙ top))
         by key is (inr named) =
-            parent_free groups tables declared miss (parent_name tables.parents key) (slice_index (parents_of tables) d) (named ∙ ap Some (sym is)) other
+            parent_free dialect groups tables declared miss (parent_name tables.parents key) (slice_index (parents_of tables) d) (named ∙ ap Some (sym is)) other
 
     tree : is_tree (parents_of tables) ≡ true
     tree = tree_without_cycles (parents_of tables) (some_types tables begins) (on_top tables begins) (parent_known tables begins) free
@@ -340,6 +379,10 @@ none_passes : {X : Type 0} (any : X → Bool) → ((x : X) → any x ≡ false) 
 none_passes any fails [] = refl
 none_passes any fails (x ∷ xs) = or_from (any x) (list_any any xs) (fails x) (none_passes any fails xs)
 
+and_no_second : (first second : Bool) → second ≡ false → (first && second) ≡ false
+and_no_second true second none = none
+and_no_second false second none = refl
+
 -- so in a tree no word names a type under itself
 no_word_in_tree : (tables : TypeTables) → IsTypeTree (parents_of tables) → (word : List ℕ) → names_cycle tables.names (parents_of tables) word ≡ false
 unfolding names_cycle numbers_cycle
@@ -353,20 +396,21 @@ no_word_in_tree tables tree word = by (number_named tables.names (folded word)) 
         ap (numbers_cycle (parents_of tables)) e ∙ acyclic (parents_of tables) tree type (omega (arith, within, parents_counted tables))
 
 -- where a word of the groups names a type under itself, the parents form no tree
-pub cycle_refused : (groups : List NameGroup) (tables : TypeTables) → list_any (declares_cycle tables.names (parents_of tables)) groups ≡ true →
+pub cycle_refused : (dialect : Dialect) (groups : List NameGroup) (tables : TypeTables) → list_any (declares_cycle dialect tables.names (parents_of tables)) groups ≡ true →
     guard (is_tree (parents_of tables)) (Some (parents_of tables)) ≡ None
 unfolding guard declares_cycle
-cycle_refused groups tables found = by (is_tree (parents_of tables)) refl
+cycle_refused dialect groups tables found = by (is_tree (parents_of tables)) refl
   where
     by : (test : Bool) → is_tree (parents_of tables) ≡ test → guard test (Some (parents_of tables)) ≡ None
     by false e = refl
     by true e =
-        let free = none_passes (λ g. list_any (names_cycle tables.names (parents_of tables)) g.names)
-        (λ g. none_passes (names_cycle tables.names (parents_of tables)) (no_word_in_tree tables (tree_from (parents_of tables) e)) g.names) groups in
+        let free = none_passes (declares_cycle dialect tables.names (parents_of tables))
+        (λ g. and_no_second (counts_as_parent dialect (folded g.type)) _
+        (none_passes (names_cycle tables.names (parents_of tables)) (no_word_in_tree tables (tree_from (parents_of tables) e)) g.names)) groups in
         absurd (true≢false (sym found ∙ free))
 
 -- each parent is a type
-pub parents_known : (groups : List NameGroup) (tables : TypeTables) → types_declared groups ≡ Some tables → All (λ parent. parent < length (parents_of tables)) (parents_of tables)
-parents_known groups tables declared = parent_known tables (declared-begins groups tables declared)
+pub parents_known : (dialect : Dialect) (groups : List NameGroup) (tables : TypeTables) → types_declared dialect groups ≡ Some tables → All (λ parent. parent < length (parents_of tables)) (parents_of tables)
+parents_known dialect groups tables declared = parent_known tables (declared-begins dialect groups tables declared)
 
 pub ruleset order_steps = (parents_counted, cycle_free, cycle_refused, parents_known)

@@ -12,7 +12,7 @@ use Rattle.strips_task.specs.Names.{number_named}
 use Rattle.pddl_syntax.specs.declared.syntax.PredicateSyntax.{PredicateSyntax}
 use Rattle.pddl_syntax.specs.Optional.{guard, through, with_front}
 use Rattle.pddl_syntax.specs.Forms.{predicate_form, predicate_forms}
-use Rattle.pddl_reader.specs.Declarations.{Known, Predicates, may_declare, declared, pattern_of, term_named, equality_by, condition_of, conditions_of, changed_pattern}
+use Rattle.pddl_reader.specs.Declarations.{Known, Predicates, may_declare, declared, pattern_of, term_named, equality_by, condition_of, conditions_of}
 use Rattle.pddl_reader.specs.Domain.{declared_predicate, with_predicate, predicates_from}
 use Rattle.pddl_reader.specs.Variables.{Parameters, places_of}
 use Rattle.pddl_reader.proofs.Through.{through_behind, through_item, through_end}
@@ -58,24 +58,6 @@ unfolding condition_of
 value_no_condition known p value = refl
 
 pub ruleset condition_steps = (condition_none, condition_some, equality_condition, increase_no_condition, value_no_condition)
-
-pub changed_by_atom : (known : Known) (p : Parameters) (positive : Bool) (atom : AtomForm) → changed_pattern known p (atom_literal positive atom) ≡ pattern_of known p atom
-unfolding changed_pattern
-changed_by_atom known p positive atom = refl
-
-pub changed_by_equality : (known : Known) (p : Parameters) (positive : Bool) (sides : EqualityForm) → changed_pattern known p (equality_literal positive sides) ≡ None
-unfolding changed_pattern
-changed_by_equality known p positive sides = refl
-
-pub changed_by_increase : (known : Known) (p : Parameters) (amount : AmountForm) → changed_pattern known p (increase_literal amount) ≡ None
-unfolding changed_pattern
-changed_by_increase known p amount = refl
-
-pub changed_by_value : (known : Known) (p : Parameters) (value : ValueForm) → changed_pattern known p (value_literal value) ≡ None
-unfolding changed_pattern
-changed_by_value known p value = refl
-
-pub ruleset changed_steps = (changed_by_atom, changed_by_equality, changed_by_increase, changed_by_value)
 
 pub conditions_item : (front : List Cond) (known : Known) (p : Parameters) (l : LiteralForm) (ls : List LiteralForm) →
     with_front front (conditions_of known p (l ∷ ls)) ≡ with_item front (condition_of known p l) (conditions_of known p ls)

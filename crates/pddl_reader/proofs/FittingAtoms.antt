@@ -12,16 +12,20 @@ use Rattle.strips_task.specs.declared.actions.Term.TheVariants.{Param, Object}
 use Rattle.strips_task.specs.declared.atoms.Atom.{Atom}
 use Rattle.strips_task.specs.declared.tasks.TaskParts.{TaskParts}
 use Rattle.strips_task.specs.WellFormed.{term_types, is_fitting, are_fitting, is_pattern, is_atom}
-use Rattle.pddl_reader.specs.Declarations.{Known, types_of_term, fitted_all, fitted_places, object_number, term_named, term_fitted, term_in_place, object_fitted, object_in_place, pattern_with, pattern_by, pattern_of, ground_with, ground_by, ground_of, predicate_number, changed_pattern}
-use Rattle.pddl_reader.specs.Problem.{initial_atom}
+use Rattle.pddl_reader.specs.Declarations.{Known, types_of_term, fitted_all, fitted_places, object_number, term_named, term_fitted, term_in_place, object_fitted, object_in_place, pattern_with, pattern_by, pattern_of, ground_with, ground_by, ground_of, predicate_number}
+use Rattle.pddl_reader.specs.Functions.{Vocabulary}
 use Rattle.pddl_syntax.specs.Optional.{followed_by}
-use Rattle.pddl_syntax.specs.Syntax.{AtomForm, LiteralForm, atom_literal, equality_literal, increase_literal, value_literal}
+use Rattle.pddl_syntax.specs.Syntax.{AtomForm}
 use Rattle.pddl_reader.specs.Variables.{Parameters}
 use Rattle.pddl_syntax.proofs.Guards.{guard_held}
 
 -- what the atoms of a task may speak of
 abbrev pub known_of : TaskParts → Known
 known_of task = record { parents = task.parents; objects = task.objects; predicates = task.preds }
+
+-- the same, beside functions
+abbrev pub vocabulary_of : TaskParts → Known → Vocabulary
+vocabulary_of task functions = record { atoms = known_of task; functions = functions }
 
 pub same_types : (task : TaskParts) (params : List (List ℕ)) (t : Term) → types_of_term (known_of task) params t ≡ term_types task params t
 unfolding types_of_term term_types
@@ -142,18 +146,3 @@ atom_fits_by task words (Some n) atom h = atom_fits_in task words n atom (slice_
 pub atom_fits : (task : TaskParts) (form : AtomForm) (atom : Atom) → ground_of (known_of task) form ≡ Some atom → is_atom task atom ≡ true
 unfolding ground_of
 atom_fits task form atom h = atom_fits_by task form.terms (predicate_number task.preds form) atom h
-
-pub changed_fits : (task : TaskParts) (p : Parameters) (l : LiteralForm) (pattern : Pattern) → changed_pattern (known_of task) p l ≡ Some pattern →
-    is_pattern task p.types pattern ≡ true
-unfolding changed_pattern
-changed_fits task p (atom_literal positive atom) pattern h = pattern_fits task p atom pattern h
-changed_fits task p (equality_literal positive sides) pattern h = cc
-changed_fits task p (increase_literal amount) pattern h = cc
-changed_fits task p (value_literal value) pattern h = cc
-
-pub initial_fits : (task : TaskParts) (l : LiteralForm) (atom : Atom) → initial_atom (known_of task) l ≡ Some atom → is_atom task atom ≡ true
-unfolding initial_atom
-initial_fits task (atom_literal positive a) atom h = atom_fits task a atom h
-initial_fits task (equality_literal positive sides) atom h = cc
-initial_fits task (increase_literal amount) atom h = cc
-initial_fits task (value_literal value) atom h = cc

@@ -17,6 +17,7 @@ use Rattle.pddl_reader.specs.Objects.{Objects, type_number, of_type, object_decl
 use Rattle.pddl_syntax.specs.Optional.{guard}
 use Rattle.pddl_syntax.specs.Syntax.{NameGroup}
 use Rattle.pddl_reader.specs.Tables.{value_at, value_named}
+use Rattle.pddl_syntax.specs.declared.dialect.Dialect.{Dialect}
 use Rattle.pddl_reader.specs.TypeOrder.{types_declared, parent_number, parents_of, is_tree, ordered, types_of}
 use Rattle.pddl_syntax.proofs.Guards.{guard_held}
 use Rattle.pddl_reader.proofs.Through.{through_keeps}
@@ -163,9 +164,9 @@ known_by tables types few h =
     let most : length tables.names ≤ 1025 = few.few in
     subst AreKnown held.1 (record { tree = tree_from (parents_of tables) held.0; few = omega arith; named = keys ∙ sym all })
 
-pub known_types : (groups : List NameGroup) (types : KnownTypes) → types_of groups ≡ Some types → AreKnown types
+pub known_types : (dialect : Dialect) (groups : List NameGroup) (types : KnownTypes) → types_of dialect groups ≡ Some types → AreKnown types
 unfolding types_of ordered
-known_types groups types h = by (types_declared groups) (declared-few groups) h
+known_types dialect groups types h = by (types_declared dialect groups) (declared-few dialect groups) h
   where
     by : (tables : Option TypeTables) → ((t : TypeTables) → tables ≡ Some t → AreFew t) → ordered tables ≡ Some types → AreKnown types
     by None few e = cc

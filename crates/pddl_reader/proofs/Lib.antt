@@ -3,6 +3,7 @@ pub mod Through
 pub mod TypeTests
 pub mod TypeCycles
 pub mod CycleSteps
+pub mod DialectTypes
 pub mod TypeSteps
 pub mod ObjectSteps
 pub mod KeptObjects
@@ -16,9 +17,12 @@ pub mod KeptVariables
 pub mod FittingAtoms
 pub mod KnownTerms
 pub mod DeclarationSteps
+pub mod FunctionSteps
 pub mod ActionMeaning
 pub mod WellFormedDomains
 pub mod WellFormedTasks
 pub mod DomainMeaning
 pub mod ProblemMeaning
+pub mod InitialSteps
 pub mod TextSteps
+pub mod DialectTexts

@@ -140,4 +140,5 @@ domain_stays domain objects is front kept = record {
     goal_fits = refl;
   };
   types_named = is.types_named;
+  few_functions = is.few_functions;
 }

@@ -12,10 +12,11 @@ use Rattle.pddl_syntax.specs.declared.walk.NameWord.{NameWord}
 use Rattle.pddl_reader.specs.declared.resolution.types.KnownTypes.{KnownTypes}
 use Rattle.pddl_reader.specs.declared.resolution.types.TypeTables.{TypeTables}
 use Rattle.pddl_syntax.specs.Forms.{name_forms, name_group_form, name_groups}
+use Rattle.pddl_syntax.specs.declared.dialect.Dialect.{Dialect}
 use Rattle.pddl_syntax.specs.Keywords.{object_word}
 use Rattle.pddl_syntax.specs.Optional.{guard, through}
 use Rattle.pddl_syntax.specs.Syntax.{NameGroup}
-use Rattle.pddl_reader.specs.TypeOrder.{TypeNames, TypeParents, numbered, under, declared_under, tables_of, type_declared, parent_numbered, group_declared, object_alone, types_declared, parent_name, parent_number, parents_of, is_tree, is_under_itself, numbers_cycle, names_cycle, declares_cycle, ordered, types_of}
+use Rattle.pddl_reader.specs.TypeOrder.{TypeNames, TypeParents, numbered, under, counts_as_parent, declared_under, tables_of, type_declared, parent_numbered, group_declared, object_alone, types_declared, parent_name, parent_number, parents_of, is_tree, is_under_itself, numbers_cycle, names_cycle, declares_cycle, ordered, types_of}
 use Rattle.pddl_reader.proofs.Items.{item_steps}
 use Rattle.pddl_reader.proofs.TableSteps.{value_unnamed, value_numbered}
 use Rattle.pddl_syntax.proofs.Guards.{guard_held}
@@ -43,60 +44,67 @@ not_numbered names name h = by (number_named names name) h
 
 pub ruleset number_steps = (number_again, number_many, number_new, not_numbered)
 
-pub under_again : (parents : TypeParents) (name parent key known : List ℕ) (number : ℕ) → number_named parents name ≡ Some number →
-    slice_get parents number ≡ Some (key, known) → bytes_eq known parent ≡ true → declared_under parents name parent ≡ Some parents
-unfolding declared_under under guard
-under_again parents name parent key known number h e is = rw (value_numbered parents name key number known h e, is) refl
+pub under_idle : (dialect : Dialect) (parents : TypeParents) (name parent : List ℕ) → counts_as_parent dialect parent ≡ false →
+    declared_under dialect parents name parent ≡ Some parents
+unfolding declared_under
+under_idle dialect parents name parent idle = rw idle refl
 
-pub under_otherwise : (parents : TypeParents) (name parent key known : List ℕ) (number : ℕ) → number_named parents name ≡ Some number →
-    slice_get parents number ≡ Some (key, known) → bytes_eq known parent ≡ false → declared_under parents name parent ≡ None
+pub under_again : (dialect : Dialect) (parents : TypeParents) (name parent key known : List ℕ) (number : ℕ) → counts_as_parent dialect parent ≡ true →
+    number_named parents name ≡ Some number → slice_get parents number ≡ Some (key, known) → bytes_eq known parent ≡ true →
+    declared_under dialect parents name parent ≡ Some parents
 unfolding declared_under under guard
-under_otherwise parents name parent key known number h e is = rw (value_numbered parents name key number known h e, is) refl
+under_again dialect parents name parent key known number counts h e is = rw (counts, value_numbered parents name key number known h e, is) refl
 
-pub under_new : (parents : TypeParents) (name parent : List ℕ) → number_named parents name ≡ None →
-    declared_under parents name parent ≡ Some (parents ++ (name, parent) ∷ [])
+pub under_otherwise : (dialect : Dialect) (parents : TypeParents) (name parent key known : List ℕ) (number : ℕ) → counts_as_parent dialect parent ≡ true →
+    number_named parents name ≡ Some number → slice_get parents number ≡ Some (key, known) → bytes_eq known parent ≡ false →
+    declared_under dialect parents name parent ≡ None
+unfolding declared_under under guard
+under_otherwise dialect parents name parent key known number counts h e is = rw (counts, value_numbered parents name key number known h e, is) refl
+
+pub under_new : (dialect : Dialect) (parents : TypeParents) (name parent : List ℕ) → counts_as_parent dialect parent ≡ true → number_named parents name ≡ None →
+    declared_under dialect parents name parent ≡ Some (parents ++ (name, parent) ∷ [])
 unfolding declared_under under
-under_new parents name parent h = rw (value_unnamed parents name h) refl
+under_new dialect parents name parent counts h = rw (counts, value_unnamed parents name h) refl
 
-pub ruleset under_steps = (under_again, under_otherwise, under_new)
+pub ruleset under_steps = (under_idle, under_again, under_otherwise, under_new)
 
-pub type_unordered : (parent : List ℕ) (tables : TypeTables) (word : List ℕ) → declared_under tables.parents (folded word) (folded parent) ≡ None →
-    type_declared parent tables word ≡ None
+pub type_unordered : (dialect : Dialect) (parent : List ℕ) (tables : TypeTables) (word : List ℕ) → declared_under dialect tables.parents (folded word) (folded parent) ≡ None →
+    type_declared dialect parent tables word ≡ None
 unfolding type_declared tables_of
-type_unordered parent tables word h = by (numbered tables.names (folded word))
+type_unordered dialect parent tables word h = by (numbered tables.names (folded word))
   where
-    by : (names : Option TypeNames) → tables_of names (declared_under tables.parents (folded word) (folded parent)) ≡ None
+    by : (names : Option TypeNames) → tables_of names (declared_under dialect tables.parents (folded word) (folded parent)) ≡ None
     by None = refl
     by (Some names) = rw h refl
 
-pub type_unnumbered : (parent : List ℕ) (tables : TypeTables) (word : List ℕ) → numbered tables.names (folded word) ≡ None → type_declared parent tables word ≡ None
+pub type_unnumbered : (dialect : Dialect) (parent : List ℕ) (tables : TypeTables) (word : List ℕ) → numbered tables.names (folded word) ≡ None → type_declared dialect parent tables word ≡ None
 unfolding type_declared tables_of
-type_unnumbered parent tables word h = rw h refl
+type_unnumbered dialect parent tables word h = rw h refl
 
-pub type_both : (parent : List ℕ) (tables : TypeTables) (word : List ℕ) (names : TypeNames) (parents : TypeParents) →
-    numbered tables.names (folded word) ≡ Some names → declared_under tables.parents (folded word) (folded parent) ≡ Some parents →
-    type_declared parent tables word ≡ Some (record { names = names; parents = parents })
+pub type_both : (dialect : Dialect) (parent : List ℕ) (tables : TypeTables) (word : List ℕ) (names : TypeNames) (parents : TypeParents) →
+    numbered tables.names (folded word) ≡ Some names → declared_under dialect tables.parents (folded word) (folded parent) ≡ Some parents →
+    type_declared dialect parent tables word ≡ Some (record { names = names; parents = parents })
 unfolding type_declared tables_of
-type_both parent tables word names parents h e = rw (h, e) refl
+type_both dialect parent tables word names parents h e = rw (h, e) refl
 
 pub ruleset type_steps = (type_unordered, type_unnumbered, type_both)
 
-pub group_undeclared : (tables : TypeTables) (g : groups.NameGroup) → through (type_declared g.kind.text.now) tables (name_forms g.names.items) ≡ None →
-    group_declared tables (name_group_form g) ≡ None
+pub group_undeclared : (dialect : Dialect) (tables : TypeTables) (g : groups.NameGroup) → through (type_declared dialect g.kind.text.now) tables (name_forms g.names.items) ≡ None →
+    group_declared dialect tables (name_group_form g) ≡ None
 unfolding group_declared parent_numbered
-group_undeclared tables g h = rw h refl
+group_undeclared dialect tables g h = rw h refl
 
-pub group_unnumbered : (tables between : TypeTables) (g : groups.NameGroup) →
-    through (type_declared g.kind.text.now) tables (name_forms g.names.items) ≡ Some between → numbered between.names (folded g.kind.text.now) ≡ None →
-    group_declared tables (name_group_form g) ≡ None
+pub group_unnumbered : (dialect : Dialect) (tables between : TypeTables) (g : groups.NameGroup) →
+    through (type_declared dialect g.kind.text.now) tables (name_forms g.names.items) ≡ Some between → numbered between.names (folded g.kind.text.now) ≡ None →
+    group_declared dialect tables (name_group_form g) ≡ None
 unfolding group_declared parent_numbered tables_of
-group_unnumbered tables between g h e = rw (h, e) refl
+group_unnumbered dialect tables between g h e = rw (h, e) refl
 
-pub group_both : (tables between : TypeTables) (g : groups.NameGroup) (names : TypeNames) →
-    through (type_declared g.kind.text.now) tables (name_forms g.names.items) ≡ Some between → numbered between.names (folded g.kind.text.now) ≡ Some names →
-    group_declared tables (name_group_form g) ≡ Some (record { names = names; parents = between.parents })
+pub group_both : (dialect : Dialect) (tables between : TypeTables) (g : groups.NameGroup) (names : TypeNames) →
+    through (type_declared dialect g.kind.text.now) tables (name_forms g.names.items) ≡ Some between → numbered between.names (folded g.kind.text.now) ≡ Some names →
+    group_declared dialect tables (name_group_form g) ≡ Some (record { names = names; parents = between.parents })
 unfolding group_declared parent_numbered tables_of
-group_both tables between g names h e = rw (h, e) refl
+group_both dialect tables between g names h e = rw (h, e) refl
 
 pub ruleset group_steps = (group_undeclared, group_unnumbered, group_both)
 
@@ -122,9 +130,9 @@ parent_known tables name number h = rw h refl
 
 pub ruleset parent_number_steps = (parent_unknown, parent_known)
 
-pub declared_all : (groups : List NameGroup) → types_declared groups ≡ through group_declared object_alone groups
+pub declared_all : (dialect : Dialect) (groups : List NameGroup) → types_declared dialect groups ≡ through (group_declared dialect) object_alone groups
 unfolding types_declared
-declared_all groups = refl
+declared_all dialect groups = refl
 
 -- there are types, and no more than the limit
 pub record AreFew (tables : TypeTables) : Type 0 where
@@ -152,16 +160,16 @@ tables-few (Some ns) (Some ps) more few h =
     let same : record { names = ns; parents = ps } ≡ more = cc in
     rw (← same) (record { some = (few ns refl).0; few = (few ns refl).1 })
 
-type-few : (parent : List ℕ) (tables : TypeTables) (word : List ℕ) (more : TypeTables) → AreFew tables → type_declared parent tables word ≡ Some more → AreFew more
+type-few : (dialect : Dialect) (parent : List ℕ) (tables : TypeTables) (word : List ℕ) (more : TypeTables) → AreFew tables → type_declared dialect parent tables word ≡ Some more → AreFew more
 unfolding type_declared
-type-few parent tables word more few h =
-    tables-few (numbered tables.names (folded word)) (declared_under tables.parents (folded word) (folded parent)) more
+type-few dialect parent tables word more few h =
+    tables-few (numbered tables.names (folded word)) (declared_under dialect tables.parents (folded word) (folded parent)) more
     (λ ns e. numbered-few tables.names ns (folded word) few.some few.few e) h
 
-group-few : (tables : TypeTables) (group : NameGroup) (more : TypeTables) → AreFew tables → group_declared tables group ≡ Some more → AreFew more
+group-few : (dialect : Dialect) (tables : TypeTables) (group : NameGroup) (more : TypeTables) → AreFew tables → group_declared dialect tables group ≡ Some more → AreFew more
 unfolding group_declared parent_numbered
-group-few tables group more few h =
-    by (through (type_declared group.type) tables group.names) (λ t e. through_keeps AreFew (type_declared group.type) (type-few group.type) tables group.names t few e) h
+group-few dialect tables group more few h =
+    by (through (type_declared dialect group.type) tables group.names) (λ t e. through_keeps AreFew (type_declared dialect group.type) (type-few dialect group.type) tables group.names t few e) h
   where
     by : (next : Option TypeTables) → ((t : TypeTables) → next ≡ Some t → AreFew t) → parent_numbered group.type next ≡ Some more → AreFew more
     by None kept e = cc
@@ -169,13 +177,13 @@ group-few tables group more few h =
         let few_t = kept t refl in
         tables-few (numbered t.names (folded group.type)) (Some t.parents) more (λ ns k. numbered-few t.names ns (folded group.type) few_t.some few_t.few k) e
 
-pub declared-few : (groups : List NameGroup) (tables : TypeTables) → types_declared groups ≡ Some tables → AreFew tables
+pub declared-few : (dialect : Dialect) (groups : List NameGroup) (tables : TypeTables) → types_declared dialect groups ≡ Some tables → AreFew tables
 unfolding types_declared
-declared-few groups tables h =
-    through_keeps AreFew group_declared group-few object_alone groups tables (record { some = omega arith; few = omega arith }) h
+declared-few dialect groups tables h =
+    through_keeps AreFew (group_declared dialect) (group-few dialect) object_alone groups tables (record { some = omega arith; few = omega arith }) h
 
-pub few_declared : (groups : List NameGroup) (tables : TypeTables) → types_declared groups ≡ Some tables → length tables.names ≤ 1025
-few_declared groups tables h = (declared-few groups tables h).few
+pub few_declared : (dialect : Dialect) (groups : List NameGroup) (tables : TypeTables) → types_declared dialect groups ≡ Some tables → length tables.names ≤ 1025
+few_declared dialect groups tables h = (declared-few dialect groups tables h).few
 
 pub ruleset declared_steps = (declared_all, few_declared)
 
@@ -199,24 +207,24 @@ parents_item tables front i key value h = rw (entry_at tables.names i (key, valu
 
 pub ruleset parents_steps = (parents_start, parents_item, drop_all, append-nil)
 
-pub types_undeclared : (groups : List NameGroup) → types_declared groups ≡ None → types_of groups ≡ None
+pub types_undeclared : (dialect : Dialect) (groups : List NameGroup) → types_declared dialect groups ≡ None → types_of dialect groups ≡ None
 unfolding types_of ordered
-types_undeclared groups h = rw h refl
+types_undeclared dialect groups h = rw h refl
 
-pub types_unordered : (groups : List NameGroup) (tables : TypeTables) → types_declared groups ≡ Some tables →
-    guard (is_tree (parents_of tables)) (Some (parents_of tables)) ≡ None → types_of groups ≡ None
+pub types_unordered : (dialect : Dialect) (groups : List NameGroup) (tables : TypeTables) → types_declared dialect groups ≡ Some tables →
+    guard (is_tree (parents_of tables)) (Some (parents_of tables)) ≡ None → types_of dialect groups ≡ None
 unfolding types_of ordered guard
-types_unordered groups tables h e = rw h (by (is_tree (parents_of tables)) e)
+types_unordered dialect groups tables h e = rw h (by (is_tree (parents_of tables)) e)
   where
     by : (test : Bool) → guard test (Some (parents_of tables)) ≡ None →
         guard {A = KnownTypes} test (Some (record { names = tables.names; parents = parents_of tables })) ≡ None
     by true k = cc
     by false k = refl
 
-pub types_ordered : (groups : List NameGroup) (tables : TypeTables) (order : List ℕ) → types_declared groups ≡ Some tables →
-    guard (is_tree (parents_of tables)) (Some (parents_of tables)) ≡ Some order → types_of groups ≡ Some (record { names = tables.names; parents = order })
+pub types_ordered : (dialect : Dialect) (groups : List NameGroup) (tables : TypeTables) (order : List ℕ) → types_declared dialect groups ≡ Some tables →
+    guard (is_tree (parents_of tables)) (Some (parents_of tables)) ≡ Some order → types_of dialect groups ≡ Some (record { names = tables.names; parents = order })
 unfolding types_of ordered guard
-types_ordered groups tables order h e =
+types_ordered dialect groups tables order h e =
     let held = guard_held (is_tree (parents_of tables)) (parents_of tables) order e in
     rw (h, held.0, held.1) refl
 
@@ -243,14 +251,26 @@ no_word test = refl
 
 pub ruleset cycle_word_steps = (item_steps, any_word, no_word)
 
-pub any_group : (names : TypeNames) (parents : List ℕ) (g : groups.NameGroup) (gs : List groups.NameGroup) →
-    list_any (declares_cycle names parents) (name_groups (g ∷ gs))
-    ≡ (list_any (names_cycle names parents) (name_forms g.names.items) || list_any (declares_cycle names parents) (name_groups gs))
-unfolding name_groups declares_cycle
-any_group names parents g gs = refl
+pub group_idle : (dialect : Dialect) (names : TypeNames) (parents : List ℕ) (g : groups.NameGroup) → counts_as_parent dialect (folded g.kind.text.now) ≡ false →
+    declares_cycle dialect names parents (name_group_form g) ≡ false
+unfolding declares_cycle
+group_idle dialect names parents g idle = rw idle refl
 
-pub no_group : (names : TypeNames) (parents : List ℕ) → list_any (declares_cycle names parents) (name_groups []) ≡ false
+pub group_counted : (dialect : Dialect) (names : TypeNames) (parents : List ℕ) (g : groups.NameGroup) → counts_as_parent dialect (folded g.kind.text.now) ≡ true →
+    declares_cycle dialect names parents (name_group_form g) ≡ list_any (names_cycle names parents) (name_forms g.names.items)
+unfolding declares_cycle
+group_counted dialect names parents g counts = rw counts refl
+
+pub ruleset group_cycle_steps = (group_idle, group_counted)
+
+pub any_group : (dialect : Dialect) (names : TypeNames) (parents : List ℕ) (g : groups.NameGroup) (gs : List groups.NameGroup) →
+    list_any (declares_cycle dialect names parents) (name_groups (g ∷ gs))
+    ≡ (declares_cycle dialect names parents (name_group_form g) || list_any (declares_cycle dialect names parents) (name_groups gs))
 unfolding name_groups
-no_group names parents = refl
+any_group dialect names parents g gs = refl
+
+pub no_group : (dialect : Dialect) (names : TypeNames) (parents : List ℕ) → list_any (declares_cycle dialect names parents) (name_groups []) ≡ false
+unfolding name_groups
+no_group dialect names parents = refl
 
 pub ruleset cycle_group_steps = (item_steps, any_group, no_group)

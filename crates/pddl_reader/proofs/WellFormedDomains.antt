@@ -7,7 +7,6 @@ use Rattle.std.specs.List.{list_all}
 use Rattle.std.specs.Option.{option_map}
 use Rattle.std.specs.Map.{keys_of, values_of}
 use Rattle.pddl_words.specs.Words.{folded}
-use Rattle.strips_task.specs.declared.actions.Action.{Action}
 use Rattle.strips_task.specs.declared.actions.Cond.{Cond}
 use Rattle.strips_task.specs.declared.actions.Formula.TheVariants as asked
 use Rattle.strips_task.specs.declared.actions.Pattern.{Pattern}
@@ -17,16 +16,21 @@ use Rattle.strips_task.specs.Names.{are_distinct}
 use Rattle.strips_task.specs.Types.{IsTypeTree}
 use Rattle.strips_task.specs.WellFormed.{are_variables, is_pattern, is_known, is_formula, is_action}
 use Rattle.strips_task.proofs.NameNumbers.{entries_distinct}
+use Rattle.plan_cost.specs.declared.amounts.Amount.{Amount}
+use Rattle.pddl_reader.specs.declared.resolution.actions.ActionTables.{ActionTables}
+use Rattle.pddl_reader.specs.declared.resolution.actions.CostedAction.{CostedAction}
 use Rattle.pddl_reader.specs.declared.resolution.actions.Effects.{Effects}
+use Rattle.pddl_syntax.specs.declared.dialect.Dialect.{Dialect}
 use Rattle.pddl_syntax.specs.Optional.{guard, followed_by}
-use Rattle.pddl_reader.specs.Declarations.{Predicates, may_declare, declared, pattern_of, condition, term_named, equality_by, condition_of, conditions_of, is_positive, changed_pattern}
+use Rattle.pddl_reader.specs.Declarations.{Predicates, may_declare, declared, pattern_of, condition, term_named, equality_by, condition_of, conditions_of, Known}
 use Rattle.pddl_reader.specs.Variables.{Parameters, places_of, parameters_of}
-use Rattle.pddl_reader.proofs.FittingAtoms.{known_of, pattern_fits, changed_fits}
+use Rattle.pddl_reader.proofs.FittingAtoms.{known_of, vocabulary_of, pattern_fits}
 use Rattle.pddl_reader.proofs.KnownTerms.{term_known}
 use Rattle.pddl_reader.proofs.KeptVariables.{places_kept, parameters_kept, parameters_paired}
 use Rattle.pddl_reader.proofs.Through.{through_keeps}
-use Rattle.pddl_reader.specs.Domain.{DomainValue, declared_predicate, known_by, action_by, with_predicate, predicates_from, no_effects, lone_effect, both_effects, effects_before, effects_of, action_with, action_meant, Actions, declared_action, with_action_of, actions_from, head, head_typed, head_of, domain_value, domain_with, bare_task}
+use Rattle.pddl_reader.specs.Domain.{DomainValue, declared_predicate, vocabulary_by, action_by, with_predicate, predicates_from, may_have, with_function, functions_from, no_effects, changed, with_change, increased, with_effect, effects_of, action_doing, action_with, action_meant, Actions, no_actions, tables_with, declared_action, with_action_of, actions_from, head, head_typed, head_of, domain_value, domain_with, bare_task}
 use Rattle.pddl_reader.specs.Domains.{IsDomain}
+use Rattle.pddl_reader.specs.Functions.{with_increase}
 use Rattle.pddl_reader.specs.Objects.{Objects, objects_from}
 use Rattle.pddl_reader.specs.TypeOrder.{types_of}
 use Rattle.pddl_reader.specs.declared.resolution.domain.Head.{Head}
@@ -84,6 +88,24 @@ kept_predicates : (parents : List ℕ) (types : List (List ℕ)) → length type
 unfolding predicates_from
 kept_predicates parents types is table ps more kept h =
     through_keeps (λ t. IsKept (are_variables parents) t) (with_predicate types) (predicate_kept parents types is) table ps more kept h
+
+guard_some : {A : Type 0} (test : Bool) (value : Option A) (found : A) → guard test value ≡ Some found → value ≡ Some found
+unfolding guard
+guard_some true value found h = h
+guard_some false value found h = cc
+
+function_kept : (parents : List ℕ) (types : List (List ℕ)) → length types ≡ length parents → (table : Predicates) (f : PredicateForm) (more : Predicates) →
+    IsKept (are_variables parents) table → with_function types table f ≡ Some more → IsKept (are_variables parents) more
+unfolding with_function
+function_kept parents types is table f more kept h =
+    predicate_kept parents types is table f more kept (guard_some (may_have (folded f.name) f.variables) (with_predicate types table f) more h)
+
+-- functions are declared in order
+kept_functions : (parents : List ℕ) (types : List (List ℕ)) → length types ≡ length parents → (table : Predicates) (fs : List PredicateForm) (more : Predicates) →
+    IsKept (are_variables parents) table → functions_from types table fs ≡ Some more → IsKept (are_variables parents) more
+unfolding functions_from
+kept_functions parents types is table fs more kept h =
+    through_keeps (λ t. IsKept (are_variables parents) t) (with_function types) (function_kept parents types is) table fs more kept h
 
 condition_fits_by : (task : TaskParts) (params : List (List ℕ)) (positive : Bool) (pattern : Option Pattern) (c : Cond) →
     ((p : Pattern) → pattern ≡ Some p → is_pattern task params p ≡ true) → option_map (condition positive) pattern ≡ Some c → is_formula task params c.formula ≡ true
@@ -147,81 +169,106 @@ record AreFitting (task : TaskParts) (q : Parameters) (effects : Effects) : Type
   adds : list_all (is_pattern task q.types) effects.add ≡ true
   dels : list_all (is_pattern task q.types) effects.del ≡ true
 
-lone_fits_by : (task : TaskParts) (q : Parameters) (positive : Bool) (p : Pattern) (e : Effects) → is_pattern task q.types p ≡ true → AreFitting task q e →
-    AreFitting task q (both_effects (lone_effect positive p) e)
-unfolding both_effects lone_effect
-lone_fits_by task q true p e fit rest = record { adds = rw (fit, rest.adds) refl; dels = rest.dels }
-lone_fits_by task q false p e fit rest = record { adds = rest.adds; dels = rw (fit, rest.dels) refl }
+changed_fits : (task : TaskParts) (q : Parameters) (e : Effects) (positive : Bool) (p : Pattern) → is_pattern task q.types p ≡ true → AreFitting task q e →
+    AreFitting task q (changed e positive p)
+unfolding changed
+changed_fits task q e true p fit rest =
+    record { adds = rw (list_all-append (is_pattern task q.types) e.add (p ∷ []), rest.adds, fit) refl; dels = rest.dels }
+changed_fits task q e false p fit rest =
+    record { adds = rest.adds; dels = rw (list_all-append (is_pattern task q.types) e.del (p ∷ []), rest.dels, fit) refl }
 
-effects_fit_by : (task : TaskParts) (q : Parameters) (positive : Bool) (pattern : Option Pattern) (es : Option Effects) (all : Effects) →
-    ((p : Pattern) → pattern ≡ Some p → is_pattern task q.types p ≡ true) →
-    ((e : Effects) → es ≡ Some e → AreFitting task q e) →
-    effects_before positive pattern es ≡ Some all → AreFitting task q all
-unfolding effects_before
-effects_fit_by task q positive None es all first rest h = cc
-effects_fit_by task q positive (Some p) None all first rest h = cc
-effects_fit_by task q positive (Some p) (Some e) all first rest h =
+change_fits : (task : TaskParts) (q : Parameters) (e : Effects) (positive : Bool) (pattern : Option Pattern) (more : Effects) →
+    ((p : Pattern) → pattern ≡ Some p → is_pattern task q.types p ≡ true) → AreFitting task q e → with_change e positive pattern ≡ Some more →
+    AreFitting task q more
+unfolding with_change
+change_fits task q e positive None more fits rest h = cc
+change_fits task q e positive (Some p) more fits rest h =
     let P : Effects → Type 0 = λ e. AreFitting task q e in
-    let is : both_effects (lone_effect positive p) e ≡ all = cc in
-    subst P is (lone_fits_by task q positive p e (first p refl) (rest e refl))
+    let is : changed e positive p ≡ more = cc in
+    subst P is (changed_fits task q e positive p (fits p refl) rest)
 
-effects_fit : (task : TaskParts) (q : Parameters) (ls : List LiteralForm) (es : Effects) → effects_of (known_of task) q ls ≡ Some es → AreFitting task q es
-unfolding effects_of no_effects
-effects_fit task q [] es h =
+increase_fits : (task : TaskParts) (q : Parameters) (e : Effects) (increases : Option (List Amount)) (more : Effects) → AreFitting task q e →
+    option_map (increased e) increases ≡ Some more → AreFitting task q more
+increase_fits task q e None more rest h = cc
+increase_fits task q e (Some increases) more rest h =
     let P : Effects → Type 0 = λ e. AreFitting task q e in
-    let e : no_effects ≡ es = cc in
-    subst P e none_fit
-  where
-    none_fit : AreFitting task q no_effects
-    none_fit = record { adds = refl; dels = refl }
-effects_fit task q (l ∷ ls) es h =
-    effects_fit_by task q (is_positive l) (changed_pattern (known_of task) q l) (effects_of (known_of task) q ls) es (changed_fits task q l) (λ xs e. effects_fit task q ls xs e) h
+    let is : increased e increases ≡ more = cc in
+    subst P is (record { adds = rest.adds; dels = rest.dels })
 
-action_fits_by : (task : TaskParts) (q : Parameters) (pre : Option (List Cond)) (es : Option Effects) (action : Action) → are_variables task.parents q.types ≡ true →
+effect_fits : (task : TaskParts) (functions : Known) (q : Parameters) (e : Effects) (l : LiteralForm) (more : Effects) → AreFitting task q e →
+    with_effect (vocabulary_of task functions) q e l ≡ Some more → AreFitting task q more
+unfolding with_effect
+effect_fits task functions q e (atom_literal positive atom) more rest h =
+    change_fits task q e positive (pattern_of (known_of task) q atom) more (pattern_fits task q atom) rest h
+effect_fits task functions q e (equality_literal positive sides) more rest h = cc
+effect_fits task functions q e (increase_literal amount) more rest h =
+    increase_fits task q e (with_increase (vocabulary_of task functions) q e.increases amount) more rest h
+effect_fits task functions q e (value_literal value) more rest h = cc
+
+effects_fit : (task : TaskParts) (functions : Known) (q : Parameters) (ls : List LiteralForm) (es : Effects) →
+    effects_of (vocabulary_of task functions) q ls ≡ Some es → AreFitting task q es
+unfolding effects_of
+effects_fit task functions q ls es h =
+    through_keeps (λ e. AreFitting task q e) (with_effect (vocabulary_of task functions) q) (effect_fits task functions q) no_effects ls es
+    (record { adds = refl; dels = refl }) h
+
+action_fits_by : (task : TaskParts) (q : Parameters) (pre : Option (List Cond)) (es : Option Effects) (meant : CostedAction) → are_variables task.parents q.types ≡ true →
     ((cs : List Cond) → pre ≡ Some cs → list_all (λ c. is_formula task q.types c.formula) cs ≡ true) →
     ((e : Effects) → es ≡ Some e → AreFitting task q e) →
-    action_with q.types pre es ≡ Some action → is_action task action ≡ true
+    action_with q.types pre es ≡ Some meant → is_action task meant.action ≡ true
 unfolding action_with is_action
-action_fits_by task q None es action typed pres effs h = cc
-action_fits_by task q (Some cs) None action typed pres effs h = cc
-action_fits_by task q (Some cs) (Some e) action typed pres effs h =
-    let P : Action → Type 0 = λ a. is_action task a ≡ true in
-    let is : record { params = q.types; pre = cs; add = e.add; del = e.del } ≡ action = cc in
+action_fits_by task q None es meant typed pres effs h = cc
+action_fits_by task q (Some cs) None meant typed pres effs h = cc
+action_fits_by task q (Some cs) (Some e) meant typed pres effs h =
+    let P : CostedAction → Type 0 = λ a. is_action task a.action ≡ true in
+    let is : action_doing q.types cs e ≡ meant = cc in
     let fit = effs e refl in
     subst P is (rw (typed, pres cs refl, fit.adds, fit.dels) refl)
 
-action_fits_with : (task : TaskParts) (a : ActionForm) (q : Option Parameters) (action : Action) → ((r : Parameters) → q ≡ Some r → are_variables task.parents r.types ≡ true) →
-    ((r : Parameters) → q ≡ Some r → IsPaired r) → action_by (known_of task) a q ≡ Some action → is_action task action ≡ true
+action_fits_with : (task : TaskParts) (functions : Known) (a : ActionForm) (q : Option Parameters) (meant : CostedAction) →
+    ((r : Parameters) → q ≡ Some r → are_variables task.parents r.types ≡ true) →
+    ((r : Parameters) → q ≡ Some r → IsPaired r) → action_by (vocabulary_of task functions) a q ≡ Some meant → is_action task meant.action ≡ true
 unfolding action_by
-action_fits_with task a None action typed paired h = cc
-action_fits_with task a (Some q) action typed paired h =
-    action_fits_by task q (conditions_of (known_of task) q a.precondition) (effects_of (known_of task) q a.effect) action (typed q refl)
-    (conditions_fit task q (paired q refl) a.precondition) (effects_fit task q a.effect) h
+action_fits_with task functions a None meant typed paired h = cc
+action_fits_with task functions a (Some q) meant typed paired h =
+    action_fits_by task q (conditions_of (known_of task) q a.precondition) (effects_of (vocabulary_of task functions) q a.effect) meant (typed q refl)
+    (conditions_fit task q (paired q refl) a.precondition) (effects_fit task functions q a.effect) h
 
-action_fits : (task : TaskParts) (types : List (List ℕ)) → length types ≡ length task.parents → (a : ActionForm) (action : Action) →
-    action_meant types (known_of task) a ≡ Some action → is_action task action ≡ true
+action_fits : (task : TaskParts) (functions : Known) (types : List (List ℕ)) → length types ≡ length task.parents → (a : ActionForm) (meant : CostedAction) →
+    action_meant types (vocabulary_of task functions) a ≡ Some meant → is_action task meant.action ≡ true
 unfolding action_meant
-action_fits task types is a action h =
-    action_fits_with task a (parameters_of types a.parameters) action (λ r e. parameters_kept task.parents types a.parameters r is e)
+action_fits task functions types is a meant h =
+    action_fits_with task functions a (parameters_of types a.parameters) meant (λ r e. parameters_kept task.parents types a.parameters r is e)
     (λ r e. parameters_paired task.parents types a.parameters r is e) h
 
-declared_action_kept : (task : TaskParts) (table more : Actions) (name : List ℕ) (action : Option Action) →
-    ((a : Action) → action ≡ Some a → is_action task a ≡ true) → IsKept (is_action task) table → declared_action table name action ≡ Some more → IsKept (is_action task) more
+declared_action_kept : (task : TaskParts) (tables more : ActionTables) (name : List ℕ) (meant : Option CostedAction) →
+    ((a : CostedAction) → meant ≡ Some a → is_action task a.action ≡ true) → IsKept (is_action task) tables.actions →
+    declared_action tables name meant ≡ Some more → IsKept (is_action task) more.actions
 unfolding declared_action
-declared_action_kept task table more name None fits kept h = cc
-declared_action_kept task table more name (Some a) fits kept h = kept_declared (is_action task) table more name a kept (fits a refl) h
+declared_action_kept task tables more name None fits kept h = cc
+declared_action_kept task tables more name (Some a) fits kept h = by (declared 4096 tables.actions name a.action) refl h
+  where
+    by : (found : Option Actions) → declared 4096 tables.actions name a.action ≡ found → option_map (tables_with tables a) found ≡ Some more →
+        IsKept (is_action task) more.actions
+    by None e k = cc
+    by (Some actions) e k =
+        let P : ActionTables → Type 0 = λ t. IsKept (is_action task) t.actions in
+        let same : tables_with tables a actions ≡ more = cc in
+        subst P same (kept_declared (is_action task) tables.actions actions name a.action kept (fits a refl) e)
 
-action_kept : (task : TaskParts) (types : List (List ℕ)) → length types ≡ length task.parents → (table : Actions) (a : ActionForm) (more : Actions) →
-    IsKept (is_action task) table → with_action_of types (known_of task) table a ≡ Some more → IsKept (is_action task) more
+action_kept : (task : TaskParts) (functions : Known) (types : List (List ℕ)) → length types ≡ length task.parents →
+    (tables : ActionTables) (a : ActionForm) (more : ActionTables) →
+    IsKept (is_action task) tables.actions → with_action_of types (vocabulary_of task functions) tables a ≡ Some more → IsKept (is_action task) more.actions
 unfolding with_action_of
-action_kept task types is table a more kept h =
-    declared_action_kept task table more (folded a.name) (action_meant types (known_of task) a) (action_fits task types is a) kept h
+action_kept task functions types is tables a more kept h =
+    declared_action_kept task tables more (folded a.name) (action_meant types (vocabulary_of task functions) a) (action_fits task functions types is a) kept h
 
-kept_actions : (task : TaskParts) (types : List (List ℕ)) → length types ≡ length task.parents → (table : Actions) (forms : List ActionForm) (more : Actions) →
-    IsKept (is_action task) table → actions_from types (known_of task) table forms ≡ Some more → IsKept (is_action task) more
+kept_actions : (task : TaskParts) (functions : Known) (types : List (List ℕ)) → length types ≡ length task.parents →
+    (tables : ActionTables) (forms : List ActionForm) (more : ActionTables) →
+    IsKept (is_action task) tables.actions → actions_from types (vocabulary_of task functions) tables forms ≡ Some more → IsKept (is_action task) more.actions
 unfolding actions_from
-kept_actions task types is table forms more kept h =
-    through_keeps (λ t. IsKept (is_action task) t) (with_action_of types (known_of task)) (action_kept task types is) table forms more kept h
+kept_actions task functions types is tables forms more kept h =
+    through_keeps (λ t. IsKept (is_action task) t.actions) (with_action_of types (vocabulary_of task functions)) (action_kept task functions types is) tables forms more kept h
 
 -- what a domain declares before its predicates is well formed
 pub record IsHead (head : Head) : Type 0 where
@@ -230,9 +277,10 @@ pub record IsHead (head : Head) : Type 0 where
   pub types_named : length (keys_of head.types) ≡ length head.parents
   pub objects : AreObjects (length head.parents) head.objects
 
-well_formed : (head : Head) (predicates : Predicates) (actions : Actions) → IsHead head → IsKept (are_variables head.parents) predicates →
-    IsKept (is_action (bare_task (domain_value head predicates actions))) actions → IsDomain (domain_value head predicates actions)
-well_formed head predicates actions h p a = record {
+well_formed : (head : Head) (predicates functions : Predicates) (tables : ActionTables) → IsHead head → IsKept (are_variables head.parents) predicates →
+    IsKept (are_variables head.parents) functions →
+    IsKept (is_action (bare_task (domain_value head predicates functions tables))) tables.actions → IsDomain (domain_value head predicates functions tables)
+well_formed head predicates functions tables h p f a = record {
   fits = record {
     types_form_a_tree = h.tree;
     few_types = h.few_types;
@@ -249,30 +297,35 @@ well_formed head predicates actions h p a = record {
     goal_fits = refl;
   };
   types_named = h.types_named;
+  few_functions = f.few;
 }
 
-domain_by_actions : (head : Head) (predicates : Predicates) (actions : Option Actions) (d : DomainValue) → IsHead head →
-    IsKept (are_variables head.parents) predicates →
-    ((t : Actions) → actions ≡ Some t → IsKept (is_action (bare_task (domain_value head predicates t))) t) →
-    option_map (domain_value head predicates) actions ≡ Some d → IsDomain d
-domain_by_actions head predicates None d is kept fits h = cc
-domain_by_actions head predicates (Some t) d is kept fits h =
+domain_by_actions : (head : Head) (predicates functions : Predicates) (tables : Option ActionTables) (d : DomainValue) → IsHead head →
+    IsKept (are_variables head.parents) predicates → IsKept (are_variables head.parents) functions →
+    ((t : ActionTables) → tables ≡ Some t → IsKept (is_action (bare_task (domain_value head predicates functions t))) t.actions) →
+    option_map (domain_value head predicates functions) tables ≡ Some d → IsDomain d
+domain_by_actions head predicates functions None d is kept kept_too fits h = cc
+domain_by_actions head predicates functions (Some t) d is kept kept_too fits h =
     let P : DomainValue → Type 0 = λ d. IsDomain d in
-    let e : domain_value head predicates t ≡ d = cc in
-    subst P e (well_formed head predicates t is kept (fits t refl))
+    let e : domain_value head predicates functions t ≡ d = cc in
+    subst P e (well_formed head predicates functions t is kept kept_too (fits t refl))
 
-actions_kept : (head : Head) (predicates : Predicates) (forms : List ActionForm) (actions : Actions) → IsHead head →
-    actions_from (keys_of head.types) (known_by head predicates) [] forms ≡ Some actions → IsKept (is_action (bare_task (domain_value head predicates actions))) actions
-actions_kept head predicates forms actions is h =
-    kept_actions (bare_task (domain_value head predicates actions)) (keys_of head.types) is.types_named [] forms actions
-    (record { distinct = no_names_distinct; few = omega arith; passed = refl }) h
+actions_kept : (head : Head) (predicates functions : Predicates) (forms : List ActionForm) (tables : ActionTables) → IsHead head →
+    actions_from (keys_of head.types) (vocabulary_by head predicates functions) no_actions forms ≡ Some tables →
+    IsKept (is_action (bare_task (domain_value head predicates functions tables))) tables.actions
+actions_kept head predicates functions forms tables is h =
+    kept_actions (bare_task (domain_value head predicates functions tables)) (vocabulary_by head predicates functions).functions (keys_of head.types) is.types_named no_actions
+    forms tables (record { distinct = no_names_distinct; few = omega arith; passed = refl }) h
 
-domain_by_predicates : (domain : DomainForm) (head : Head) (predicates : Option Predicates) (d : DomainValue) → IsHead head →
-    ((p : Predicates) → predicates ≡ Some p → IsKept (are_variables head.parents) p) → domain_with domain head predicates ≡ Some d → IsDomain d
+domain_by_tables : (domain : DomainForm) (head : Head) (predicates functions : Option Predicates) (d : DomainValue) → IsHead head →
+    ((p : Predicates) → predicates ≡ Some p → IsKept (are_variables head.parents) p) →
+    ((f : Predicates) → functions ≡ Some f → IsKept (are_variables head.parents) f) → domain_with domain head predicates functions ≡ Some d → IsDomain d
 unfolding domain_with
-domain_by_predicates domain head None d is kept h = cc
-domain_by_predicates domain head (Some p) d is kept h =
-    domain_by_actions head p (actions_from (keys_of head.types) (known_by head p) [] domain.actions) d is (kept p refl) (λ t e. actions_kept head p domain.actions t is e) h
+domain_by_tables domain head None functions d is kept kept_too h = cc
+domain_by_tables domain head (Some p) None d is kept kept_too h = cc
+domain_by_tables domain head (Some p) (Some f) d is kept kept_too h =
+    domain_by_actions head p f (actions_from (keys_of head.types) (vocabulary_by head p f) no_actions domain.actions) d is (kept p refl) (kept_too f refl)
+    (λ t e. actions_kept head p f domain.actions t is e) h
 
 head_by_objects : (name : List ℕ) (types : KnownTypes) (objects : Option Objects) (found : Head) → AreKnown types →
     ((o : Objects) → objects ≡ Some o → AreObjects (length types.parents) o) → option_map (head name types) objects ≡ Some found → IsHead found
@@ -290,25 +343,28 @@ head_by_types domain (Some t) found known h =
     head_by_objects domain.name t (objects_from (keys_of t.names) [] domain.constants) found k
     (λ o e. objects_kept (length t.parents) (keys_of t.names) [] domain.constants o k.named (no_objects (length t.parents)) e) h
 
-pub head_well_formed : (domain : DomainForm) (head : Head) → head_of domain ≡ Some head → IsHead head
+pub head_well_formed : (dialect : Dialect) (domain : DomainForm) (head : Head) → head_of dialect domain ≡ Some head → IsHead head
 unfolding head_of
-head_well_formed domain head h = head_by_types domain (types_of domain.types) head (known_types domain.types) h
+head_well_formed dialect domain head h = head_by_types domain (types_of dialect domain.types) head (known_types dialect domain.types) h
 
-pub head_types_few : (domain : DomainForm) (head : Head) → head_of domain ≡ Some head → length head.types ≤ 1025
-head_types_few domain head h =
-    let is = head_well_formed domain head h in
+pub head_types_few : (dialect : Dialect) (domain : DomainForm) (head : Head) → head_of dialect domain ≡ Some head → length head.types ≤ 1025
+head_types_few dialect domain head h =
+    let is = head_well_formed dialect domain head h in
     let keys : length (keys_of head.types) ≡ length head.types = length-map head.types (λ (e : List ℕ × Unit {0}). e.0) in
     let named : length (keys_of head.types) ≡ length head.parents = is.types_named in
     let few : length head.parents ≤ 1025 = is.few_types in
     omega arith
 
-pub head_objects_few : (domain : DomainForm) (head : Head) → head_of domain ≡ Some head → length head.objects ≤ 65535
-head_objects_few domain head h = (head_well_formed domain head h).objects.few
+pub head_objects_few : (dialect : Dialect) (domain : DomainForm) (head : Head) → head_of dialect domain ≡ Some head → length head.objects ≤ 65535
+head_objects_few dialect domain head h = (head_well_formed dialect domain head h).objects.few
 
 -- the domain that syntax stands for is well formed
-pub domain_well_formed : (domain : DomainForm) (head : Head) (predicates : Option Predicates) (d : DomainValue) → head_of domain ≡ Some head →
-    predicates ≡ predicates_from (keys_of head.types) [] domain.predicates → domain_with domain head predicates ≡ Some d → IsDomain d
-domain_well_formed domain head predicates d h is e =
-    let well = head_well_formed domain head h in
-    domain_by_predicates domain head predicates d well
-    (λ p k. kept_predicates head.parents (keys_of head.types) well.types_named [] domain.predicates p (record { distinct = no_names_distinct; few = omega arith; passed = refl }) (sym is ∙ k)) e
+pub domain_well_formed : (dialect : Dialect) (domain : DomainForm) (head : Head) (predicates functions : Option Predicates) (d : DomainValue) →
+    head_of dialect domain ≡ Some head → predicates ≡ predicates_from (keys_of head.types) [] domain.predicates →
+    functions ≡ functions_from (keys_of head.types) [] domain.functions → domain_with domain head predicates functions ≡ Some d → IsDomain d
+domain_well_formed dialect domain head predicates functions d h is too e =
+    let well = head_well_formed dialect domain head h in
+    let none : IsKept (are_variables head.parents) [] = record { distinct = no_names_distinct; few = omega arith; passed = refl } in
+    domain_by_tables domain head predicates functions d well
+    (λ p k. kept_predicates head.parents (keys_of head.types) well.types_named [] domain.predicates p none (sym is ∙ k))
+    (λ f k. kept_functions head.parents (keys_of head.types) well.types_named [] domain.functions f none (sym too ∙ k)) e

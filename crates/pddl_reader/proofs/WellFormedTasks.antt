@@ -1,6 +1,7 @@
 -- A task that the syntax of a problem stands for beside a domain is well formed.
 
-use Rattle.std.proofs.Common.{◌≡◌, ℕ, Bool, true, false, List, [], ◌∷◌, Option, Some, None, refl, subst, if◌then◌else◌}
+use Rattle.std.proofs.Common.{◌≡◌, ℕ, ◌++◌, Bool, true, false, List, [], ◌∷◌, Option, Some, None, refl, subst}
+use Rattle.std.proofs.lemmas.List.Folds.{list_all-append}
 use Rattle.std.specs.List.{list_all}
 use Rattle.std.specs.Option.{option_map}
 use Rattle.strips_task.specs.declared.atoms.Atom.{Atom}
@@ -9,12 +10,15 @@ use Rattle.strips_task.specs.declared.atoms.GroundFormula.TheVariants as asked
 use Rattle.strips_task.specs.declared.tasks.TaskParts.{TaskParts}
 use Rattle.strips_task.specs.WellFormed.{IsWellFormed, term_types, is_pattern, is_object, is_known, is_formula, is_atom, is_ground_formula, is_action}
 use Rattle.pddl_syntax.specs.Optional.{followed_by}
-use Rattle.pddl_reader.specs.Declarations.{ground_of, object_number, is_positive}
+use Rattle.pddl_reader.specs.declared.resolution.initial.InitialState.{InitialState}
+use Rattle.pddl_reader.specs.Declarations.{Known, ground_of, object_number}
 use Rattle.pddl_reader.specs.Domain.{DomainValue, bare_task}
-use Rattle.pddl_reader.specs.Problem.{known_in, ground_condition, ground_equality_by, ground_condition_of, ground_conditions_of, initial_before, initial_atom, initial_of, task_named}
+use Rattle.pddl_reader.specs.Functions.{with_value_of}
+use Rattle.pddl_reader.specs.Problem.{vocabulary_in, ground_condition, ground_equality_by, ground_condition_of, ground_conditions_of, no_initial, with_atom, given_atoms, given_values, with_initial, initial_of, task_named}
 use Rattle.pddl_syntax.specs.Syntax.{LiteralForm, atom_literal, equality_literal, increase_literal, value_literal}
-use Rattle.pddl_reader.proofs.FittingAtoms.{known_of, atom_fits, initial_fits}
+use Rattle.pddl_reader.proofs.FittingAtoms.{known_of, vocabulary_of, atom_fits}
 use Rattle.pddl_reader.proofs.KnownTerms.{object_known}
+use Rattle.pddl_reader.proofs.Through.{through_keeps}
 
 ground_fits_by : (task : TaskParts) (positive : Bool) (atom : Option Atom) (c : GroundCond) → ((a : Atom) → atom ≡ Some a → is_atom task a ≡ true) →
     option_map (ground_condition positive) atom ≡ Some c → is_ground_formula task c.formula ≡ true
@@ -66,38 +70,60 @@ grounds_fit task [] cs h =
 grounds_fit task (l ∷ ls) cs h =
     grounds_fit_by task (ground_condition_of (known_of task) l) (ground_conditions_of (known_of task) ls) cs (ground_fits task l) (λ xs e. grounds_fit task ls xs e) h
 
-initial_fit_as : (task : TaskParts) (positive : Bool) (a : Atom) (more : Option (List Atom)) (all : List Atom) → is_atom task a ≡ true →
-    ((xs : List Atom) → more ≡ Some xs → list_all (is_atom task) xs ≡ true) →
-    (if positive then followed_by (Some a) more else more) ≡ Some all → list_all (is_atom task) all ≡ true
-unfolding followed_by
-initial_fit_as task true a None all fit rest h = cc
-initial_fit_as task true a (Some xs) all fit rest h =
+-- the initial atoms fit
+abbrev AreAtoms : TaskParts → InitialState → Type 0
+AreAtoms task initial = list_all (is_atom task) initial.atoms ≡ true
+
+atom_behind : (task : TaskParts) (atoms more : List Atom) (positive : Bool) (atom : Option Atom) → ((a : Atom) → atom ≡ Some a → is_atom task a ≡ true) →
+    list_all (is_atom task) atoms ≡ true → with_atom atoms positive atom ≡ Some more → list_all (is_atom task) more ≡ true
+unfolding with_atom
+atom_behind task atoms more positive None fits all h = cc
+atom_behind task atoms more true (Some a) fits all h =
     let P : List Atom → Type 0 = λ xs. list_all (is_atom task) xs ≡ true in
-    let e : a ∷ xs ≡ all = cc in
-    subst P e (rw (fit, rest xs refl) refl)
-initial_fit_as task false a more all fit rest h = rest all h
+    let e : atoms ++ a ∷ [] ≡ more = cc in
+    subst P e (rw (list_all-append (is_atom task) atoms (a ∷ []), all, fits a refl) refl)
+atom_behind task atoms more false (Some a) fits all h =
+    let P : List Atom → Type 0 = λ xs. list_all (is_atom task) xs ≡ true in
+    let e : atoms ≡ more = cc in
+    subst P e all
 
-initial_fit_by : (task : TaskParts) (positive : Bool) (atom : Option Atom) (more : Option (List Atom)) (all : List Atom) →
-    ((a : Atom) → atom ≡ Some a → is_atom task a ≡ true) →
-    ((xs : List Atom) → more ≡ Some xs → list_all (is_atom task) xs ≡ true) →
-    initial_before positive atom more ≡ Some all → list_all (is_atom task) all ≡ true
-unfolding initial_before
-initial_fit_by task positive None more all first rest h = cc
-initial_fit_by task positive (Some a) more all first rest h = initial_fit_as task positive a more all (first a refl) rest h
+with_atoms : (task : TaskParts) (initial more : InitialState) (atoms : Option (List Atom)) →
+    ((xs : List Atom) → atoms ≡ Some xs → list_all (is_atom task) xs ≡ true) → option_map (given_atoms initial) atoms ≡ Some more → AreAtoms task more
+with_atoms task initial more None fits h = cc
+with_atoms task initial more (Some xs) fits h =
+    let P : InitialState → Type 0 = λ i. AreAtoms task i in
+    let e : given_atoms initial xs ≡ more = cc in
+    subst P e (fits xs refl)
 
-initial_fit : (task : TaskParts) (ls : List LiteralForm) (atoms : List Atom) → initial_of (known_of task) ls ≡ Some atoms → list_all (is_atom task) atoms ≡ true
+with_values : (task : TaskParts) (initial more : InitialState) (values : Option (List (Atom × ℕ))) → AreAtoms task initial →
+    option_map (given_values initial) values ≡ Some more → AreAtoms task more
+with_values task initial more None all h = cc
+with_values task initial more (Some values) all h =
+    let P : InitialState → Type 0 = λ i. AreAtoms task i in
+    let e : given_values initial values ≡ more = cc in
+    subst P e all
+
+literal_fits : (task : TaskParts) (functions : Known) (initial : InitialState) (l : LiteralForm) (more : InitialState) → AreAtoms task initial →
+    with_initial (vocabulary_of task functions) initial l ≡ Some more → AreAtoms task more
+unfolding with_initial
+literal_fits task functions initial (atom_literal positive atom) more all h =
+    with_atoms task initial more (with_atom initial.atoms positive (ground_of (known_of task) atom))
+    (λ xs e. atom_behind task initial.atoms xs positive (ground_of (known_of task) atom) (atom_fits task atom) all e) h
+literal_fits task functions initial (equality_literal positive sides) more all h = cc
+literal_fits task functions initial (increase_literal amount) more all h = cc
+literal_fits task functions initial (value_literal value) more all h =
+    with_values task initial more (with_value_of functions initial.values value) all h
+
+initial_fit : (task : TaskParts) (functions : Known) (ls : List LiteralForm) (initial : InitialState) →
+    initial_of (vocabulary_of task functions) ls ≡ Some initial → AreAtoms task initial
 unfolding initial_of
-initial_fit task [] atoms h =
-    let P : List Atom → Type 0 = λ xs. list_all (is_atom task) xs ≡ true in
-    let e : [] ≡ atoms = cc in
-    subst P e refl
-initial_fit task (l ∷ ls) atoms h =
-    initial_fit_by task (is_positive l) (initial_atom (known_of task) l) (initial_of (known_of task) ls) atoms (initial_fits task l) (λ xs e. initial_fit task ls xs e) h
+initial_fit task functions ls initial h =
+    through_keeps (λ i. AreAtoms task i) (with_initial (vocabulary_of task functions)) (literal_fits task functions) no_initial ls initial refl h
 
 -- what fits in a task of the domain fits whatever the problem gives
-pub task_well_formed : (domain : DomainValue) (problem : List ℕ) (initial goals : List LiteralForm) (init : List Atom) (goal : List GroundCond) →
-    IsWellFormed (bare_task domain) → initial_of (known_in domain) initial ≡ Some init → ground_conditions_of (known_in domain) goals ≡ Some goal →
-    IsWellFormed (task_named domain problem init goal)
+pub task_well_formed : (domain : DomainValue) (problem : List ℕ) (initial goals : List LiteralForm) (init : InitialState) (goal : List GroundCond) →
+    IsWellFormed (bare_task domain) → initial_of (vocabulary_in domain) initial ≡ Some init →
+    ground_conditions_of (vocabulary_in domain).atoms goals ≡ Some goal → IsWellFormed (task_named domain problem init.atoms goal)
 unfolding is_action is_formula is_known is_object is_pattern term_types
 task_well_formed domain problem initial goals init goal wf i g = record {
   types_form_a_tree = wf.types_form_a_tree;
@@ -111,6 +137,6 @@ task_well_formed domain problem initial goals init goal wf i g = record {
   objects_typed = wf.objects_typed;
   predicates_typed = wf.predicates_typed;
   actions_fit = wf.actions_fit;
-  initial_atoms_fit = initial_fit (task_named domain problem init goal) initial init i;
-  goal_fits = grounds_fit (task_named domain problem init goal) goals goal g;
+  initial_atoms_fit = initial_fit (task_named domain problem init.atoms goal) (vocabulary_in domain).functions initial init i;
+  goal_fits = grounds_fit (task_named domain problem init.atoms goal) goals goal g;
 }

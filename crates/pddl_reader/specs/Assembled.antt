@@ -2,17 +2,19 @@
 
 use Rattle.std.specs.Map.{keys_of}
 use Rattle.strips_task.specs.declared.tasks.TaskParts.{TaskParts}
+use Rattle.plan_cost.specs.declared.costs.CostedTask.{CostedTask}
 use Rattle.pddl_reader.specs.declared.resolution.domain.Head.{Head}
 use Rattle.pddl_reader.specs.declared.resolution.domain.Rest.{Rest}
 use Rattle.pddl_reader.specs.declared.resolution.domain.Tables.{Tables}
 use Rattle.pddl_reader.specs.declared.resolution.problem.Given.{Given}
 use Rattle.pddl_reader.specs.Domain.{DomainValue, domain_value}
+use Rattle.pddl_reader.specs.Functions.{costs_of}
 use Rattle.pddl_reader.specs.Objects.{Objects}
 use Rattle.pddl_reader.specs.Problem.{task_named}
 
 -- a domain of these parts
 abbrev pub domain_assembled : Head → Tables → DomainValue
-domain_assembled head tables = domain_value head tables.predicates tables.actions
+domain_assembled head tables = domain_value head tables.predicates tables.functions tables.actions
 
 -- a domain of its objects and the rest of it
 abbrev pub domain_joined : Rest → Objects → DomainValue
@@ -22,9 +24,18 @@ domain_joined rest objects = record {
   parents = rest.parents;
   objects = objects;
   predicates = rest.predicates;
+  functions = rest.functions;
   actions = rest.actions;
+  increases = rest.increases;
 }
 
 -- a task of a domain and what a problem gives
 abbrev pub task_assembled : DomainValue → Given → TaskParts
-task_assembled domain given = task_named domain given.problem given.init given.goal
+task_assembled domain given = task_named domain given.problem given.init.atoms given.goal
+
+-- the same, with what it says about costs
+abbrev pub costed_assembled : DomainValue → Given → CostedTask
+costed_assembled domain given = record {
+  task = task_assembled domain given;
+  costs = costs_of domain.functions domain.increases given.init.values;
+}

@@ -1,6 +1,6 @@
 -- Tables of declared names, and the atoms that use them.
 
-use Rattle.std.specs.Prelude.{if◌then◌else◌, ℕ, Bool, true, false, ◌&&◌, nat_eq, nat_lt, is_none, List, [], ◌∷◌, ◌++◌, length, slice_get, Option, Some, None}
+use Rattle.std.specs.Prelude.{if◌then◌else◌, ℕ, Bool, false, ◌&&◌, nat_eq, nat_lt, is_none, List, [], ◌∷◌, ◌++◌, length, slice_get, Option, Some, None}
 use Rattle.std.specs.Option.{option_map}
 use Rattle.std.specs.Map.{values_of}
 use Rattle.pddl_words.specs.Words.{folded}
@@ -137,20 +137,6 @@ condition_of known parameters (equality_literal positive sides) =
     equality_by positive (term_named known parameters sides.left) (term_named known parameters sides.right)
 condition_of known parameters (increase_literal amount) = None
 condition_of known parameters (value_literal value) = None
-
--- whether a literal is not negated
-unfoldable pub is_positive : LiteralForm → Bool
-is_positive (atom_literal positive atom) = positive
-is_positive (equality_literal positive sides) = positive
-is_positive (increase_literal amount) = true
-is_positive (value_literal value) = true
-
--- the pattern that a literal of an effect adds or deletes; a literal that is no atom changes none
-unfoldable pub changed_pattern : Known → Parameters → LiteralForm → Option Pattern
-changed_pattern known parameters (atom_literal positive atom) = pattern_of known parameters atom
-changed_pattern known parameters (equality_literal positive sides) = None
-changed_pattern known parameters (increase_literal amount) = None
-changed_pattern known parameters (value_literal value) = None
 
 -- the conditions that literals stand for, in text order
 unfoldable pub conditions_of : Known → Parameters → List LiteralForm → Option (List Cond)

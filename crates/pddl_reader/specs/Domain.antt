@@ -1,32 +1,41 @@
 -- The domain that syntax stands for (PDDL 2.1, Fox and Long 2003, sections 2 and 3; the limits are this validator's choice).
 
-use Rattle.std.specs.Prelude.{ℕ, Bool, List, [], ◌∷◌, ◌++◌, Option, Some, None, if◌then◌else◌}
+use Rattle.std.specs.Prelude.{ℕ, Bool, true, false, not, List, [], ◌∷◌, ◌++◌, Option, Some, None}
 use Rattle.std.specs.Map.{keys_of}
 use Rattle.std.specs.Option.{option_map}
+use Rattle.std.specs.Str.{bytes_eq}
 use Rattle.pddl_words.specs.Words.{folded}
 use Rattle.strips_task.specs.declared.actions.Action.{Action}
 use Rattle.strips_task.specs.declared.actions.Cond.{Cond}
 use Rattle.strips_task.specs.declared.actions.Pattern.{Pattern}
 use Rattle.strips_task.specs.declared.tasks.TaskParts.{TaskParts}
 use Rattle.strips_task.specs.WellFormed.{most_predicates, most_actions}
+use Rattle.plan_cost.specs.declared.amounts.Amount.{Amount}
+use Rattle.pddl_reader.specs.declared.resolution.actions.ActionTables.{ActionTables}
+use Rattle.pddl_reader.specs.declared.resolution.actions.CostedAction.{CostedAction}
 use Rattle.pddl_reader.specs.declared.resolution.actions.Effects.{Effects}
 use Rattle.pddl_reader.specs.declared.resolution.domain.Head.{Head}
 use Rattle.pddl_reader.specs.declared.resolution.types.KnownTypes.{KnownTypes}
+use Rattle.pddl_reader.specs.Functions.{Vocabulary, vocabulary, with_increase}
 use Rattle.pddl_reader.specs.Objects.{Objects, objects_from}
 use Rattle.pddl_reader.specs.TypeOrder.{types_of}
-use Rattle.pddl_reader.specs.Declarations.{Predicates, declared, Known, is_positive, changed_pattern, conditions_of}
-use Rattle.pddl_syntax.specs.Optional.{through}
+use Rattle.pddl_reader.specs.Declarations.{Predicates, declared, pattern_of, conditions_of}
+use Rattle.pddl_syntax.specs.declared.dialect.Dialect.{Dialect}
+use Rattle.pddl_syntax.specs.Keywords.{total_cost_word}
+use Rattle.pddl_syntax.specs.Optional.{guard, through}
 use Rattle.pddl_reader.specs.Variables.{Parameters, parameters_of, places_of}
-use Rattle.pddl_syntax.specs.Syntax.{LiteralForm, PredicateForm, ActionForm, DomainForm}
+use Rattle.pddl_syntax.specs.Syntax.{VariableGroup, LiteralForm, atom_literal, equality_literal, increase_literal, value_literal, PredicateForm, ActionForm, DomainForm}
 
--- what a domain gives of a task, and the names of its types
+-- what a domain gives of a task, the names of its types, its functions, and the increases of each action
 pub record DomainValue : Type 0 where
   pub name : List ℕ
   pub types : List (List ℕ)
   pub parents : List ℕ
   pub objects : List (List ℕ × ℕ)
   pub predicates : List (List ℕ × List (List ℕ))
+  pub functions : List (List ℕ × List (List ℕ))
   pub actions : List (List ℕ × Action)
+  pub increases : List (List Amount)
 
 -- the table with an entry, where there are places for it
 unfoldable pub declared_predicate : Predicates → List ℕ → Option (List (List ℕ)) → Option Predicates
@@ -41,60 +50,93 @@ with_predicate types table predicate = declared_predicate table (folded predicat
 unfoldable pub predicates_from : List (List ℕ) → Predicates → List PredicateForm → Option Predicates
 predicates_from types table predicates = through (with_predicate types) table predicates
 
--- what an effect adds and what it deletes, in text order
-unfoldable pub no_effects : Effects
-no_effects = record { add = []; del = [] }
+-- whether a function of this name may have these variables: `total-cost` has none
+unfoldable pub may_have : List ℕ → List VariableGroup → Bool
+may_have name [] = true
+may_have name (group ∷ groups) = not (bytes_eq name total_cost_word)
 
--- one effect: a positive literal adds its pattern, a negated one deletes it
-unfoldable pub lone_effect : Bool → Pattern → Effects
-lone_effect positive pattern = (if positive then record { add = pattern ∷ []; del = [] } else record { add = []; del = pattern ∷ [] })
+-- the table with one more function
+unfoldable pub with_function : List (List ℕ) → Predicates → PredicateForm → Option Predicates
+with_function types table function = guard (may_have (folded function.name) function.variables) (with_predicate types table function)
 
--- effects behind others
-unfoldable pub both_effects : Effects → Effects → Effects
-both_effects first second = record { add = first.add ++ second.add; del = first.del ++ second.del }
+-- the table with more functions, in text order
+unfoldable pub functions_from : List (List ℕ) → Predicates → List PredicateForm → Option Predicates
+functions_from types table functions = through (with_function types) table functions
 
--- one more effect before others, where there are all of them
-unfoldable pub effects_before : Bool → Option Pattern → Option Effects → Option Effects
-effects_before positive None others = None
-effects_before positive (Some pattern) others = option_map (both_effects (lone_effect positive pattern)) others
+-- an action before any effect of it is known
+abbrev pub no_effects : Effects
+no_effects = record { add = []; del = []; increases = [] }
 
--- the effects that literals stand for
-unfoldable pub effects_of : Known → Parameters → List LiteralForm → Option Effects
-effects_of known parameters [] = Some no_effects
-effects_of known parameters (literal ∷ literals) =
-    effects_before (is_positive literal) (changed_pattern known parameters literal) (effects_of known parameters literals)
+-- the effects with one more pattern, which is added (`true`) or deleted
+unfoldable pub changed : Effects → Bool → Pattern → Effects
+changed effects true pattern = record effects { add = effects.add ++ pattern ∷ [] }
+changed effects false pattern = record effects { del = effects.del ++ pattern ∷ [] }
+
+-- the effects with one more pattern, if there is one
+unfoldable pub with_change : Effects → Bool → Option Pattern → Option Effects
+with_change effects positive None = None
+with_change effects positive (Some pattern) = Some (changed effects positive pattern)
+
+-- the effects with these increases
+abbrev pub increased : Effects → List Amount → Effects
+increased effects increases = record effects { increases = increases }
+
+-- the effects with that of one more literal: an atom adds, a negated one deletes, and an increase is one more increase
+unfoldable pub with_effect : Vocabulary → Parameters → Effects → LiteralForm → Option Effects
+with_effect vocabulary parameters effects (atom_literal positive atom) = with_change effects positive (pattern_of vocabulary.atoms parameters atom)
+with_effect vocabulary parameters effects (equality_literal positive sides) = None
+with_effect vocabulary parameters effects (increase_literal amount) =
+    option_map (increased effects) (with_increase vocabulary parameters effects.increases amount)
+with_effect vocabulary parameters effects (value_literal value) = None
+
+-- the effects that literals stand for, in text order
+unfoldable pub effects_of : Vocabulary → Parameters → List LiteralForm → Option Effects
+effects_of vocabulary parameters literals = through (with_effect vocabulary parameters) no_effects literals
 
 -- an action with parameters of these types
-unfoldable pub action_with : List (List ℕ) → Option (List Cond) → Option Effects → Option Action
+abbrev pub action_doing : List (List ℕ) → List Cond → Effects → CostedAction
+action_doing params pre effects = record {
+  action = record { params = params; pre = pre; add = effects.add; del = effects.del };
+  increases = effects.increases;
+}
+
+unfoldable pub action_with : List (List ℕ) → Option (List Cond) → Option Effects → Option CostedAction
 action_with params None effects = None
 action_with params (Some pre) None = None
-action_with params (Some pre) (Some effects) = Some (record { params = params; pre = pre; add = effects.add; del = effects.del })
+action_with params (Some pre) (Some effects) = Some (action_doing params pre effects)
 
-unfoldable pub action_by : Known → ActionForm → Option Parameters → Option Action
-action_by known action None = None
-action_by known action (Some parameters) =
-    action_with parameters.types (conditions_of known parameters action.precondition) (effects_of known parameters action.effect)
+unfoldable pub action_by : Vocabulary → ActionForm → Option Parameters → Option CostedAction
+action_by vocabulary action None = None
+action_by vocabulary action (Some parameters) =
+    action_with parameters.types (conditions_of vocabulary.atoms parameters action.precondition) (effects_of vocabulary parameters action.effect)
 
--- the action that syntax stands for
-unfoldable pub action_meant : List (List ℕ) → Known → ActionForm → Option Action
-action_meant types known action = action_by known action (parameters_of types action.parameters)
+-- the action that syntax stands for, with its increases
+unfoldable pub action_meant : List (List ℕ) → Vocabulary → ActionForm → Option CostedAction
+action_meant types vocabulary action = action_by vocabulary action (parameters_of types action.parameters)
 
 -- the declared actions
 abbrev pub Actions : Type 0
 Actions = List (List ℕ × Action)
 
--- the table with an entry, where there is an action for it
-unfoldable pub declared_action : Actions → List ℕ → Option Action → Option Actions
-declared_action table name None = None
-declared_action table name (Some action) = declared most_actions table name action
+abbrev pub no_actions : ActionTables
+no_actions = record { actions = []; increases = [] }
 
--- the table with one more action
-unfoldable pub with_action_of : List (List ℕ) → Known → Actions → ActionForm → Option Actions
-with_action_of types known table action = declared_action table (folded action.name) (action_meant types known action)
+-- these actions, and the increases of one more action behind those of the others
+abbrev pub tables_with : ActionTables → CostedAction → Actions → ActionTables
+tables_with tables meant actions = record { actions = actions; increases = tables.increases ++ meant.increases ∷ [] }
 
--- the table with more actions, in text order
-unfoldable pub actions_from : List (List ℕ) → Known → Actions → List ActionForm → Option Actions
-actions_from types known table actions = through (with_action_of types known) table actions
+-- the tables with an entry, where there is an action for it
+unfoldable pub declared_action : ActionTables → List ℕ → Option CostedAction → Option ActionTables
+declared_action tables name None = None
+declared_action tables name (Some meant) = option_map (tables_with tables meant) (declared most_actions tables.actions name meant.action)
+
+-- the tables with one more action
+unfoldable pub with_action_of : List (List ℕ) → Vocabulary → ActionTables → ActionForm → Option ActionTables
+with_action_of types vocabulary tables action = declared_action tables (folded action.name) (action_meant types vocabulary action)
+
+-- the tables with more actions, in text order
+unfoldable pub actions_from : List (List ℕ) → Vocabulary → ActionTables → List ActionForm → Option ActionTables
+actions_from types vocabulary tables actions = through (with_action_of types vocabulary) tables actions
 
 -- what a domain declares before its predicates
 abbrev pub head : List ℕ → KnownTypes → Objects → Head
@@ -105,36 +147,42 @@ unfoldable pub head_typed : DomainForm → Option KnownTypes → Option Head
 head_typed domain None = None
 head_typed domain (Some types) = option_map (head domain.name types) (objects_from (keys_of types.names) [] domain.constants)
 
-unfoldable pub head_of : DomainForm → Option Head
-head_of domain = head_typed domain (types_of domain.types)
+unfoldable pub head_of : Dialect → DomainForm → Option Head
+head_of dialect domain = head_typed domain (types_of dialect domain.types)
 
 -- a domain of these parts
-abbrev pub domain_value : Head → Predicates → Actions → DomainValue
-domain_value head predicates actions = record {
+abbrev pub domain_value : Head → Predicates → Predicates → ActionTables → DomainValue
+domain_value head predicates functions tables = record {
   name = head.name;
   types = keys_of head.types;
   parents = head.parents;
   objects = head.objects;
   predicates = predicates;
-  actions = actions;
+  functions = functions;
+  actions = tables.actions;
+  increases = tables.increases;
 }
 
 -- what the actions of a domain may speak of
-abbrev pub known_by : Head → Predicates → Known
-known_by head predicates = record { parents = head.parents; objects = head.objects; predicates = predicates }
+abbrev pub vocabulary_by : Head → Predicates → Predicates → Vocabulary
+vocabulary_by head predicates functions = vocabulary head.parents head.objects predicates functions
 
--- the domain with these predicates
-unfoldable pub domain_with : DomainForm → Head → Option Predicates → Option DomainValue
-domain_with domain head None = None
-domain_with domain head (Some predicates) = option_map (domain_value head predicates) (actions_from (keys_of head.types) (known_by head predicates) [] domain.actions)
+-- the domain with these predicates and functions
+unfoldable pub domain_with : DomainForm → Head → Option Predicates → Option Predicates → Option DomainValue
+domain_with domain head None functions = None
+domain_with domain head (Some predicates) None = None
+domain_with domain head (Some predicates) (Some functions) =
+    option_map (domain_value head predicates functions)
+    (actions_from (keys_of head.types) (vocabulary_by head predicates functions) no_actions domain.actions)
 
 unfoldable pub domain_headed : DomainForm → Option Head → Option DomainValue
 domain_headed domain None = None
-domain_headed domain (Some head) = domain_with domain head (predicates_from (keys_of head.types) [] domain.predicates)
+domain_headed domain (Some head) =
+    domain_with domain head (predicates_from (keys_of head.types) [] domain.predicates) (functions_from (keys_of head.types) [] domain.functions)
 
--- the domain that syntax stands for: types, constants, predicates and actions are declared in turn
-unfoldable pub domain_of : DomainForm → Option DomainValue
-domain_of domain = domain_headed domain (head_of domain)
+-- the domain that syntax stands for: types, constants, predicates, functions and actions are declared in turn
+unfoldable pub domain_of : Dialect → DomainForm → Option DomainValue
+domain_of dialect domain = domain_headed domain (head_of dialect domain)
 
 -- a task of the domain that asks and gives nothing
 abbrev pub bare_task : DomainValue → TaskParts

@@ -1,9 +1,9 @@
 -- What contracts see of a domain that is kept in tables.
 
-use Rattle.std.specs.Prelude.{◌≡◌, length}
+use Rattle.std.specs.Prelude.{◌≡◌, ◌≤◌, length}
 use Rattle.std.specs.Map.{keys_of}
 use Rattle.pddl_reader.specs.declared.resolution.domain.Domain.TheInside.{Inside}
-use Rattle.strips_task.specs.WellFormed.{IsWellFormed}
+use Rattle.strips_task.specs.WellFormed.{IsWellFormed, most_predicates}
 use Rattle.pddl_reader.specs.Domain.{DomainValue, bare_task}
 
 -- the record of what is kept
@@ -14,10 +14,13 @@ domain_kept d = record {
   parents = d.parents;
   objects = d.objects;
   predicates = d.predicates;
+  functions = d.functions;
   actions = d.actions;
+  increases = d.increases;
 }
 
--- what a domain says is well formed, and each type has a name
+-- what a domain says is well formed, each type has a name, and there are few functions
 pub record IsDomain (domain : DomainValue) : Type 0 where
   pub fits : IsWellFormed (bare_task domain)
   pub types_named : length domain.types ≡ length domain.parents
+  pub few_functions : length domain.functions ≤ most_predicates

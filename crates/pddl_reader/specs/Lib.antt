@@ -4,9 +4,11 @@ pub mod TypeOrder
 pub mod Objects
 pub mod Variables
 pub mod Declarations
+pub mod Functions
 pub mod Resolved
 pub mod Domain
 pub mod Domains
 pub mod Problem
 pub mod Texts
 pub mod Assembled
+pub mod DialectLaws

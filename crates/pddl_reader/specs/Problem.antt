@@ -1,15 +1,18 @@
 -- The task that a domain and the syntax of a problem stand for (PDDL 2.1, Fox and Long 2003, section 2).
 
-use Rattle.std.specs.Prelude.{ℕ, Bool, List, [], ◌∷◌, Option, Some, None, if◌then◌else◌}
+use Rattle.std.specs.Prelude.{ℕ, Bool, true, false, List, [], ◌∷◌, ◌++◌, Option, Some, None}
 use Rattle.std.specs.Option.{option_map}
 use Rattle.pddl_words.specs.Words.{folded}
 use Rattle.strips_task.specs.declared.atoms.Atom.{Atom}
 use Rattle.strips_task.specs.declared.atoms.GroundFormula.TheVariants as asked
 use Rattle.strips_task.specs.declared.atoms.GroundCond.{GroundCond}
 use Rattle.strips_task.specs.declared.tasks.TaskParts.{TaskParts}
-use Rattle.pddl_syntax.specs.Optional.{followed_by}
-use Rattle.pddl_reader.specs.Declarations.{Known, ground_of, is_positive, object_number}
+use Rattle.plan_cost.specs.declared.costs.CostedTask.{CostedTask}
+use Rattle.pddl_syntax.specs.Optional.{followed_by, through}
+use Rattle.pddl_reader.specs.declared.resolution.initial.InitialState.{InitialState}
+use Rattle.pddl_reader.specs.Declarations.{Known, ground_of, object_number}
 use Rattle.pddl_reader.specs.Domain.{DomainValue}
+use Rattle.pddl_reader.specs.Functions.{Vocabulary, vocabulary, costs_of, with_value_of}
 use Rattle.pddl_reader.specs.Objects.{Objects, objects_from}
 use Rattle.pddl_syntax.specs.Syntax.{LiteralForm, NameGroup, ProblemForm, atom_literal, equality_literal, increase_literal, value_literal}
 
@@ -36,22 +39,35 @@ unfoldable pub ground_conditions_of : Known → List LiteralForm → Option (Lis
 ground_conditions_of known [] = Some []
 ground_conditions_of known (literal ∷ literals) = followed_by (ground_condition_of known literal) (ground_conditions_of known literals)
 
--- an initial atom before others; a negated one adds nothing
-unfoldable pub initial_before : Bool → Option Atom → Option (List Atom) → Option (List Atom)
-initial_before positive None others = None
-initial_before positive (Some atom) others = (if positive then followed_by (Some atom) others else others)
+-- a problem before any of its initial literals is known
+abbrev pub no_initial : InitialState
+no_initial = record { atoms = []; values = [] }
 
--- the ground atom of an initial literal, where it is one
-unfoldable pub initial_atom : Known → LiteralForm → Option Atom
-initial_atom known (atom_literal positive atom) = ground_of known atom
-initial_atom known (equality_literal positive sides) = None
-initial_atom known (increase_literal amount) = None
-initial_atom known (value_literal value) = None
+-- the initial atoms with one more, if there is one; a negated one adds nothing
+unfoldable pub with_atom : List Atom → Bool → Option Atom → Option (List Atom)
+with_atom atoms positive None = None
+with_atom atoms true (Some atom) = Some (atoms ++ atom ∷ [])
+with_atom atoms false (Some atom) = Some atoms
 
--- the initial atoms that literals stand for, in text order
-unfoldable pub initial_of : Known → List LiteralForm → Option (List Atom)
-initial_of known [] = Some []
-initial_of known (literal ∷ literals) = initial_before (is_positive literal) (initial_atom known literal) (initial_of known literals)
+-- what is given initially, with these atoms
+abbrev pub given_atoms : InitialState → List Atom → InitialState
+given_atoms initial atoms = record initial { atoms = atoms }
+
+-- what is given initially, with these values of functions
+abbrev pub given_values : InitialState → List (Atom × ℕ) → InitialState
+given_values initial values = record initial { values = values }
+
+-- what is given initially, with one more literal: an atom, or the value of a function
+unfoldable pub with_initial : Vocabulary → InitialState → LiteralForm → Option InitialState
+with_initial vocabulary initial (atom_literal positive atom) =
+    option_map (given_atoms initial) (with_atom initial.atoms positive (ground_of vocabulary.atoms atom))
+with_initial vocabulary initial (equality_literal positive sides) = None
+with_initial vocabulary initial (increase_literal amount) = None
+with_initial vocabulary initial (value_literal value) = option_map (given_values initial) (with_value_of vocabulary.functions initial.values value)
+
+-- what the initial literals give, in text order
+unfoldable pub initial_of : Vocabulary → List LiteralForm → Option InitialState
+initial_of vocabulary literals = through (with_initial vocabulary) no_initial literals
 
 -- a task of the domain, with the folded name of the problem
 abbrev pub task_named : DomainValue → List ℕ → List Atom → List GroundCond → TaskParts
@@ -70,10 +86,17 @@ task_named domain problem init goal = record {
 abbrev pub task_value : DomainValue → List ℕ → List Atom → List GroundCond → TaskParts
 task_value domain problem init goal = task_named domain (folded problem) init goal
 
--- the task with these initial atoms and this goal
-unfoldable pub task_with : DomainValue → List ℕ → Option (List Atom) → Option (List GroundCond) → Option TaskParts
+-- a task of the domain, and what it says about costs
+abbrev pub costed_value : DomainValue → List ℕ → InitialState → List GroundCond → CostedTask
+costed_value domain problem initial goal = record {
+  task = task_value domain problem initial.atoms goal;
+  costs = costs_of domain.functions domain.increases initial.values;
+}
+
+-- the task with what is given initially and this goal
+unfoldable pub task_with : DomainValue → List ℕ → Option InitialState → Option (List GroundCond) → Option CostedTask
 task_with domain problem None goal = None
-task_with domain problem (Some init) goal = option_map (task_value domain problem init) goal
+task_with domain problem (Some initial) goal = option_map (costed_value domain problem initial) goal
 
 -- the domain with other objects
 abbrev pub domain_over : DomainValue → Objects → DomainValue
@@ -83,16 +106,16 @@ domain_over domain objects = record domain { objects = objects }
 unfoldable pub domain_extended : DomainValue → List NameGroup → Option DomainValue
 domain_extended domain groups = option_map (domain_over domain) (objects_from domain.types domain.objects groups)
 
--- what the atoms of a problem may speak of
-abbrev pub known_in : DomainValue → Known
-known_in domain = record { parents = domain.parents; objects = domain.objects; predicates = domain.predicates }
+-- what the literals of a problem may speak of
+abbrev pub vocabulary_in : DomainValue → Vocabulary
+vocabulary_in domain = vocabulary domain.parents domain.objects domain.predicates domain.functions
 
 -- the task of a problem beside a domain that has its objects
-unfoldable pub problem_within : ProblemForm → Option DomainValue → Option TaskParts
+unfoldable pub problem_within : ProblemForm → Option DomainValue → Option CostedTask
 problem_within problem None = None
 problem_within problem (Some domain) =
-    task_with domain problem.name (initial_of (known_in domain) problem.init) (ground_conditions_of (known_in domain) problem.goal)
+    task_with domain problem.name (initial_of (vocabulary_in domain) problem.init) (ground_conditions_of (vocabulary_in domain).atoms problem.goal)
 
 -- the task that the syntax stands for, where objects are declared once and the names used are declared
-unfoldable pub problem_of : DomainValue → ProblemForm → Option TaskParts
+unfoldable pub problem_of : DomainValue → ProblemForm → Option CostedTask
 problem_of domain problem = problem_within problem (domain_extended domain problem.objects)

@@ -1,6 +1,6 @@
 -- The types of a domain and their order (PDDL 2.1, Fox and Long 2003, section 2: types form a tree below `object`).
 
-use Rattle.std.specs.Prelude.{◌≡◌, ◌<◌, ◌↔◌, IsTrue, ℕ, zero, suc, Bool, true, false, ◌&&◌, nat_eq, nat_lt, is_some, List, [], ◌∷◌, ◌++◌, map, length, slice_index, Option, Some, None, unwrap_or, if◌then◌else◌}
+use Rattle.std.specs.Prelude.{◌≡◌, ◌<◌, ◌↔◌, IsTrue, ℕ, zero, suc, Bool, true, false, ◌&&◌, nat_eq, nat_lt, not, is_some, List, [], ◌∷◌, ◌++◌, map, length, slice_index, Option, Some, None, unwrap_or, if◌then◌else◌}
 use Rattle.std.specs.List.{list_all, list_any}
 use Rattle.std.specs.Str.{bytes_eq}
 use Rattle.pddl_words.specs.Words.{folded}
@@ -9,6 +9,8 @@ use Rattle.strips_task.specs.Types.{IsTypeTree, ancestor, is_below}
 use Rattle.strips_task.specs.WellFormed.{most_types}
 use Rattle.pddl_reader.specs.declared.resolution.types.KnownTypes.{KnownTypes}
 use Rattle.pddl_reader.specs.declared.resolution.types.TypeTables.{TypeTables}
+use Rattle.pddl_syntax.specs.declared.dialect.Dialect.{Dialect}
+use Rattle.pddl_syntax.specs.declared.dialect.Dialect.TheVariants.{Strips, Ipc}
 use Rattle.pddl_syntax.specs.Keywords.{object_word}
 use Rattle.pddl_syntax.specs.Optional.{guard, through}
 use Rattle.pddl_syntax.specs.Syntax.{NameGroup}
@@ -33,9 +35,16 @@ unfoldable pub under : Option (List ℕ) → TypeParents → List ℕ → List �
 under None parents name parent = Some (parents ++ (name, parent) ∷ [])
 under (Some known) parents name parent = guard (bytes_eq known parent) (Some parents)
 
+-- whether declarations under a parent count. In the larger dialect those under `object` do not: a type without another parent is below
+-- `object` anyway (this validator's choice)
+unfoldable pub counts_as_parent : Dialect → List ℕ → Bool
+counts_as_parent Strips parent = true
+counts_as_parent Ipc parent = not (bytes_eq parent object_word)
+
 -- a type is declared under a parent
-unfoldable pub declared_under : TypeParents → List ℕ → List ℕ → Option TypeParents
-declared_under parents name parent = under (value_named parents name) parents name parent
+unfoldable pub declared_under : Dialect → TypeParents → List ℕ → List ℕ → Option TypeParents
+declared_under dialect parents name parent =
+    (if counts_as_parent dialect parent then under (value_named parents name) parents name parent else Some parents)
 
 unfoldable pub tables_of : Option TypeNames → Option TypeParents → Option TypeTables
 tables_of None parents = None
@@ -43,8 +52,9 @@ tables_of (Some names) None = None
 tables_of (Some names) (Some parents) = Some (record { names = names; parents = parents })
 
 -- a word of a group is numbered, and declared under the parent of the group
-unfoldable pub type_declared : List ℕ → TypeTables → List ℕ → Option TypeTables
-type_declared parent tables word = tables_of (numbered tables.names (folded word)) (declared_under tables.parents (folded word) (folded parent))
+unfoldable pub type_declared : Dialect → List ℕ → TypeTables → List ℕ → Option TypeTables
+type_declared dialect parent tables word =
+    tables_of (numbered tables.names (folded word)) (declared_under dialect tables.parents (folded word) (folded parent))
 
 -- the parent is numbered behind the types under it
 unfoldable pub parent_numbered : List ℕ → Option TypeTables → Option TypeTables
@@ -52,16 +62,16 @@ parent_numbered parent None = None
 parent_numbered parent (Some tables) = tables_of (numbered tables.names (folded parent)) (Some tables.parents)
 
 -- the types of a group are declared
-unfoldable pub group_declared : TypeTables → NameGroup → Option TypeTables
-group_declared tables group = parent_numbered group.type (through (type_declared group.type) tables group.names)
+unfoldable pub group_declared : Dialect → TypeTables → NameGroup → Option TypeTables
+group_declared dialect tables group = parent_numbered group.type (through (type_declared dialect group.type) tables group.names)
 
 -- at first there is `object`, which stands under no type but itself
 abbrev pub object_alone : TypeTables
 object_alone = record { names = (object_word, tt) ∷ []; parents = (object_word, object_word) ∷ [] }
 
 -- the types that groups declare
-unfoldable pub types_declared : List NameGroup → Option TypeTables
-types_declared groups = through group_declared object_alone groups
+unfoldable pub types_declared : Dialect → List NameGroup → Option TypeTables
+types_declared dialect groups = through (group_declared dialect) object_alone groups
 
 -- the name of the parent of a type: `object` where the type is not declared
 unfoldable pub parent_name : TypeParents → List ℕ → List ℕ
@@ -109,8 +119,8 @@ unfoldable pub names_cycle : TypeNames → List ℕ → List ℕ → Bool
 names_cycle names parents word = numbers_cycle parents (number_named names (folded word))
 
 -- whether a group declares a type under itself
-unfoldable pub declares_cycle : TypeNames → List ℕ → NameGroup → Bool
-declares_cycle names parents group = list_any (names_cycle names parents) group.names
+unfoldable pub declares_cycle : Dialect → TypeNames → List ℕ → NameGroup → Bool
+declares_cycle dialect names parents group = counts_as_parent dialect (folded group.type) && list_any (names_cycle names parents) group.names
 
 -- the types with their order, where their parents form a tree
 unfoldable pub ordered : Option TypeTables → Option KnownTypes
@@ -118,5 +128,5 @@ ordered None = None
 ordered (Some tables) = guard (is_tree (parents_of tables)) (Some (record { names = tables.names; parents = parents_of tables }))
 
 -- the types that a domain declares
-unfoldable pub types_of : List NameGroup → Option KnownTypes
-types_of groups = ordered (types_declared groups)
+unfoldable pub types_of : Dialect → List NameGroup → Option KnownTypes
+types_of dialect groups = ordered (types_declared dialect groups)

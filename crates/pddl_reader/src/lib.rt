@@ -1,9 +1,13 @@
-//! Reads PDDL domains and problems (PDDL 2.1, Fox and Long 2003, level 1): STRIPS with types, and negated conditions.
+//! Reads PDDL domains and problems (PDDL 2.1, Fox and Long 2003, level 1): STRIPS with types, and negated conditions. With [`Dialect::Ipc`] also
+//! equality, and functions whose values actions add to `total-cost`.
 //!
 //! ```text
 //! let seed = Seed::new(&RandomState::new(&rt)?);    // the hash of this run; no answer depends on it
 //! let domain = read_domain(alloc, seed, domain_text)?;
 //! let task = read_problem(alloc, domain, problem_text)?;    // a strips_task::Task
+//!
+//! let domain = read_domain_in(alloc, seed, Dialect::Ipc, domain_text)?;
+//! let task = read_problem_in(alloc, Dialect::Ipc, domain, problem_text)?;    // a CostedTask
 //! ```
 //!
 //! A text passes through three layers. The first two are the crate `pddl_syntax`: a pass that finds bad bytes and wrong parentheses, and
@@ -15,7 +19,8 @@ pub mod laws;
 mod readers;
 mod resolution;
 
-pub use pddl_syntax::{FaultKind, ReadFault};
-pub use readers::{read_domain, read_problem};
+pub use pddl_syntax::{Dialect, FaultKind, ReadFault};
+pub use plan_cost::CostedTask;
+pub use readers::{read_domain, read_domain_in, read_problem, read_problem_in};
 pub use resolution::domain::Domain;
 pub use strips_task::Seed;

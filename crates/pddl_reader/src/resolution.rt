@@ -5,6 +5,8 @@
 pub(crate) mod actions;
 pub(crate) mod atoms;
 pub(crate) mod domain;
+pub(crate) mod functions;
+pub(crate) mod initial;
 pub(crate) mod literals;
 pub(crate) mod names;
 pub(crate) mod objects;
@@ -14,3 +16,4 @@ pub(crate) mod tables;
 pub(crate) mod terms;
 pub(crate) mod types;
 pub(crate) mod variables;
+pub(crate) mod vocabulary;

@@ -9,6 +9,7 @@ use Rattle.strips_judge.specs.Verdict.{verdict}
 use Rattle.plan_cost.specs.declared.assessments.Assessment.{Assessment}
 use Rattle.plan_cost.specs.declared.costs.Cost.{Cost}
 use Rattle.plan_cost.specs.declared.costs.Cost.TheVariants.{NotCounted}
+use Rattle.plan_cost.specs.declared.costs.CostedTask.{CostedTask}
 use Rattle.plan_cost.specs.declared.costs.Costs.{Costs}
 use Rattle.plan_cost.specs.Costs.{cost_of}
 
@@ -21,5 +22,5 @@ cost_beside parts (Some costs) plan (Unreadable line) = NotCounted
 cost_beside parts None plan answer = NotCounted
 
 -- the verdict of a plan, and its cost
-abbrev pub assessment : TaskParts → Option Costs → Plan → Assessment
-assessment parts costs plan = record { verdict = verdict parts plan; cost = cost_beside parts costs plan (verdict parts plan) }
+abbrev pub assessment : CostedTask → Plan → Assessment
+assessment task plan = record { verdict = verdict task.task plan; cost = cost_beside task.task task.costs plan (verdict task.task plan) }

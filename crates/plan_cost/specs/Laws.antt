@@ -6,13 +6,14 @@ use Rattle.strips_task.specs.declared.plans.Plan.{Plan}
 use Rattle.strips_task.specs.declared.steps.StepText.{StepText}
 use Rattle.strips_task.specs.declared.tasks.TaskParts.{TaskParts}
 use Rattle.strips_judge.specs.Verdict.{verdict}
+use Rattle.plan_cost.specs.declared.costs.CostedTask.{CostedTask}
 use Rattle.plan_cost.specs.declared.costs.Costs.{Costs}
 use Rattle.plan_cost.specs.Assessments.{assessment}
 use Rattle.plan_cost.specs.Costs.{added, sum_of, initial_cost, step_amounts, steps_cost}
 
--- the verdict of an assessment is that of the plan, whatever is counted
-abbrev pub VerdictIgnoresCosts : TaskParts → Option Costs → Plan → Type 0
-VerdictIgnoresCosts parts costs plan = (assessment parts costs plan).verdict ≡ verdict parts plan
+-- the verdict of an assessment is that of the plan for the task without its costs
+abbrev pub VerdictIgnoresCosts : CostedTask → Plan → Type 0
+VerdictIgnoresCosts task plan = (assessment task plan).verdict ≡ verdict task.task plan
 
 -- what a list of steps costs is what its first steps cost, and the amounts that the others add
 abbrev pub CostsAddUp : TaskParts → Costs → List StepText → List StepText → Type 0

@@ -1,13 +1,12 @@
 //! A plan's verdict, and what it costs.
 ghost use Rattle.std.specs.Prelude.{◌≡◌, IfOk};
-ghost use Rattle.std.specs.Option.{option_copied};
 ghost use Rattle.plan_cost.specs.Assessments.{assessment, cost_beside};
 
 use crate::counting::plan_cost;
-use crate::{Cost, Costs};
+use crate::{Cost, CostedTask};
 use std::alloc::{AllocError, Global};
 use strips_judge::{Verdict, judge};
-use strips_task::{Plan, Task};
+use strips_task::Plan;
 
 /// What is found about a plan.
 #[derive(Debug, Drop)]
@@ -18,18 +17,13 @@ pub struct Assessment {
     pub cost: Cost,
 }
 
-/// Judges a plan, and adds up what it costs if it is valid. `costs` is `None` if the domain declares no `total-cost`.
-pub fn assess(
-    alloc: Global,
-    task: &Task,
-    costs: Option<&Costs>,
-    plan: &Plan,
-) -> Result<Assessment, AllocError>
-    ensures { IfOk result (λ answer. answer ≡ assessment task.now (option_copied costs.entry) plan.now) }
+/// Judges a plan, and adds up what it costs if it is valid and the task counts costs.
+pub fn assess(alloc: Global, task: &CostedTask, plan: &Plan) -> Result<Assessment, AllocError>
+    ensures { IfOk result (λ answer. answer ≡ assessment task.now plan.now) }
 {
-    let verdict = judge(alloc, task, plan)?;
-    let cost = match (costs, &verdict) {
-        (Some(costs), Verdict::Valid { .. }) => plan_cost(alloc, task, costs, plan)?,
+    let verdict = judge(alloc, &task.task, plan)?;
+    let cost = match (&task.costs, &verdict) {
+        (Some(costs), Verdict::Valid { .. }) => plan_cost(alloc, &task.task, costs, plan)?,
         _ => Cost::NotCounted,
     };
     Ok(Assessment { verdict, cost })

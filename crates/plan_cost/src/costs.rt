@@ -3,7 +3,7 @@ ghost use Rattle.std.specs.Prelude.{◌≡◌, ◌≤◌, [], length, slice_get,
 
 use crate::{Amount, FunctionValues, Increases, MOST_INCREASES};
 use std::alloc::Global;
-use strips_task::{Atom, Seed, Seq, ShortSeq};
+use strips_task::{Atom, Seed, Seq, ShortSeq, Task};
 
 /// What a task says about costs, if its domain declares `total-cost`.
 #[derive(Debug, Drop)]
@@ -53,6 +53,15 @@ impl Costs {
             &[]
         }
     }
+}
+
+/// A task, and what it says about costs.
+#[derive(Debug, Drop)]
+pub struct CostedTask {
+    /// The task itself.
+    pub task: Task,
+    /// What it says about costs: `None` if its domain declares no `total-cost`.
+    pub costs: Option<Costs>,
 }
 
 /// What a plan costs.

@@ -1,13 +1,12 @@
 //! What follows from the definition of costs: each law is the contract of a function that does nothing.
-ghost use Rattle.std.specs.Option.{option_copied};
 ghost use Rattle.plan_cost.specs.Laws.{VerdictIgnoresCosts, CostsAddUp, IsSumOfAmounts, IsUndefinedByOne};
 
-use crate::Costs;
+use crate::{CostedTask, Costs};
 use strips_task::{Plan, StepList, Task};
 
-/// The verdict that [`assess`](crate::assess) answers is that of the plan, whatever is counted.
-pub fn verdict_ignores_costs(_task: &Task, _costs: Option<&Costs>, _plan: &Plan)
-    ensures { VerdictIgnoresCosts _task.now (option_copied _costs.entry) _plan.now }
+/// The verdict that [`assess`](crate::assess) answers is that of the plan for the task without its costs.
+pub fn verdict_ignores_costs(_task: &CostedTask, _plan: &Plan)
+    ensures { VerdictIgnoresCosts _task.now _plan.now }
 {}
 
 /// What a list of steps costs is what its first steps cost, and the amounts that the others add.

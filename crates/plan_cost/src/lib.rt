@@ -1,8 +1,8 @@
 //! What a plan costs.
 //!
 //! A domain may count costs: its actions increase `(total-cost)`, by numbers or by values that the problem gives to functions
-//! (PDDL 2.1, Fox and Long 2003, section 4). A reader fills [`Costs`]. [`plan_cost`] adds up what the steps of a plan cost, and [`assess`]
-//! answers that beside the verdict of the plan. No condition can read a cost, so the verdict is that of the task without its costs.
+//! (PDDL 2.1, Fox and Long 2003, section 4). A reader fills [`Costs`], and a task with them is a [`CostedTask`]. [`plan_cost`] adds up what
+//! the steps of a plan cost, and [`assess`] answers that beside the verdict of the plan. No condition can read a cost, so the verdict is that of the task without its costs.
 #![tactic(auto)]
 
 mod amounts;
@@ -15,6 +15,6 @@ mod values;
 
 pub use amounts::{Amount, Increases, MOST_INCREASES};
 pub use assessments::{Assessment, assess};
-pub use costs::{Cost, Costs};
+pub use costs::{Cost, CostedTask, Costs};
 pub use counting::plan_cost;
 pub use values::{FunctionValues, Given};

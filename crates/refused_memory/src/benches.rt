@@ -7,9 +7,10 @@ use crate::desks::is_valid;
 use crate::seen::Seen;
 use crate::tasks::{lamp, light};
 use judge_bench::{Bench, Ended, Open, Owner, WorkFault, work};
+use plan_cost::CostedTask;
 use std::alloc::{AllocError, Global};
 use std::sync::Arc;
-use strips_judge::{Plan, Task};
+use strips_judge::Plan;
 
 /// A bench is made.
 pub(crate) fn bench_row(alloc: Global) -> Seen {
@@ -34,7 +35,7 @@ pub(crate) fn work_row(alloc: Global) -> Seen {
 }
 
 /// A worker judges a plan that is submitted twice.
-fn work_on(alloc: Global, task: &Task, plan: &Arc<Plan>) -> Seen {
+fn work_on(alloc: Global, task: &CostedTask, plan: &Arc<Plan>) -> Seen {
     match Bench::make(alloc, task, 1, 2) {
         Ok((bench, mut owner)) => {
             if !submits_twice(&bench, &mut owner, plan) {
@@ -70,7 +71,7 @@ pub(crate) fn submits(bench: &Bench, owner: &mut Owner, plan: &Arc<Plan>, number
 }
 
 /// A worker judges what waits, and both findings are emitted. Where it is refused memory, another goes on, which finds the job that it handed back.
-fn work_and_emit(alloc: Global, bench: &Bench, owner: &mut Owner, task: &Task) -> Seen
+fn work_and_emit(alloc: Global, bench: &Bench, owner: &mut Owner, task: &CostedTask) -> Seen
     requires seat { SitsAt bench.now owner.old }
     requires task { bench.now.setting.task.value ≡ task.now }
 {
@@ -88,7 +89,7 @@ fn work_and_emit(alloc: Global, bench: &Bench, owner: &mut Owner, task: &Task) -
 }
 
 /// A worker judges what waits. Its seat is handed in, since it holds nothing however it ends.
-fn works(alloc: Global, bench: &Bench, owner: &mut Owner, task: &Task) -> Seen
+fn works(alloc: Global, bench: &Bench, owner: &mut Owner, task: &CostedTask) -> Seen
     requires seat { SitsAt bench.now owner.old }
     requires task { bench.now.setting.task.value ≡ task.now }
     ensures { SitsAt bench.now owner.new }

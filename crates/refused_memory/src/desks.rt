@@ -4,9 +4,9 @@ use crate::seen::Seen;
 use crate::tasks::{Found, found_in, lamp};
 use crate::texts::STEPS;
 use intake_core::{Desk, Finding, Refusal, ReplayFault, Reply, StepsToRun, replay};
+use plan_cost::CostedTask;
 use std::alloc::{AllocError, Global};
 use steps_text::{StepsRefusal, read_steps};
-use strips_judge::Task;
 
 /// A desk is made.
 pub(crate) fn desk_row(alloc: Global) -> Seen {
@@ -32,7 +32,7 @@ pub(crate) fn replay_row(alloc: Global) -> Seen {
 }
 
 /// Replays steps. Where that is refused memory, the replies are the first ones.
-fn replayed(alloc: Global, task: &Task, steps: StepsToRun) -> Seen {
+fn replayed(alloc: Global, task: &CostedTask, steps: StepsToRun) -> Seen {
     match replay(alloc, task, 1, 2, steps) {
         Ok(replies) => {
             Seen::whole_if(are_first(replies.as_slice()) && replies.as_slice().len() == 12)

@@ -10,9 +10,10 @@ use crate::seen::Seen;
 use crate::tasks::{lamp, light};
 use intake_core::{Finding, Refusal};
 use judge_bench::{Bench, Owner, Ticket, WorkerSeat};
+use plan_cost::CostedTask;
 use std::alloc::{AllocError, Global};
 use std::sync::Arc;
-use strips_judge::{Plan, Task};
+use strips_judge::Plan;
 
 /// What the owner of a bench asks, once it took a job and judged it.
 pub(crate) fn owner_row(alloc: Global, makes_calls: bool) -> Seen {
@@ -26,7 +27,7 @@ pub(crate) fn owner_row(alloc: Global, makes_calls: bool) -> Seen {
 }
 
 /// Makes a bench with two slots.
-fn with_owner(alloc: Global, task: &Task, plan: &Arc<Plan>, makes_calls: bool) -> Seen {
+fn with_owner(alloc: Global, task: &CostedTask, plan: &Arc<Plan>, makes_calls: bool) -> Seen {
     match Bench::make(alloc, task, 1, 2) {
         Ok((bench, mut owner)) => {
             if !submits(&bench, &mut owner, plan, 0) {
@@ -43,7 +44,7 @@ fn take_for_owner(
     alloc: Global,
     bench: &Bench,
     owner: &mut Owner,
-    task: &Task,
+    task: &CostedTask,
     plan: &Arc<Plan>,
     makes_calls: bool,
 ) -> Seen
@@ -136,7 +137,7 @@ pub(crate) fn seat_row(alloc: Global, makes_calls: bool) -> Seen {
 }
 
 /// Makes a bench with two slots, and submits a plan twice.
-fn with_seat(alloc: Global, task: &Task, plan: &Arc<Plan>, makes_calls: bool) -> Seen {
+fn with_seat(alloc: Global, task: &CostedTask, plan: &Arc<Plan>, makes_calls: bool) -> Seen {
     match Bench::make(alloc, task, 1, 2) {
         Ok((bench, mut owner)) => {
             if !submits_twice(&bench, &mut owner, plan) {
@@ -153,7 +154,7 @@ fn take_for_worker(
     alloc: Global,
     bench: &Bench,
     owner: &mut Owner,
-    task: &Task,
+    task: &CostedTask,
     makes_calls: bool,
 ) -> Seen
     requires seat { SitsAt bench.now owner.old }

@@ -7,9 +7,10 @@ use crate::desks::is_valid;
 use crate::seen::Seen;
 use crate::tasks::{lamp, light};
 use intake_core::{Desk, Finding, Job, Refusal};
+use plan_cost::CostedTask;
 use std::alloc::{AllocError, Global};
 use std::sync::Arc;
-use strips_judge::{Plan, Task};
+use strips_judge::Plan;
 
 /// What is asked of a desk, once two findings of one job were made.
 pub(crate) fn desk_row(alloc: Global, makes_calls: bool) -> Seen {
@@ -23,7 +24,7 @@ pub(crate) fn desk_row(alloc: Global, makes_calls: bool) -> Seen {
 }
 
 /// Judges the job that a plan will be, twice.
-fn judge_first(alloc: Global, task: &Task, plan: Arc<Plan>, makes_calls: bool) -> Seen {
+fn judge_first(alloc: Global, task: &CostedTask, plan: Arc<Plan>, makes_calls: bool) -> Seen {
     let job = Job {
         number: 0,
         planner: 0,
@@ -41,7 +42,7 @@ fn judge_first(alloc: Global, task: &Task, plan: Arc<Plan>, makes_calls: bool) -
 /// Makes a desk for findings.
 fn with_findings(
     alloc: Global,
-    task: &Task,
+    task: &CostedTask,
     finding: Finding,
     other: Finding,
     makes_calls: bool,

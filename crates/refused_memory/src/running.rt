@@ -11,10 +11,11 @@ use judge_bench::{Findings, Listed, Open, RunFault, Submission, run};
 use judge_engine::Seed;
 use judge_engine::bundle::Bundle;
 use judge_engine::engine::judge_bytes;
+use plan_cost::CostedTask;
 use std::alloc::{AllocError, Global};
 use std::sync::{Arc, Wait};
 use std::thread::Threads;
-use strips_judge::{Plan, Task};
+use strips_judge::Plan;
 
 /// Two plans of one planner are judged by so many workers.
 pub(crate) fn run_row<R: AllocGlobal + Threads + Wait + Sync>(rt: &R, workers: u32) -> Seen
@@ -32,7 +33,7 @@ pub(crate) fn run_row<R: AllocGlobal + Threads + Wait + Sync>(rt: &R, workers: u
 /// Judges two plans of one planner.
 fn run_plans<R: AllocGlobal + Threads + Wait + Sync>(
     rt: &R,
-    task: &Task,
+    task: &CostedTask,
     plans: Vec<Submission>,
     workers: u32,
 ) -> Seen

@@ -6,6 +6,7 @@ use crate::texts::{
     PARK_VEHICLE, PICK_UP_TWICE, TWO,
 };
 use pddl_reader::{Seed, read_domain, read_problem};
+use plan_cost::CostedTask;
 use plan_text::read_plan;
 use std::alloc::{AllocError, Global};
 use std::sync::Arc;
@@ -22,9 +23,12 @@ pub(crate) fn task(alloc: Global, domain: &[u8], problem: &[u8]) -> Result<Task,
     }
 }
 
-/// The task of a lamp that is dark.
-pub(crate) fn lamp(alloc: Global) -> Result<Task, Seen> {
-    task(alloc, LAMP, LAMP_1)
+/// The task of a lamp that is dark, which counts no costs.
+pub(crate) fn lamp(alloc: Global) -> Result<CostedTask, Seen> {
+    match task(alloc, LAMP, LAMP_1) {
+        Ok(task) => Ok(CostedTask { task, costs: None }),
+        Err(seen) => Err(seen),
+    }
 }
 
 /// The task of two blocks.
@@ -106,7 +110,7 @@ fn first(conditions: &CondList) -> u16 {
 /// Plans for the lamp.
 pub(crate) fn lamp_row(alloc: Global) -> Seen {
     match lamp(alloc) {
-        Ok(task) => {
+        Ok(CostedTask { task, .. }) => {
             let light = judged(alloc, &task, LIGHT, Found::Valid { steps: 1 });
             let wanted = Found::Missing {
                 step: 2,

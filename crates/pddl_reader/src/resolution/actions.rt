@@ -1,32 +1,36 @@
 //! What the literals of actions stand for, and the table of actions.
 
-ghost use Rattle.std.specs.Prelude.{◌≡◌, ◌≤◌, length, [], OnOk, Some};
+ghost use Rattle.std.specs.Prelude.{◌≡◌, ◌≤◌, length, OnOk, Some};
 ghost use Rattle.std.specs.Map.{keys_of};
-ghost use Rattle.pddl_reader.specs.Resolved.{known_form, parameters_form};
-ghost use Rattle.pddl_reader.specs.Declarations.{changed_pattern, condition_of, conditions_of, equality_by, term_named};
-ghost use Rattle.pddl_syntax.specs.Forms.{action_forms, action_syntax_form, literal_form};
+ghost use Rattle.pddl_reader.specs.Resolved.{known_form, parameters_form, vocabulary_form};
+ghost use Rattle.pddl_reader.specs.Declarations.{condition_of, conditions_of, equality_by, pattern_of, term_named};
+ghost use Rattle.pddl_syntax.specs.Forms.{action_forms, action_syntax_form, atom_form, literal_form};
 ghost use Rattle.pddl_syntax.specs.Reading.{Gives, Puts};
-ghost use Rattle.pddl_reader.specs.Domain.{action_by, action_meant, actions_from, both_effects, effects_of, lone_effect, with_action_of};
+ghost use Rattle.pddl_reader.specs.Domain.{action_by, action_doing, action_meant, actions_from, changed, effects_of, no_actions, with_action_of, with_change, with_effect};
 
 use crate::resolution::atoms::pattern;
-use crate::resolution::literals::{is_positive, unsupported};
+use crate::resolution::functions::put_increase;
+use crate::resolution::literals::unsupported;
 use crate::resolution::names::{check_new, name};
 use crate::resolution::parts::{part_literals, part_variables};
 use crate::resolution::tables::Declared;
 use crate::resolution::terms::term;
 use crate::resolution::variables::{ActionParameters, parameters};
-use pddl_syntax::{ActionSyntax, EqualitySyntax, LiteralSyntax, Literals, ReadFault};
+use crate::resolution::vocabulary::Vocabulary;
+use pddl_syntax::{ActionSyntax, AtomSyntax, EqualitySyntax, LiteralSyntax, Literals, ReadFault};
+use plan_cost::Increases;
 use std::alloc::{AllocError, Global};
 use strips_task::{Action, Alternatives, Cond, Formula, NameTable, Pattern, Seq};
 
 /// The table of the declared predicates, with the types of which each argument may be.
 pub(crate) type Predicates = NameTable<Seq<Alternatives>>;
 
-/// What an effect adds, and what it deletes.
+/// What an effect adds, what it deletes, and by how much it increases the total cost.
 #[derive(Drop)]
 pub(crate) struct Effects {
     pub(crate) add: Seq<Pattern>,
     pub(crate) del: Seq<Pattern>,
+    pub(crate) increases: Increases,
 }
 
 /// The condition that an equality of an action stands for, or with `positive` false its negation.
@@ -92,28 +96,9 @@ fn conditions(
     Ok(conditions)
 }
 
-/// The pattern that a literal of an effect adds or deletes.
-#[tactic(auto, using(crate::proofs::DeclarationSteps::changed_steps))]
-fn changed_pattern(
-    alloc: Global,
-    known: &Declared<'_>,
-    parameters: &ActionParameters<'_>,
-    literal: &LiteralSyntax<'_>,
-) -> Result<Pattern, ReadFault>
-    requires { length parameters.now.names.items ≤ 32 }
-    ensures { Gives (λ pattern. pattern) result (changed_pattern (known_form known.now) (parameters_form parameters.now) (literal_form literal.now)) }
-{
-    match literal {
-        LiteralSyntax::Atom { atom, .. } => pattern(alloc, known, parameters, atom),
-        LiteralSyntax::Equality { equality, .. } => Err(unsupported(equality.left.span)),
-        LiteralSyntax::Increase(increase) => Err(unsupported(increase.span)),
-        LiteralSyntax::Value(value) => Err(unsupported(value.span)),
-    }
-}
-
-/// Puts one more effect behind the others: it adds a pattern (`positive`) or deletes it.
-fn put_effect(effects: &mut Effects, positive: bool, pattern: Pattern) -> Result<(), AllocError>
-    ensures { OnOk result (effects.new ≡ both_effects effects.old (lone_effect positive pattern)) }
+/// Puts one more pattern behind the others: it is added (`positive`) or deleted.
+fn put_pattern(effects: &mut Effects, positive: bool, pattern: Pattern) -> Result<(), AllocError>
+    ensures { OnOk result (effects.new ≡ changed effects.old positive pattern) }
 {
     if positive {
         effects.add.push(pattern)?;
@@ -123,24 +108,79 @@ fn put_effect(effects: &mut Effects, positive: bool, pattern: Pattern) -> Result
     Ok(())
 }
 
-/// The effects that literals of an action stand for.
-#[tactic(auto, using(crate::proofs::ActionMeaning::effects_steps))]
-fn effect(
+/// Puts what an atom of an effect adds or deletes behind the rest.
+#[tactic(auto, using(crate::proofs::ActionMeaning::change_steps))]
+fn put_change(
     alloc: Global,
     known: &Declared<'_>,
+    parameters: &ActionParameters<'_>,
+    effects: &mut Effects,
+    positive: bool,
+    atom: &AtomSyntax<'_>,
+) -> Result<(), ReadFault>
+    requires { length parameters.now.names.items ≤ 32 }
+    ensures { Puts result (with_change effects.old positive (pattern_of (known_form known.now) (parameters_form parameters.now) (atom_form atom.now))) effects.new }
+{
+    let pattern = pattern(alloc, known, parameters, atom)?;
+    put_pattern(effects, positive, pattern)?;
+    Ok(())
+}
+
+/// Puts what a literal of an effect does behind the rest.
+#[tactic(auto, using(crate::proofs::ActionMeaning::effect_steps))]
+fn put_effect(
+    alloc: Global,
+    vocabulary: &Vocabulary<'_>,
+    parameters: &ActionParameters<'_>,
+    effects: &mut Effects,
+    literal: &LiteralSyntax<'_>,
+) -> Result<(), ReadFault>
+    requires { length parameters.now.names.items ≤ 32 }
+    ensures { Puts result (with_effect (vocabulary_form vocabulary.now) (parameters_form parameters.now) effects.old (literal_form literal.now)) effects.new }
+{
+    match literal {
+        LiteralSyntax::Atom { positive, atom } => {
+            put_change(
+                alloc,
+                &vocabulary.atoms,
+                parameters,
+                effects,
+                *positive,
+                atom,
+            )
+        }
+        LiteralSyntax::Equality { equality, .. } => Err(unsupported(equality.left.span)),
+        LiteralSyntax::Increase(increase) => {
+            put_increase(
+                alloc,
+                vocabulary,
+                parameters,
+                &mut effects.increases,
+                increase,
+            )
+        }
+        LiteralSyntax::Value(value) => Err(unsupported(value.span)),
+    }
+}
+
+/// The effects that literals of an action stand for.
+#[tactic(auto, using(crate::proofs::Through::through_steps, crate::proofs::ActionMeaning::effects_steps))]
+fn effect(
+    alloc: Global,
+    vocabulary: &Vocabulary<'_>,
     parameters: &ActionParameters<'_>,
     mut literals: Literals<'_>,
 ) -> Result<Effects, ReadFault>
     requires { length parameters.now.names.items ≤ 32 }
-    ensures { Gives (λ effects. effects) result (effects_of (known_form known.now) (parameters_form parameters.now) literals.entry) }
+    ensures { Gives (λ effects. effects) result (effects_of (vocabulary_form vocabulary.now) (parameters_form parameters.now) literals.entry) }
 {
     let mut effects = Effects {
         add: Seq::new(alloc),
         del: Seq::new(alloc),
+        increases: Increases::new(alloc),
     };
     'effects: while let Some(literal) = literals.next(alloc)? {
-        let changed = changed_pattern(alloc, known, parameters, &literal)?;
-        put_effect(&mut effects, is_positive(&literal), changed)?;
+        put_effect(alloc, vocabulary, parameters, &mut effects, &literal)?;
     }
     Ok(effects)
 }
@@ -156,23 +196,30 @@ struct ActionBody {
 #[tactic(auto, using(crate::proofs::ActionMeaning::body_steps))]
 fn body(
     alloc: Global,
-    known: &Declared<'_>,
+    vocabulary: &Vocabulary<'_>,
     parameters: &ActionParameters<'_>,
     syntax: &ActionSyntax<'_>,
 ) -> Result<ActionBody, ReadFault>
     requires { length parameters.now.names.items ≤ 32 }
-    ensures { Gives (λ body. record { params = parameters.now.types; pre = body.pre; add = body.effects.add; del = body.effects.del }) result
-        (action_by (known_form known.now) (action_syntax_form syntax.now) (Some (parameters_form parameters.now))) }
+    ensures { Gives (λ body. action_doing parameters.now.types body.pre body.effects) result
+        (action_by (vocabulary_form vocabulary.now) (action_syntax_form syntax.now) (Some (parameters_form parameters.now))) }
 {
     let precondition = part_literals(&syntax.parts.precondition);
-    let pre = conditions(alloc, known, parameters, precondition)?;
+    let pre = conditions(alloc, &vocabulary.atoms, parameters, precondition)?;
     let effects = effect(
         alloc,
-        known,
+        vocabulary,
         parameters,
         part_literals(&syntax.parts.effect),
     )?;
     Ok(ActionBody { pre, effects })
+}
+
+/// An action, and by how much it increases the total cost.
+#[derive(Drop)]
+pub(crate) struct CostedAction {
+    action: Action,
+    increases: Increases,
 }
 
 /// The action that syntax stands for.
@@ -180,23 +227,37 @@ fn body(
 fn action(
     alloc: Global,
     types: &NameTable<()>,
-    known: &Declared<'_>,
+    vocabulary: &Vocabulary<'_>,
     syntax: &ActionSyntax<'_>,
-) -> Result<Action, ReadFault>
+) -> Result<CostedAction, ReadFault>
     requires { length types.now ≤ 1025 }
-    ensures { Gives (λ action. action) result (action_meant (keys_of types.now) (known_form known.now) (action_syntax_form syntax.now)) }
+    ensures { Gives (λ action. action) result (action_meant (keys_of types.now) (vocabulary_form vocabulary.now) (action_syntax_form syntax.now)) }
 {
     let declared = part_variables(alloc, &syntax.parts.parameters)?;
     let parameters = parameters(alloc, types, declared.as_slice())?;
-    let ActionBody { pre, effects } = body(alloc, known, &parameters, syntax)?;
+    let ActionBody { pre, effects } = body(alloc, vocabulary, &parameters, syntax)?;
     let ActionParameters { names: _, types } = parameters;
-    let Effects { add, del } = effects;
-    Ok(Action {
-        params: types,
-        pre,
+    let Effects {
         add,
         del,
+        increases,
+    } = effects;
+    Ok(CostedAction {
+        action: Action {
+            params: types,
+            pre,
+            add,
+            del,
+        },
+        increases,
     })
+}
+
+/// The table of actions, and the increases of each by its number.
+#[derive(Drop)]
+pub(crate) struct ActionTables {
+    pub(crate) actions: NameTable<Action>,
+    pub(crate) increases: Seq<Increases>,
 }
 
 /// Declares one more action.
@@ -204,17 +265,18 @@ fn action(
 fn declare_action(
     alloc: Global,
     types: &NameTable<()>,
-    known: &Declared<'_>,
-    table: &mut NameTable<Action>,
+    vocabulary: &Vocabulary<'_>,
+    tables: &mut ActionTables,
     syntax: &ActionSyntax<'_>,
 ) -> Result<(), ReadFault>
     requires { length types.now ≤ 1025 }
-    ensures { Puts result (with_action_of (keys_of types.now) (known_form known.now) table.old (action_syntax_form syntax.now)) table.new }
+    ensures { Puts result (with_action_of (keys_of types.now) (vocabulary_form vocabulary.now) tables.old (action_syntax_form syntax.now)) tables.new }
 {
     let name = name(alloc, syntax.name)?;
-    check_new(table, &name, syntax.name)?;
-    let action = action(alloc, types, known, syntax)?;
-    table.push(name, action)?;
+    check_new(&tables.actions, &name, syntax.name)?;
+    let CostedAction { action, increases } = action(alloc, types, vocabulary, syntax)?;
+    tables.actions.push(name, action)?;
+    tables.increases.push(increases)?;
     Ok(())
 }
 
@@ -223,15 +285,18 @@ fn declare_action(
 pub(crate) fn actions(
     alloc: Global,
     types: &NameTable<()>,
-    known: &Declared<'_>,
+    vocabulary: &Vocabulary<'_>,
     declared: &[ActionSyntax<'_>],
-) -> Result<NameTable<Action>, ReadFault>
+) -> Result<ActionTables, ReadFault>
     requires { length types.now ≤ 1025 }
-    ensures { Gives (λ table. table) result (actions_from (keys_of types.now) (known_form known.now) [] (action_forms declared.now)) }
+    ensures { Gives (λ tables. tables) result (actions_from (keys_of types.now) (vocabulary_form vocabulary.now) no_actions (action_forms declared.now)) }
 {
-    let mut table = NameTable::new(alloc, types.seed());
+    let mut tables = ActionTables {
+        actions: NameTable::new(alloc, types.seed()),
+        increases: Seq::new(alloc),
+    };
     'actions: for action in declared {
-        declare_action(alloc, types, known, &mut table, action)?;
+        declare_action(alloc, types, vocabulary, &mut tables, action)?;
     }
-    Ok(table)
+    Ok(tables)
 }

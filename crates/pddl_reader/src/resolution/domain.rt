@@ -1,8 +1,8 @@
-//! Types, constants, predicates and actions are declared one after another.
+//! Types, constants, predicates, functions and actions are declared one after another.
 
 ghost use Rattle.std.specs.Prelude.{◌≡◌, ◌≤◌, length, [], IfOk};
 ghost use Rattle.std.specs.Map.{keys_of};
-ghost use Rattle.pddl_reader.specs.Domain.{domain_of, domain_value, domain_with, head_of, predicates_from, with_predicate};
+ghost use Rattle.pddl_reader.specs.Domain.{domain_of, domain_with, functions_from, head_of, predicates_from, with_predicate};
 ghost use Rattle.pddl_reader.specs.Domains.{IsDomain};
 ghost use Rattle.pddl_reader.specs.Objects.{objects_from};
 ghost use Rattle.pddl_reader.specs.Problem.{domain_extended};
@@ -11,19 +11,22 @@ ghost use Rattle.pddl_reader.specs.Parts.{part_items};
 ghost use Rattle.pddl_syntax.specs.Reading.{Gives, Puts};
 ghost use Rattle.pddl_reader.specs.Assembled.{domain_assembled, domain_joined};
 
-use crate::resolution::actions::{Predicates, actions};
+use crate::resolution::actions::{ActionTables, Predicates, actions};
+use crate::resolution::functions::functions;
 use crate::resolution::names::{check_new, name};
 use crate::resolution::objects::more_objects;
 use crate::resolution::parts::part_items;
-use crate::resolution::tables::Declared;
 use crate::resolution::types::{KnownTypes, types};
 use crate::resolution::variables::places;
-use pddl_syntax::{DomainSyntax, NameGroup, PredicateSyntax, ReadFault};
+use crate::resolution::vocabulary::Vocabulary;
+use pddl_syntax::{Dialect, DomainSyntax, NameGroup, PredicateSyntax, ReadFault};
+use plan_cost::Increases;
 use std::alloc::Global;
 use std::marker::Model;
 use strips_task::{Action, Name, NameTable, Seed, Seq, TypeList};
 
-/// What a domain says: its name, types, constants, predicates and actions. Contracts see the record of them.
+/// What a domain says: its name, types, constants, predicates, functions and actions, and the increases of each action. Contracts see the
+/// record of them.
 #[derive(Debug, Drop)]
 pub struct Domain {
     pub(crate) name: Name,
@@ -31,7 +34,9 @@ pub struct Domain {
     pub(crate) parents: TypeList,
     pub(crate) objects: NameTable<u16>,
     pub(crate) predicates: Predicates,
+    pub(crate) functions: Predicates,
     pub(crate) actions: NameTable<Action>,
+    pub(crate) increases: Seq<Increases>,
 }
 
 impl Model for Domain {
@@ -47,15 +52,20 @@ impl Model for Domain {
 }
 
 impl Domain {
-    ghost use Rattle.pddl_reader.specs.Problem.{known_in};
-    ghost use Rattle.pddl_reader.specs.Resolved.{known_form};
+    ghost use Rattle.pddl_reader.specs.Problem.{vocabulary_in};
+    ghost use Rattle.pddl_reader.specs.Resolved.{vocabulary_form};
 
-    /// What the atoms of a problem may speak of.
-    pub(crate) fn known(&self) -> Declared<'_>
-        ensures known { known_form result ≡ known_in self.now }
+    /// What the literals of a problem may speak of.
+    pub(crate) fn vocabulary(&self) -> Vocabulary<'_>
+        ensures known { vocabulary_form result ≡ vocabulary_in self.now }
         ensures kept { IsDomain self.now }
     {
-        Declared::new(&self.parents, &self.objects, &self.predicates)
+        Vocabulary::new(
+            &self.parents,
+            &self.objects,
+            &self.predicates,
+            &self.functions,
+        )
     }
 }
 
@@ -98,11 +108,12 @@ fn predicates(
     Ok(table)
 }
 
-/// The tables of a domain's predicates and actions.
+/// The tables of a domain's predicates, functions and actions.
 #[derive(Drop)]
 struct Tables {
     predicates: Predicates,
-    actions: NameTable<Action>,
+    functions: Predicates,
+    actions: ActionTables,
 }
 
 /// The tables that the sections of a domain stand for behind its types and constants.
@@ -116,19 +127,23 @@ fn resolve_tables(
     requires objects { length head.now.objects ≤ 65535 }
     ensures { Gives (domain_assembled head.now) result
         (domain_with (domain_syntax_form syntax.now) head.now
-        (predicates_from (keys_of head.now.types) [] (predicate_forms (part_items syntax.now.sections.predicates)))) }
+        (predicates_from (keys_of head.now.types) [] (predicate_forms (part_items syntax.now.sections.predicates)))
+        (functions_from (keys_of head.now.types) [] (predicate_forms (part_items syntax.now.sections.functions)))) }
 {
     let declared = part_items(&syntax.sections.predicates);
     let predicates = predicates(alloc, &head.types, declared)?;
-    let known = Declared::new(&head.parents, &head.objects, &predicates);
+    let declared = part_items(&syntax.sections.functions);
+    let functions = functions(alloc, &head.types, declared)?;
+    let vocabulary = Vocabulary::new(&head.parents, &head.objects, &predicates, &functions);
     let actions = actions(
         alloc,
         &head.types,
-        &known,
+        &vocabulary,
         syntax.sections.actions.as_slice(),
     )?;
     Ok(Tables {
         predicates,
+        functions,
         actions,
     })
 }
@@ -146,15 +161,19 @@ fn assemble(head: Head, tables: Tables) -> Domain
     } = head;
     let Tables {
         predicates,
+        functions,
         actions,
     } = tables;
+    let ActionTables { actions, increases } = actions;
     Domain {
         name,
         types,
         parents,
         objects,
         predicates,
+        functions,
         actions,
+        increases,
     }
 }
 
@@ -169,11 +188,16 @@ pub(crate) struct Head {
 
 /// The name of a domain, its types and its constants.
 #[tactic(auto, using(crate::proofs::DomainMeaning::head_steps))]
-fn resolve_head(alloc: Global, seed: Seed, syntax: &DomainSyntax<'_>) -> Result<Head, ReadFault>
-    ensures { Gives (λ head. head) result (head_of (domain_syntax_form syntax.now)) }
+fn resolve_head(
+    alloc: Global,
+    seed: Seed,
+    dialect: Dialect,
+    syntax: &DomainSyntax<'_>,
+) -> Result<Head, ReadFault>
+    ensures { Gives (λ head. head) result (head_of dialect (domain_syntax_form syntax.now)) }
 {
     let name = name(alloc, syntax.name)?;
-    let known = types(alloc, seed, part_items(&syntax.sections.types))?;
+    let known = types(alloc, seed, dialect, part_items(&syntax.sections.types))?;
     let constants = part_items(&syntax.sections.constants);
     let none = NameTable::new(alloc, seed);
     let objects = more_objects(alloc, &known.names, none, constants)?;
@@ -186,16 +210,17 @@ fn resolve_head(alloc: Global, seed: Seed, syntax: &DomainSyntax<'_>) -> Result<
     })
 }
 
-/// The domain that syntax stands for.
+/// The domain that syntax stands for in a dialect.
 #[tactic(auto, using(crate::proofs::DomainMeaning::domain_head_steps))]
 pub(crate) fn resolve_domain(
     alloc: Global,
     seed: Seed,
+    dialect: Dialect,
     syntax: &DomainSyntax<'_>,
 ) -> Result<Domain, ReadFault>
-    ensures { Gives (λ domain. domain) result (domain_of (domain_syntax_form syntax.now)) }
+    ensures { Gives (λ domain. domain) result (domain_of dialect (domain_syntax_form syntax.now)) }
 {
-    let head = resolve_head(alloc, seed, syntax)?;
+    let head = resolve_head(alloc, seed, dialect, syntax)?;
     let tables = resolve_tables(alloc, &head, syntax)?;
     Ok(assemble(head, tables))
 }
@@ -207,7 +232,9 @@ pub(crate) struct Rest {
     types: NameTable<()>,
     parents: TypeList,
     predicates: Predicates,
+    functions: Predicates,
     actions: NameTable<Action>,
+    increases: Seq<Increases>,
 }
 
 /// The constants of a domain, and the rest of it.
@@ -221,14 +248,18 @@ fn split(domain: Domain) -> (Rest, NameTable<u16>)
         parents,
         objects,
         predicates,
+        functions,
         actions,
+        increases,
     } = domain;
     let rest = Rest {
         name,
         types,
         parents,
         predicates,
+        functions,
         actions,
+        increases,
     };
     (rest, objects)
 }
@@ -243,7 +274,9 @@ fn join(rest: Rest, objects: NameTable<u16>) -> Domain
         types,
         parents,
         predicates,
+        functions,
         actions,
+        increases,
     } = rest;
     Domain {
         name,
@@ -251,7 +284,9 @@ fn join(rest: Rest, objects: NameTable<u16>) -> Domain
         parents,
         objects,
         predicates,
+        functions,
         actions,
+        increases,
     }
 }
 

@@ -1,26 +1,27 @@
-//! Objects are declared behind the constants of a domain; then initial atoms and the goal are looked up in its tables.
+//! Objects are declared behind the constants of a domain; then initial literals and the goal are looked up in its tables.
 
-ghost use Rattle.std.specs.Prelude.{◌≡◌, IfOk, Some};
+ghost use Rattle.std.specs.Prelude.{◌≡◌, ◌≤◌, length, IfOk, Some};
 ghost use Rattle.pddl_reader.specs.Resolved.{known_form};
 ghost use Rattle.pddl_syntax.specs.Forms.{literal_form, problem_syntax_form};
 ghost use Rattle.pddl_reader.specs.Declarations.{object_number};
-ghost use Rattle.pddl_reader.specs.Problem.{ground_equality_by, ground_condition_of, ground_conditions_of, initial_atom, initial_of, problem_of, problem_within};
+ghost use Rattle.pddl_reader.specs.Problem.{ground_equality_by, ground_condition_of, ground_conditions_of, problem_of, problem_within};
 ghost use Rattle.pddl_syntax.specs.Reading.{Gives};
 ghost use Rattle.strips_task.specs.WellFormed.{IsWellFormed};
-ghost use Rattle.pddl_reader.specs.Assembled.{task_assembled};
+ghost use Rattle.pddl_reader.specs.Assembled.{costed_assembled, task_assembled};
 
 use crate::resolution::atoms::ground_atom;
 use crate::resolution::domain::{Domain, extended};
-use crate::resolution::literals::{is_positive, unsupported};
+use crate::resolution::functions::costs;
+use crate::resolution::initial::{InitialState, initial};
+use crate::resolution::literals::unsupported;
 use crate::resolution::names::name;
 use crate::resolution::parts::{part_items, part_literals};
 use crate::resolution::tables::Declared;
 use crate::resolution::terms::object;
 use pddl_syntax::{EqualitySyntax, LiteralSyntax, Literals, ProblemSyntax, ReadFault};
+use plan_cost::CostedTask;
 use std::alloc::Global;
-use strips_task::{
-    Atom, CondList, GroundCond, GroundFormula, InitialAtoms, Name, Seq, Task, TaskParts,
-};
+use strips_task::{CondList, GroundCond, GroundFormula, Name, Seq, Task, TaskParts};
 
 /// The ground condition that an equality of a problem stands for, or with `positive` false its negation.
 #[tactic(auto, using(crate::proofs::ProblemMeaning::equality_steps))]
@@ -79,54 +80,19 @@ fn ground_conditions(
     Ok(conditions)
 }
 
-/// The ground atom of an initial literal.
-#[tactic(auto, using(crate::proofs::ProblemMeaning::initial_atom_steps))]
-fn initial_atom(
-    alloc: Global,
-    known: &Declared<'_>,
-    literal: &LiteralSyntax<'_>,
-) -> Result<Atom, ReadFault>
-    ensures { Gives (λ atom. atom) result (initial_atom (known_form known.now) (literal_form literal.now)) }
-{
-    match literal {
-        LiteralSyntax::Atom { atom, .. } => ground_atom(alloc, known, atom),
-        LiteralSyntax::Equality { equality, .. } => Err(unsupported(equality.left.span)),
-        LiteralSyntax::Increase(increase) => Err(unsupported(increase.span)),
-        LiteralSyntax::Value(value) => Err(unsupported(value.span)),
-    }
-}
-
-/// The initial atoms: those that are not negated. The others are looked up too.
-#[tactic(auto, using(crate::proofs::ProblemMeaning::initial_steps))]
-fn initial(
-    alloc: Global,
-    known: &Declared<'_>,
-    mut literals: Literals<'_>,
-) -> Result<InitialAtoms, ReadFault>
-    ensures { Gives (λ atoms. atoms) result (initial_of (known_form known.now) literals.entry) }
-{
-    let mut atoms = InitialAtoms::new(alloc, known.objects.seed());
-    'items: while let Some(literal) = literals.next(alloc)? {
-        let atom = initial_atom(alloc, known, &literal)?;
-        if is_positive(&literal) {
-            atoms.push(atom)?;
-        }
-    }
-    Ok(atoms)
-}
-
 /// What a problem gives of a task.
 #[derive(Drop)]
 struct Given {
     problem: Name,
-    init: InitialAtoms,
+    init: InitialState,
     goal: CondList,
 }
 
-/// The task of these parts.
-fn assemble(domain: Domain, given: Given) -> Task
-    requires { IsWellFormed (task_assembled domain given) }
-    ensures { result ≡ task_assembled domain given }
+/// The task of these parts, with what it says about costs.
+fn assemble(domain: Domain, given: Given) -> CostedTask
+    requires well_formed { IsWellFormed (task_assembled domain given) }
+    requires few_functions { length domain.functions ≤ 4096 }
+    ensures { result ≡ costed_assembled domain given }
 {
     let Domain {
         name,
@@ -134,23 +100,30 @@ fn assemble(domain: Domain, given: Given) -> Task
         parents,
         objects,
         predicates,
+        functions,
         actions,
+        increases,
     } = domain;
     let Given {
         problem,
         init,
         goal,
     } = given;
-    Task::make(TaskParts {
+    let InitialState { atoms, values } = init;
+    let task = Task::make(TaskParts {
         domain: name,
         problem,
         parents,
         objects,
         preds: predicates,
         actions,
-        init,
+        init: atoms,
         goal,
-    })
+    });
+    CostedTask {
+        task,
+        costs: costs(&functions, increases, values),
+    }
 }
 
 /// What the syntax of a problem stands for beside a domain.
@@ -160,12 +133,13 @@ fn resolve_given(
     domain: &Domain,
     syntax: &ProblemSyntax<'_>,
 ) -> Result<Given, ReadFault>
-    ensures meaning { Gives (task_assembled domain.now) result (problem_within (problem_syntax_form syntax.now) (Some domain.now)) }
+    ensures meaning { Gives (costed_assembled domain.now) result (problem_within (problem_syntax_form syntax.now) (Some domain.now)) }
     ensures well_formed { IfOk result (λ given. IsWellFormed (task_assembled domain.now given)) }
+    ensures few_functions { length domain.now.functions ≤ 4096 }
 {
-    let known = domain.known();
-    let init = initial(alloc, &known, part_literals(&syntax.init))?;
-    let goal = ground_conditions(alloc, &known, syntax.goal.again())?;
+    let vocabulary = domain.vocabulary();
+    let init = initial(alloc, &vocabulary, part_literals(&syntax.init))?;
+    let goal = ground_conditions(alloc, &vocabulary.atoms, syntax.goal.again())?;
     let problem = name(alloc, syntax.name)?;
     Ok(Given {
         problem,
@@ -180,7 +154,7 @@ pub(crate) fn resolve_problem(
     alloc: Global,
     domain: Domain,
     syntax: &ProblemSyntax<'_>,
-) -> Result<Task, ReadFault>
+) -> Result<CostedTask, ReadFault>
     ensures { Gives (λ task. task) result (problem_of domain (problem_syntax_form syntax.now)) }
 {
     let domain = extended(alloc, domain, part_items(&syntax.objects))?;

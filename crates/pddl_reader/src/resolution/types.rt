@@ -7,10 +7,10 @@ ghost use Rattle.pddl_syntax.specs.Forms.{name_forms, name_group_form, name_grou
 ghost use Rattle.pddl_syntax.specs.Keywords.{object_word};
 ghost use Rattle.pddl_syntax.specs.Optional.{guard, through};
 ghost use Rattle.pddl_syntax.specs.Reading.{FindsAny, Gives, GivesTest, Puts};
-ghost use Rattle.pddl_reader.specs.TypeOrder.{TypeParents, declared_under, declares_cycle, group_declared, is_tree, is_under_itself, names_cycle, numbered, object_alone, parent_name, parent_number, parents_of, type_declared, types_declared, types_of};
+ghost use Rattle.pddl_reader.specs.TypeOrder.{TypeParents, counts_as_parent, declared_under, declares_cycle, group_declared, is_tree, is_under_itself, names_cycle, numbered, object_alone, parent_name, parent_number, parents_of, type_declared, types_declared, types_of};
 
 use crate::resolution::names::{is_same_name, name, number_of};
-use pddl_syntax::{FaultKind, NameGroup, NameWord, ReadFault};
+use pddl_syntax::{Dialect, FaultKind, NameGroup, NameWord, ReadFault};
 use std::alloc::{AllocError, Global};
 use strips_task::{Name, NameTable, Seed, TypeList};
 
@@ -51,18 +51,33 @@ fn parent_fault(name: &Name, word: NameWord<'_>) -> ReadFault
     }
 }
 
-/// Declares a type under its parent.
+/// Whether declarations under a parent count.
+#[tactic(auto, unfolding(crate::specs::TypeOrder::counts_as_parent))]
+fn counts_as_parent(dialect: Dialect, parent: &Name) -> bool
+    ensures { result ≡ counts_as_parent dialect parent.now }
+{
+    match dialect {
+        Dialect::Strips => true,
+        Dialect::Ipc => parent.as_bytes() != b"object".as_slice(),
+    }
+}
+
+/// Declares a type under its parent, if that counts.
 #[tactic(auto, using(crate::proofs::TypeSteps::under_steps))]
 fn declare_under(
     alloc: Global,
+    dialect: Dialect,
     parents: &mut NameTable<Name>,
     word: NameWord<'_>,
     kind: NameWord<'_>,
 ) -> Result<(), ReadFault>
-    ensures { Puts result (declared_under parents.old (folded word.entry.text.now) (folded kind.entry.text.now)) parents.new }
+    ensures { Puts result (declared_under dialect parents.old (folded word.entry.text.now) (folded kind.entry.text.now)) parents.new }
 {
-    let own = name(alloc, word)?;
     let parent = name(alloc, kind)?;
+    if !counts_as_parent(dialect, &parent) {
+        return Ok(());
+    }
+    let own = name(alloc, word)?;
     if let Some(number) = parents.number_of(own.as_bytes()) {
         if is_same_name(parents.get(number).1, &parent) {
             return Ok(());
@@ -77,13 +92,14 @@ fn declare_under(
 #[tactic(auto, using(crate::proofs::TypeSteps::type_steps))]
 fn declare_type(
     alloc: Global,
+    dialect: Dialect,
     tables: &mut TypeTables,
     word: NameWord<'_>,
     kind: NameWord<'_>,
 ) -> Result<(), ReadFault>
-    ensures { Puts result (type_declared kind.entry.text.now tables.old word.entry.text.now) tables.new }
+    ensures { Puts result (type_declared dialect kind.entry.text.now tables.old word.entry.text.now) tables.new }
 {
-    declare_under(alloc, &mut tables.parents, word, kind)?;
+    declare_under(alloc, dialect, &mut tables.parents, word, kind)?;
     number(alloc, &mut tables.names, word)
 }
 
@@ -91,14 +107,15 @@ fn declare_type(
 #[tactic(auto, using(crate::proofs::Through::through_steps, crate::proofs::ObjectSteps::named_steps))]
 fn declare_types(
     alloc: Global,
+    dialect: Dialect,
     tables: &mut TypeTables,
     words: &[NameWord<'_>],
     kind: NameWord<'_>,
 ) -> Result<(), ReadFault>
-    ensures { Puts result (through (type_declared kind.entry.text.now) tables.old (name_forms words.now)) tables.new }
+    ensures { Puts result (through (type_declared dialect kind.entry.text.now) tables.old (name_forms words.now)) tables.new }
 {
     'words: for word in words {
-        declare_type(alloc, tables, *word, kind)?;
+        declare_type(alloc, dialect, tables, *word, kind)?;
     }
     Ok(())
 }
@@ -107,12 +124,13 @@ fn declare_types(
 #[tactic(auto, using(crate::proofs::TypeSteps::group_steps))]
 fn declare_group(
     alloc: Global,
+    dialect: Dialect,
     tables: &mut TypeTables,
     group: &NameGroup<'_>,
 ) -> Result<(), ReadFault>
-    ensures { Puts result (group_declared tables.old (name_group_form group.now)) tables.new }
+    ensures { Puts result (group_declared dialect tables.old (name_group_form group.now)) tables.new }
 {
-    declare_types(alloc, tables, group.names.as_slice(), group.kind)?;
+    declare_types(alloc, dialect, tables, group.names.as_slice(), group.kind)?;
     number(alloc, &mut tables.names, group.kind)
 }
 
@@ -133,13 +151,14 @@ fn object_alone(alloc: Global, seed: Seed) -> Result<TypeTables, AllocError>
 #[tactic(auto, using(crate::proofs::Through::through_steps, crate::proofs::ObjectSteps::groups_steps))]
 fn declare_groups(
     alloc: Global,
+    dialect: Dialect,
     tables: &mut TypeTables,
     groups: &[NameGroup<'_>],
 ) -> Result<(), ReadFault>
-    ensures { Puts result (through group_declared tables.old (name_groups groups.now)) tables.new }
+    ensures { Puts result (through (group_declared dialect) tables.old (name_groups groups.now)) tables.new }
 {
     'groups: for group in groups {
-        declare_group(alloc, tables, group)?;
+        declare_group(alloc, dialect, tables, group)?;
     }
     Ok(())
 }
@@ -228,20 +247,41 @@ fn first_in_group<'a>(
     Ok(None)
 }
 
+/// The first type that a group declares under itself, if its declarations count.
+#[tactic(auto, using(crate::proofs::TypeSteps::group_cycle_steps))]
+fn first_in_cycle<'a>(
+    alloc: Global,
+    dialect: Dialect,
+    names: &NameTable<()>,
+    parents: &TypeList,
+    group: &NameGroup<'a>,
+) -> Result<Option<NameWord<'a>>, ReadFault>
+    requires as_many { length parents.now ≡ length names.now }
+    requires few { length names.now ≤ 1025 }
+    ensures { FindsAny result (declares_cycle dialect names.now parents.now (name_group_form group.now)) }
+{
+    let parent = name(alloc, group.kind)?;
+    if !counts_as_parent(dialect, &parent) {
+        return Ok(None);
+    }
+    first_in_group(alloc, names, parents, group.names.as_slice())
+}
+
 /// The first declared type, in text order, that stands under itself.
 #[tactic(auto, using(crate::proofs::TypeSteps::cycle_group_steps))]
 fn first_under_itself<'a>(
     alloc: Global,
+    dialect: Dialect,
     names: &NameTable<()>,
     parents: &TypeList,
     groups: &[NameGroup<'a>],
 ) -> Result<Option<NameWord<'a>>, ReadFault>
     requires as_many { length parents.now ≡ length names.now }
     requires few { length names.now ≤ 1025 }
-    ensures { FindsAny result (list_any (declares_cycle names.now parents.now) (name_groups groups.now)) }
+    ensures { FindsAny result (list_any (declares_cycle dialect names.now parents.now) (name_groups groups.now)) }
 {
     'groups: for group in groups {
-        if let Some(word) = first_in_group(alloc, names, parents, group.names.as_slice())? {
+        if let Some(word) = first_in_cycle(alloc, dialect, names, parents, group)? {
             return Ok(Some(word));
         }
     }
@@ -252,16 +292,17 @@ fn first_under_itself<'a>(
 #[tactic(auto, using(crate::proofs::CycleSteps::order_steps))]
 fn order(
     alloc: Global,
+    dialect: Dialect,
     tables: &TypeTables,
     groups: &[NameGroup<'_>],
 ) -> Result<TypeList, ReadFault>
     requires few { length tables.now.names ≤ 1025 }
-    requires declared { types_declared (name_groups groups.now) ≡ Some tables.now }
+    requires declared { types_declared dialect (name_groups groups.now) ≡ Some tables.now }
     ensures { Gives (λ parents. parents) result (guard (is_tree (parents_of tables.now)) (Some (parents_of tables.now))) }
 {
     let mut parents = parents(alloc, tables)?;
     parents.index()?;
-    match first_under_itself(alloc, &tables.names, &parents, groups)? {
+    match first_under_itself(alloc, dialect, &tables.names, &parents, groups)? {
         Some(word) => Err(ReadFault::new(FaultKind::TypeCycle, word.span)),
         None => Ok(parents),
     }
@@ -269,12 +310,17 @@ fn order(
 
 /// The types that groups declare.
 #[tactic(auto, using(crate::proofs::TypeSteps::declared_steps))]
-fn tables(alloc: Global, seed: Seed, groups: &[NameGroup<'_>]) -> Result<TypeTables, ReadFault>
-    ensures given { Gives (λ tables. tables) result (types_declared (name_groups groups.now)) }
+fn tables(
+    alloc: Global,
+    seed: Seed,
+    dialect: Dialect,
+    groups: &[NameGroup<'_>],
+) -> Result<TypeTables, ReadFault>
+    ensures given { Gives (λ tables. tables) result (types_declared dialect (name_groups groups.now)) }
     ensures few { IfOk result (λ tables. length tables.names ≤ 1025) }
 {
     let mut tables = object_alone(alloc, seed)?;
-    declare_groups(alloc, &mut tables, groups)?;
+    declare_groups(alloc, dialect, &mut tables, groups)?;
     Ok(tables)
 }
 
@@ -290,13 +336,14 @@ pub(crate) struct KnownTypes {
 pub(crate) fn types(
     alloc: Global,
     seed: Seed,
+    dialect: Dialect,
     groups: &[NameGroup<'_>],
 ) -> Result<KnownTypes, ReadFault>
-    ensures given { Gives (λ types. types) result (types_of (name_groups groups.now)) }
+    ensures given { Gives (λ types. types) result (types_of dialect (name_groups groups.now)) }
     ensures few { IfOk result (λ types. length types.names ≤ 1025) }
 {
-    let tables = tables(alloc, seed, groups)?;
-    let parents = order(alloc, &tables, groups)?;
+    let tables = tables(alloc, seed, dialect, groups)?;
+    let parents = order(alloc, dialect, &tables, groups)?;
     let TypeTables { names, parents: _ } = tables;
     Ok(KnownTypes { names, parents })
 }

@@ -98,7 +98,7 @@ impl<'a> Model for VariableList<'a> {
 }
 
 impl<'a> VariableList<'a> {
-    /// The list of which the rest is before the walk.
+    /// The list that is left before the walk.
     #[tactic(auto, using(crate::proofs::VariableSteps::list_steps))]
     fn within(walk: Walk<'a>) -> Self
         requires { IsSome (typed_variables [] (here walk.cursor).top) }

@@ -9,10 +9,10 @@ use Rattle.judge_bench.proofs.running.attend.Goals as goal
 pub accept_all-requires-clause-kept : goal.accept_all-requires-clause-kept
 accept_all-requires-clause-kept g c =
     let setting = c.args.bench.now.setting in
-    let parts = setting.task.value in
+    let task = setting.task.value in
     let ready = c.requires.ready in
     let later = c.start_all.new.owner.view in
     let is = c.in_ok-start_all.ensures.view ∙ ap (λ v. with_all_out v c.args.workers) ready.view in
-    subst (KeptFindings parts setting.planners later) (sym (ready.findings_are ∙ ap nothing_kept (sym ready.planners_are)))
-    (unmoved parts setting.planners (first_view setting) (nothing_kept setting.planners) (nothing_emitted parts setting) later
+    subst (KeptFindings task setting.planners later) (sym (ready.findings_are ∙ ap nothing_kept (sym ready.planners_are)))
+    (unmoved task setting.planners (first_view setting) (nothing_kept setting.planners) (nothing_emitted task setting) later
     (ap (λ (v : View). v.jobs) is) (ap (λ (v : View). v.emitted) is) (ap (λ (v : View). length v.closed) is))

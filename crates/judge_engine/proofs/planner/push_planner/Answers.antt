@@ -3,7 +3,7 @@ use Rattle.std.proofs.lemmas.List.{drop_all}
 use Rattle.std.specs.Prelude.{slice_index_or}
 use Rattle.intake_rules.specs.declared.finding.Finding.{Finding}
 use Rattle.judge_engine.specs.Plans.{as_judged}
-use Rattle.judge_engine.specs.Report.{Judged, plan_lines, summary_text, summary_line, steps_if_valid}
+use Rattle.judge_engine.specs.Report.{Judged, least_cost, plan_lines, summary_text, summary_line, steps_if_valid}
 use Rattle.judge_engine.specs.Tally.{tally_of, tally_with, both}
 use Rattle.judge_engine.specs.declared.planner.Tally.{Tally}
 use Rattle.judge_engine.proofs.Planners.{on_ok_more}
@@ -12,20 +12,20 @@ use Rattle.judge_engine.proofs.planner.push_planner.Goals as goal
 
 pub loop-place-preserved : goal.loop-place-preserved
 loop-place-preserved c =
-    let task = c.args.task.now in
+    let task = c.args.task.now.task in
     let name = c.args.name.now in
     let was = c.loop-place.invariant in
     let place = c.loop-place.place in
     let list : List Finding = slice_index_or c.args.findings.now c.args.planner [] in
-    let finding : Finding = c.get.result.now in
-    let at : drop place list ≡ finding ∷ drop (place + 1) list = item_at list place finding c.get.ensures in
+    let finding : Finding = c.get-finding.result.now in
+    let at : drop place list ≡ finding ∷ drop (place + 1) list = item_at list place finding c.get-finding.ensures in
     let rest = map as_judged (drop (place + 1) list) in
     let steps = steps_if_valid finding.verdict in
-    let tally : c.counted-tally.result ≡ tally_with c.loop-place.tally steps = c.counted-tally.ensures ∙ ap (tally_with c.loop-place.tally) c.in_ok-steps.ensures.steps in
+    let tally : c.counted-tally.result ≡ tally_with c.loop-place.tally (as_judged finding) = c.counted-tally.ensures in
     let plans : c.counted-tally.result.plans ≡ c.loop-place.tally.plans + 1 = ap (λ (t : Tally). t.plans) tally in
-    let valid : c.counted-tally.result.valid ≡ (tally_with c.loop-place.tally steps).valid = ap (λ (t : Tally). t.valid) tally in
+    let valid : c.counted-tally.result.valid ≡ (tally_with c.loop-place.tally (as_judged finding)).valid = ap (λ (t : Tally). t.valid) tally in
     record {
-      told = ap (λ t. t ++ plan_lines task name (place + 1 + 1) rest) c.in_ok-steps.ensures.line
+      told = ap (λ t. t ++ plan_lines task name (place + 1 + 1) rest) c.in_ok-push_plan_line.ensures
           ∙ told task name c.loop-place.text (place + 1) (as_judged finding) rest
           ∙ ap (λ l. c.loop-place.text ++ plan_lines task name (place + 1) (map as_judged l)) (sym at)
           ∙ was.told;
@@ -39,7 +39,7 @@ loop-place-preserved c =
 
 pub returns : goal.returns
 returns c =
-    let task = c.args.task.now in
+    let task = c.args.task.now.task in
     let name = c.args.name.now in
     let text = c.loop-place.text in
     let place = c.loop-place.place in
@@ -50,8 +50,10 @@ returns c =
     sym (append-nil text) ∙ ap (λ l. text ++ plan_lines task name (place + 1) (map as_judged l)) (sym ended) ∙ c.loop-place.invariant.told in
     let tally : c.loop-place.tally ≡ tally_of plans =
     sym (all_counted c.loop-place.tally) ∙ ap (λ l. both c.loop-place.tally (tally_of (map as_judged l))) (sym ended) ∙ c.loop-place.invariant.counted in
-    let last : summary_text name c.loop-place.tally.plans c.loop-place.tally.valid c.loop-place.tally.best ≡ summary_line name plans =
-    (λ j. summary_text name (tally j).plans (tally j).valid (tally j).best) in
+    let costs = c.args.task.now.costs in
+    let last : summary_text name c.loop-place.tally.plans c.loop-place.tally.valid c.loop-place.tally.best c.least_cost-cost.result ≡ summary_line costs name plans =
+    ap (summary_text name c.loop-place.tally.plans c.loop-place.tally.valid c.loop-place.tally.best) c.least_cost-cost.ensures
+    ∙ (λ j. summary_text name (tally j).plans (tally j).valid (tally j).best (least_cost costs (tally j).cost)) in
     on_ok_more c.push_summary.result
-    (λ added. added ∙ (λ j. all j ++ last j) ∙ append_assoc c.args.text.now (plan_lines task name 1 plans) (summary_line name plans))
+    (λ added. added ∙ (λ j. all j ++ last j) ∙ append_assoc c.args.text.now (plan_lines task name 1 plans) (summary_line costs name plans))
     c.push_summary.ensures

@@ -1,9 +1,5 @@
-use Rattle.std.proofs.lemmas.Result.{err_from_is_err_and}
-use Rattle.pddl_reader.proofs.TextSteps.{problem_fault}
+use Rattle.pddl_reader.proofs.TextSteps.{problem_default}
 use Rattle.pddl_reader.proofs.readers.read_problem.Goals as goal
 
-pub returns-in_err-check_text-clause-task : goal.returns-in_err-check_text-clause-task
-returns-in_err-check_text-clause-task c =
-    let p = err_from_is_err_and c.from_residual.result c.from_residual.ensures.1 in
-    let e = c.in_err-check_text.ensures in
-    rw (p.1, p.2) (λ k. absurd (e.kind k), λ k. problem_fault c.args.domain c.args.text.now _ e.first)
+pub returns-clause-task : goal.returns-clause-task
+returns-clause-task c = problem_default c.args.domain c.args.text.now c.in_ok-task.field-0 c.in_ok-task.ensures.task

@@ -15,7 +15,7 @@ loop-planner-init c =
     let jobs = ap (λ (v : View). v.jobs) is in
     let kept = unmoved c.args.task.now c.args.planners view c.args.self.findings c.requires.kept later jobs (ap (λ (v : View). v.emitted) is) (ap (λ (v : View). length v.closed) is) in record {
       sits = c.judge_rest.ensures.seat;
-      kept = subst (λ parts. KeptFindings parts c.args.bench.now.setting.planners later c.args.self.findings) (sym c.requires.setting.0)
+      kept = subst (λ task. KeptFindings task c.args.bench.now.setting.planners later c.args.self.findings) (sym c.requires.setting.0)
           (subst (λ planners. KeptFindings c.args.task.now planners later c.args.self.findings) (sym c.requires.setting.1) kept);
       jobs = jobs;
       known = all_known later c.in_ok-judge_rest.ensures.none_waits (ap (λ (v : View). v.held) is ∙ c.requires.alone.1) (subst Numbered (sym jobs) c.requires.jobs);
@@ -28,7 +28,7 @@ returns c =
     let setting = c.args.bench.now.setting in
     let view = c.loop-planner.keeper.owner.view in
     let planners = c.requires.setting.1 in
-    let parts = c.requires.setting.0 in
+    let task = c.requires.setting.0 in
     let jobs = was.jobs in
     all_emitted setting.task.value setting.planners view c.loop-planner.keeper.findings was.kept (λ planner h. was.emitted planner (omega arith))
-    ∙ (λ i. by_planner (planners i) (map (right_finding (parts i)) (jobs i)))
+    ∙ (λ i. by_planner (planners i) (map (right_finding (task i)) (jobs i)))

@@ -20,8 +20,8 @@ push-requires c =
 pub returns-in_ok-push-in-Ok-clause-kept : goal.returns-in_ok-push-in-Ok-clause-kept
 returns-in_ok-push-in-Ok-clause-kept c =
     let setting = c.args.bench.now.setting in
-    let parts = setting.task.value in
+    let task = setting.task.value in
     let view = c.args.self.now.owner.view in
-    let more = emitted_more parts setting.planners view c.args.self.now.findings c.requires.kept c.args.planner c.in-Ok.finding c.requires.planner c.in-Ok.ensures.next.1 c.in-Ok.ensures.right in
-    subst (λ v. KeptFindings parts setting.planners v c.push.new.self) (sym c.in-Ok.ensures.view)
-    (subst (KeptFindings parts setting.planners (with_emission view c.args.planner)) (sym c.in_ok-push-in-Ok.ensures) more)
+    let more = emitted_more task setting.planners view c.args.self.now.findings c.requires.kept c.args.planner c.in-Ok.finding c.requires.planner c.in-Ok.ensures.next.1 c.in-Ok.ensures.right in
+    subst (λ v. KeptFindings task setting.planners v c.push.new.self) (sym c.in-Ok.ensures.view)
+    (subst (KeptFindings task setting.planners (with_emission view c.args.planner)) (sym c.in_ok-push-in-Ok.ensures) more)

@@ -11,4 +11,4 @@ returns c =
     let P : Objects → Type 0 = λ o. objects_from (keys_of known.names) o (name_groups c.part_items-constants.result.now) ≡ Some c.in_ok-objects.objects in
     let constants = subst P c.new-none.ensures c.in_ok-objects.ensures in
     rw c.in_ok-name.ensures
-    (head_meant c.args.syntax.now known c.in_ok-objects.objects (rw (← c.part_items.ensures) c.in_ok-known.ensures.given) (rw (← c.part_items-constants.ensures) constants))
+    (head_meant c.args.dialect c.args.syntax.now known c.in_ok-objects.objects (rw (← c.part_items.ensures) c.in_ok-known.ensures.given) (rw (← c.part_items-constants.ensures) constants))

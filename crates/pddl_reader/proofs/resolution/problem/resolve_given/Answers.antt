@@ -1,6 +1,6 @@
 use Rattle.std.proofs.Common.{◌≡◌, [], Some, None, subst, unwrap_or}
 use Rattle.std.proofs.lemmas.Result.{err_from_is_err_and}
-use Rattle.pddl_reader.specs.Declarations.{Known}
+use Rattle.pddl_reader.specs.Functions.{Vocabulary}
 use Rattle.pddl_reader.specs.Problem.{initial_of, ground_conditions_of}
 use Rattle.pddl_reader.proofs.ProblemMeaning.{no_goal, problem_meant}
 use Rattle.pddl_reader.proofs.WellFormedTasks.{task_well_formed}
@@ -9,33 +9,33 @@ use Rattle.pddl_reader.proofs.resolution.problem.resolve_given.Goals as goal
 pub returns-clause-meaning : goal.returns-clause-meaning
 returns-clause-meaning c =
     let syntax = c.args.syntax.now in
-    let I : Known → Type 0 = λ k. initial_of k (unwrap_or syntax.init []) ≡ Some c.in_ok-init.init in
-    let G : Known → Type 0 = λ k. ground_conditions_of k syntax.goal ≡ Some c.in_ok-goal.goal in
+    let I : Vocabulary → Type 0 = λ v. initial_of v (unwrap_or syntax.init []) ≡ Some c.in_ok-init.init in
+    let G : Vocabulary → Type 0 = λ v. ground_conditions_of v.atoms syntax.goal ≡ Some c.in_ok-goal.goal in
     rw c.in_ok-problem.ensures
     (problem_meant c.args.domain.now syntax c.in_ok-init.init c.in_ok-goal.goal
-    (subst I c.known-known.ensures.known (rw (← c.part_literals.ensures) c.in_ok-init.ensures))
-    (subst G c.known-known.ensures.known (rw (← c.again.ensures) c.in_ok-goal.ensures)))
+    (subst I c.vocabulary-vocabulary.ensures.known (rw (← c.part_literals.ensures) c.in_ok-init.ensures))
+    (subst G c.vocabulary-vocabulary.ensures.known (rw (← c.again.ensures) c.in_ok-goal.ensures)))
 
 pub returns-clause-well_formed : goal.returns-clause-well_formed
 returns-clause-well_formed c =
     let syntax = c.args.syntax.now in
-    let I : Known → Type 0 = λ k. initial_of k (unwrap_or syntax.init []) ≡ Some c.in_ok-init.init in
-    let G : Known → Type 0 = λ k. ground_conditions_of k syntax.goal ≡ Some c.in_ok-goal.goal in
+    let I : Vocabulary → Type 0 = λ v. initial_of v (unwrap_or syntax.init []) ≡ Some c.in_ok-init.init in
+    let G : Vocabulary → Type 0 = λ v. ground_conditions_of v.atoms syntax.goal ≡ Some c.in_ok-goal.goal in
     task_well_formed c.args.domain.now c.in_ok-problem.problem (unwrap_or syntax.init []) syntax.goal c.in_ok-init.init
-    c.in_ok-goal.goal c.known-known.ensures.kept.fits
-    (subst I c.known-known.ensures.known (rw (← c.part_literals.ensures) c.in_ok-init.ensures))
-    (subst G c.known-known.ensures.known (rw (← c.again.ensures) c.in_ok-goal.ensures))
+    c.in_ok-goal.goal c.vocabulary-vocabulary.ensures.kept.fits
+    (subst I c.vocabulary-vocabulary.ensures.known (rw (← c.part_literals.ensures) c.in_ok-init.ensures))
+    (subst G c.vocabulary-vocabulary.ensures.known (rw (← c.again.ensures) c.in_ok-goal.ensures))
 
 pub returns-in_err-goal-clause-meaning : goal.returns-in_err-goal-clause-meaning
 returns-in_err-goal-clause-meaning c =
     let syntax = c.args.syntax.now in
     let p = err_from_is_err_and c.from_residual-in_err-goal.result c.from_residual-in_err-goal.ensures.1 in
     let e = c.in_err-goal.ensures in
-    let I : Known → Type 0 = λ k. initial_of k (unwrap_or syntax.init []) ≡ Some c.in_ok-init.init in
-    let G : Known → Type 0 = λ k. ground_conditions_of k syntax.goal ≡ None in
+    let I : Vocabulary → Type 0 = λ v. initial_of v (unwrap_or syntax.init []) ≡ Some c.in_ok-init.init in
+    let G : Vocabulary → Type 0 = λ v. ground_conditions_of v.atoms syntax.goal ≡ None in
     rw (p.1, p.2) (
       e.0,
       λ k. no_goal c.args.domain.now syntax c.in_ok-init.init
-          (subst I c.known-known.ensures.known (rw (← c.part_literals.ensures) c.in_ok-init.ensures))
-          (subst G c.known-known.ensures.known (rw (← c.again.ensures) (e.1 k))),
+          (subst I c.vocabulary-vocabulary.ensures.known (rw (← c.part_literals.ensures) c.in_ok-init.ensures))
+          (subst G c.vocabulary-vocabulary.ensures.known (rw (← c.again.ensures) (e.1 k))),
     )

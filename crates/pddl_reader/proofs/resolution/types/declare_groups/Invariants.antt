@@ -6,5 +6,5 @@ use Rattle.pddl_reader.proofs.resolution.types.declare_groups.Given as goal
 
 abbrev pub invariant-groups : goal.invariant-groups
 invariant-groups l =
-    through group_declared l.tables (name_groups (drop l.group-index l.groups))
-    ≡ through group_declared l.fn.tables (name_groups l.groups)
+    through (group_declared l.dialect) l.tables (name_groups (drop l.group-index l.groups))
+    ≡ through (group_declared l.dialect) l.fn.tables (name_groups l.groups)

@@ -4,5 +4,5 @@ use Rattle.pddl_reader.proofs.resolution.types.tables.Goals as goal
 
 pub returns-clause-few : goal.returns-clause-few
 returns-clause-few c =
-    few_declared (name_groups c.args.groups.now) c.declare_groups.new.tables
-    (rw (declared_all, ← c.in_ok-tables.ensures) c.in_ok-declare_groups.ensures)
+    few_declared c.args.dialect (name_groups c.args.groups.now) c.declare_groups.new.tables
+    (rw (declared_all c.args.dialect (name_groups c.args.groups.now), ← c.in_ok-tables.ensures) c.in_ok-declare_groups.ensures)

@@ -1,0 +1,83 @@
+-- The functions of a domain, and the amounts and values that speak of them (PDDL 2.1, Fox and Long 2003, section 3). `total-cost` is the
+-- function that effects may increase under the requirement `:action-costs` of the planning competitions; the limits are this validator's choice.
+
+use Rattle.std.specs.Prelude.{ℕ, Bool, true, false, nat_lt, is_some, List, [], ◌∷◌, ◌++◌, length, Option, Some, None}
+use Rattle.std.specs.Option.{option_map}
+use Rattle.strips_task.specs.declared.actions.Pattern.{Pattern}
+use Rattle.strips_task.specs.declared.atoms.Atom.{Atom}
+use Rattle.strips_task.specs.Names.{number_named}
+use Rattle.plan_cost.specs.declared.amounts.Amount.{Amount}
+use Rattle.plan_cost.specs.declared.amounts.Amount.TheVariants.{Number, Function}
+use Rattle.plan_cost.specs.declared.amounts.TheConstants.{MOST_INCREASES}
+use Rattle.plan_cost.specs.declared.costs.Costs.{Costs}
+use Rattle.plan_cost.specs.declared.values.Given.{Given}
+use Rattle.plan_cost.specs.declared.values.Given.TheVariants.{First, Again, Another}
+use Rattle.plan_cost.specs.Values.{value_of, given_over, with_value}
+use Rattle.pddl_syntax.specs.Keywords.{total_cost_word}
+use Rattle.pddl_syntax.specs.Optional.{guard}
+use Rattle.pddl_syntax.specs.Syntax.{AmountForm, number_amount, function_amount, ValueForm}
+use Rattle.pddl_reader.specs.Declarations.{Known, Predicates, pattern_of, ground_of}
+use Rattle.pddl_reader.specs.Objects.{Objects}
+use Rattle.pddl_reader.specs.Variables.{Parameters}
+
+-- what effects and initial literals may speak of: atoms, and functions, which are looked up as predicates are
+pub record Vocabulary : Type 0 where
+  pub atoms : Known
+  pub functions : Known
+
+-- what these tables let them speak of
+abbrev pub vocabulary : List ℕ → Objects → Predicates → Predicates → Vocabulary
+vocabulary parents objects predicates functions = record {
+  atoms = record { parents = parents; objects = objects; predicates = predicates };
+  functions = record { parents = parents; objects = objects; predicates = functions };
+}
+
+-- the number of `total-cost`, if it is declared
+unfoldable pub total_cost_number : Predicates → Option ℕ
+total_cost_number functions = number_named functions total_cost_word
+
+-- whether plans have costs: `total-cost` is declared
+unfoldable pub counts_costs : Predicates → Bool
+counts_costs functions = is_some (total_cost_number functions)
+
+-- the value of a function of parameters and constants, as an amount
+abbrev pub amount_by : Pattern → Amount
+amount_by function = Function function.pred function.terms
+
+-- the amount that an increase names
+unfoldable pub amount_meant : Known → Parameters → AmountForm → Option Amount
+amount_meant functions parameters (number_amount number) = Some (Number number)
+amount_meant functions parameters (function_amount function) = option_map amount_by (pattern_of functions parameters function)
+
+-- an amount behind others, if there is one
+unfoldable pub amount_behind : List Amount → Option Amount → Option (List Amount)
+amount_behind amounts None = None
+amount_behind amounts (Some amount) = Some (amounts ++ amount ∷ [])
+
+-- the increases of an action with one more: `total-cost` is declared, and there are no more increases than the limit
+unfoldable pub with_increase : Vocabulary → Parameters → List Amount → AmountForm → Option (List Amount)
+with_increase vocabulary parameters increases amount =
+    guard (nat_lt (length increases) MOST_INCREASES)
+    (guard (counts_costs vocabulary.functions.predicates) (amount_behind increases (amount_meant vocabulary.functions parameters amount)))
+
+-- whether a function has no other value before
+unfoldable pub is_not_another : Given → Bool
+is_not_another First = true
+is_not_another Again = true
+is_not_another Another = false
+
+-- the values of ground functions with one for this function, if there is one: it has no value yet, or this value
+unfoldable pub value_given : List (Atom × ℕ) → ℕ → Option Atom → Option (List (Atom × ℕ))
+value_given values value None = None
+value_given values value (Some function) = guard (is_not_another (given_over (value_of values function) value)) (Some (with_value values function value))
+
+-- the values with that of an initial literal
+unfoldable pub with_value_of : Known → List (Atom × ℕ) → ValueForm → Option (List (Atom × ℕ))
+with_value_of functions values form = value_given values form.value (ground_of functions form.function)
+
+abbrev pub costs_with : List (List Amount) → List (Atom × ℕ) → ℕ → Costs
+costs_with increases values number = record { total_cost = number; increases = increases; values = values }
+
+-- what a task says about costs, if `total-cost` is declared
+unfoldable pub costs_of : Predicates → List (List Amount) → List (Atom × ℕ) → Option Costs
+costs_of functions increases values = option_map (costs_with increases values) (total_cost_number functions)

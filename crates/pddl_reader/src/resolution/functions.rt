@@ -1,0 +1,155 @@
+//! Functions are declared as predicates are; effects increase `total-cost` by their values.
+
+ghost use Rattle.std.specs.Prelude.{◌≡◌, ◌<◌, ◌≤◌, length, [], IfOk, IfSome};
+ghost use Rattle.std.specs.Map.{keys_of};
+ghost use Rattle.pddl_syntax.specs.Forms.{amount_form, predicate_form, predicate_forms, variable_groups};
+ghost use Rattle.pddl_syntax.specs.Reading.{Allows, Gives, Puts};
+ghost use Rattle.pddl_reader.specs.Domain.{functions_from, may_have, with_function};
+ghost use Rattle.pddl_reader.specs.Functions.{amount_meant, costs_of, total_cost_number, with_increase};
+ghost use Rattle.pddl_reader.specs.Resolved.{known_form, parameters_form, vocabulary_form};
+
+use crate::resolution::actions::Predicates;
+use crate::resolution::atoms::pattern;
+use crate::resolution::names::{check_new, name};
+use crate::resolution::tables::Declared;
+use crate::resolution::variables::{ActionParameters, places};
+use crate::resolution::vocabulary::Vocabulary;
+use pddl_syntax::{
+    AmountSyntax, FaultKind, IncreaseSyntax, NameWord, PredicateSyntax, ReadFault, VariableGroup,
+};
+use plan_cost::{Amount, Costs, FunctionValues, Increases, MOST_INCREASES};
+use std::alloc::Global;
+use strips_task::{Name, NameTable, Pattern, Seq};
+
+/// The number of the function `total-cost`, if it is declared.
+#[tactic(auto, unfolding(crate::specs::Functions::total_cost_number))]
+fn total_cost(functions: &Predicates) -> Option<usize>
+    ensures number { result ≡ total_cost_number functions.now }
+    ensures within { IfSome result (λ number. number < length functions.now) }
+{
+    functions.number_of(b"total-cost")
+}
+
+/// Tests that a function of this name may have these variables: `total-cost` has none.
+#[tactic(auto, using(crate::proofs::FunctionSteps::variables_steps))]
+fn check_variables(
+    name: &Name,
+    word: NameWord<'_>,
+    variables: &[VariableGroup<'_>],
+) -> Result<(), ReadFault>
+    ensures { Allows result (may_have name.now (variable_groups variables.now)) }
+{
+    if variables.is_empty() {
+        return Ok(());
+    }
+    if name.as_bytes() == b"total-cost".as_slice() {
+        return Err(ReadFault::new(FaultKind::WrongCount, word.span));
+    }
+    Ok(())
+}
+
+/// Declares one more function.
+#[tactic(auto, using(crate::proofs::FunctionSteps::function_steps))]
+fn declare_function(
+    alloc: Global,
+    types: &NameTable<()>,
+    table: &mut Predicates,
+    function: &PredicateSyntax<'_>,
+) -> Result<(), ReadFault>
+    requires few { length types.now ≤ 1025 }
+    requires room { length table.old ≤ 4096 }
+    ensures within { length table.new ≤ 4096 }
+    ensures given { Puts result (with_function (keys_of types.now) table.old (predicate_form function.now)) table.new }
+{
+    let name = name(alloc, function.name)?;
+    check_new(table, &name, function.name)?;
+    let variables = function.variables.groups(alloc)?;
+    check_variables(&name, function.name, variables.as_slice())?;
+    let places = places(alloc, types, variables.as_slice())?;
+    table.push(name, places)?;
+    Ok(())
+}
+
+/// Declares the functions.
+#[tactic(auto, using(crate::proofs::Through::through_steps, crate::proofs::FunctionSteps::functions_steps))]
+pub(crate) fn functions(
+    alloc: Global,
+    types: &NameTable<()>,
+    declared: &[PredicateSyntax<'_>],
+) -> Result<Predicates, ReadFault>
+    requires { length types.now ≤ 1025 }
+    ensures within { IfOk result (λ table. length table ≤ 4096) }
+    ensures given { Gives (λ table. table) result (functions_from (keys_of types.now) [] (predicate_forms declared.now)) }
+{
+    let mut table = NameTable::new(alloc, types.seed());
+    'functions: for function in declared {
+        declare_function(alloc, types, &mut table, function)?;
+    }
+    Ok(table)
+}
+
+/// The amount that an increase names.
+#[tactic(auto, using(crate::proofs::FunctionSteps::amount_steps))]
+fn amount(
+    alloc: Global,
+    functions: &Declared<'_>,
+    parameters: &ActionParameters<'_>,
+    syntax: &AmountSyntax<'_>,
+) -> Result<Amount, ReadFault>
+    requires { length parameters.now.names.items ≤ 32 }
+    ensures { Gives (λ amount. amount) result (amount_meant (known_form functions.now) (parameters_form parameters.now) (amount_form syntax.now)) }
+{
+    match syntax {
+        AmountSyntax::Number(number) => Ok(Amount::Number(*number)),
+        AmountSyntax::Function(function) => {
+            let Pattern { pred, terms } = pattern(alloc, functions, parameters, function)?;
+            Ok(Amount::Function {
+                function: pred,
+                terms,
+            })
+        }
+    }
+}
+
+/// Puts one more increase behind the others of an action.
+#[tactic(auto, using(crate::proofs::FunctionSteps::increase_steps))]
+pub(crate) fn put_increase(
+    alloc: Global,
+    vocabulary: &Vocabulary<'_>,
+    parameters: &ActionParameters<'_>,
+    increases: &mut Increases,
+    increase: &IncreaseSyntax<'_>,
+) -> Result<(), ReadFault>
+    requires { length parameters.now.names.items ≤ 32 }
+    ensures { Puts result (with_increase (vocabulary_form vocabulary.now) (parameters_form parameters.now) increases.old (amount_form increase.now.amount)) increases.new }
+{
+    if increases.len() >= MOST_INCREASES {
+        return Err(ReadFault::new(FaultKind::TooMany, increase.span));
+    }
+    if total_cost(vocabulary.functions.predicates).is_none() {
+        return Err(ReadFault::new(FaultKind::UnknownName, increase.target.span));
+    }
+    let amount = amount(alloc, &vocabulary.functions, parameters, &increase.amount)?;
+    increases.push(amount)?;
+    Ok(())
+}
+
+/// What a task says about costs, if `total-cost` is declared.
+#[tactic(auto, using(crate::proofs::FunctionSteps::costs_steps))]
+pub(crate) fn costs(
+    functions: &Predicates,
+    increases: Seq<Increases>,
+    values: FunctionValues,
+) -> Option<Costs>
+    requires { length functions.now ≤ 4096 }
+    ensures { result ≡ costs_of functions.now increases values }
+{
+    match total_cost(functions) {
+        Some(number) => Some(Costs {
+            total_cost: number as u16,
+            increases,
+            values,
+        }),
+        None => None,
+    }
+}

@@ -1,0 +1,107 @@
+//! What a problem gives initially: its atoms, and the values of functions.
+
+ghost use Rattle.std.specs.Prelude.{◌≡◌};
+ghost use Rattle.pddl_syntax.specs.Forms.{atom_form, literal_form, value_form};
+ghost use Rattle.pddl_syntax.specs.Reading.{Gives, Puts};
+ghost use Rattle.pddl_reader.specs.Declarations.{ground_of};
+ghost use Rattle.pddl_reader.specs.Functions.{with_value_of};
+ghost use Rattle.pddl_reader.specs.Problem.{initial_of, with_atom, with_initial};
+ghost use Rattle.pddl_reader.specs.Resolved.{known_form, vocabulary_form};
+
+use crate::resolution::atoms::ground_atom;
+use crate::resolution::literals::unsupported;
+use crate::resolution::tables::Declared;
+use crate::resolution::vocabulary::Vocabulary;
+use pddl_syntax::{AtomSyntax, FaultKind, LiteralSyntax, Literals, ReadFault, ValueSyntax};
+use plan_cost::{FunctionValues, Given};
+use std::alloc::Global;
+use strips_task::InitialAtoms;
+
+/// The initial atoms, and the values of functions.
+#[derive(Drop)]
+pub(crate) struct InitialState {
+    pub(crate) atoms: InitialAtoms,
+    pub(crate) values: FunctionValues,
+}
+
+/// Puts an initial atom behind the others. One that is negated is looked up and not kept.
+#[tactic(auto, using(crate::proofs::InitialSteps::atom_steps))]
+fn put_atom(
+    alloc: Global,
+    known: &Declared<'_>,
+    atoms: &mut InitialAtoms,
+    positive: bool,
+    atom: &AtomSyntax<'_>,
+) -> Result<(), ReadFault>
+    ensures { Puts result (with_atom atoms.old positive (ground_of (known_form known.now) (atom_form atom.now))) atoms.new }
+{
+    let atom = ground_atom(alloc, known, atom)?;
+    if positive {
+        atoms.push(atom)?;
+    }
+    Ok(())
+}
+
+/// Gives a function a value, unless it has another.
+#[tactic(auto, using(crate::proofs::InitialSteps::value_steps))]
+fn put_value(
+    alloc: Global,
+    functions: &Declared<'_>,
+    values: &mut FunctionValues,
+    value: &ValueSyntax<'_>,
+) -> Result<(), ReadFault>
+    ensures { Puts result (with_value_of (known_form functions.now) values.old (value_form value.now)) values.new }
+{
+    let function = ground_atom(alloc, functions, &value.function)?;
+    match values.give(function, value.value)? {
+        Given::First => Ok(()),
+        Given::Again => Ok(()),
+        Given::Another => Err(ReadFault::new(FaultKind::Repeated, value.span)),
+    }
+}
+
+/// Puts what an initial literal gives to the rest.
+#[tactic(auto, using(crate::proofs::InitialSteps::literal_steps))]
+fn put_initial(
+    alloc: Global,
+    vocabulary: &Vocabulary<'_>,
+    state: &mut InitialState,
+    literal: &LiteralSyntax<'_>,
+) -> Result<(), ReadFault>
+    ensures { Puts result (with_initial (vocabulary_form vocabulary.now) state.old (literal_form literal.now)) state.new }
+{
+    match literal {
+        LiteralSyntax::Atom { positive, atom } => put_atom(
+            alloc,
+            &vocabulary.atoms,
+            &mut state.atoms,
+            *positive,
+            atom,
+        ),
+        LiteralSyntax::Equality { equality, .. } => Err(unsupported(equality.left.span)),
+        LiteralSyntax::Increase(increase) => Err(unsupported(increase.span)),
+        LiteralSyntax::Value(value) => {
+            put_value(alloc, &vocabulary.functions, &mut state.values, value)
+        }
+    }
+}
+
+/// What the initial literals of a problem give.
+#[tactic(auto, using(crate::proofs::Through::through_steps, crate::proofs::InitialSteps::initial_steps))]
+pub(crate) fn initial(
+    alloc: Global,
+    vocabulary: &Vocabulary<'_>,
+    mut literals: Literals<'_>,
+) -> Result<InitialState, ReadFault>
+    ensures { Gives (λ state. state) result (initial_of (vocabulary_form vocabulary.now) literals.entry) }
+{
+    let seed = vocabulary.atoms.objects.seed();
+    let mut state = InitialState {
+        atoms: InitialAtoms::new(alloc, seed),
+        values: FunctionValues::new(alloc, seed),
+    };
+    'literals: while let Some(literal) = literals.next(alloc)? {
+        put_initial(alloc, vocabulary, &mut state, &literal)?;
+    }
+    Ok(state)
+}

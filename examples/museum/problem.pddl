@@ -1,0 +1,11 @@
+; hall, then maps and coins on its sides, and masks behind coins.
+(define (problem one-visit)
+  (:domain museum)
+  (:objects hall maps coins masks - room)
+  (:init (in hall)
+         (door hall maps) (door maps hall)
+         (door hall coins) (door coins hall)
+         (door coins masks) (door masks coins)
+         (= (total-cost) 0))
+  (:goal (and (seen maps) (seen coins) (seen masks)))
+  (:metric minimize (total-cost)))

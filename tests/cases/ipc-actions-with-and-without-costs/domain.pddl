@@ -1,0 +1,12 @@
+(define (domain roads)
+  (:requirements :strips :typing :equality :action-costs)
+  (:types place)
+  (:constants depot - place)
+  (:predicates (at ?p - place))
+  (:functions (road ?a ?b - place) - number (total-cost) - number)
+  (:action drive
+    :parameters (?from ?to - place)
+    :precondition (and (at ?from) (not (= ?from ?to)))
+    :effect (and (not (at ?from)) (at ?to) (increase (total-cost) (road ?from ?to))))
+  (:action wait :effect ())
+  (:action pay :parameters (?p - place) :precondition (at ?p) :effect (increase (total-cost) (road ?p depot))))

@@ -1,0 +1,1 @@
+(define (problem w) (:domain words) (:objects o) (:init (increase o)) (:goal (and (assign) (scale-up o o))))

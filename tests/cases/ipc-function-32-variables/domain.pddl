@@ -1,0 +1,10 @@
+(define (domain roads)
+  (:requirements :strips :typing :equality :action-costs)
+  (:types place)
+  (:constants depot - place)
+  (:predicates (at ?p - place))
+  (:functions (total-cost) (road ?a ?b - place) (wide ?v1 ?v2 ?v3 ?v4 ?v5 ?v6 ?v7 ?v8 ?v9 ?v10 ?v11 ?v12 ?v13 ?v14 ?v15 ?v16 ?v17 ?v18 ?v19 ?v20 ?v21 ?v22 ?v23 ?v24 ?v25 ?v26 ?v27 ?v28 ?v29 ?v30 ?v31 ?v32))
+  (:action drive
+    :parameters (?from ?to - place)
+    :precondition (and (at ?from) (not (= ?from ?to)))
+    :effect (and (not (at ?from)) (at ?to) (increase (total-cost) (road ?from ?to)))))

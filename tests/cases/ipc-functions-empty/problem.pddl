@@ -1,0 +1,6 @@
+(define (problem trip)
+  (:domain roads)
+  (:objects x y z - place)
+  (:init (at x))
+  (:goal (at z))
+  (:metric minimize (total-cost)))

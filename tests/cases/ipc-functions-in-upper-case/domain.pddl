@@ -1,0 +1,10 @@
+(define (domain roads)
+  (:requirements :strips :typing :equality :action-costs)
+  (:types place)
+  (:constants depot - place)
+  (:predicates (at ?p - place))
+  (:FUNCTIONS (ROAD ?a ?b - place) - number (Total-Cost) - Number)
+  (:action drive
+    :parameters (?from ?to - place)
+    :precondition (and (at ?from) (not (= ?from ?to)))
+    :effect (and (not (at ?from)) (at ?to) (INCREASE (TOTAL-COST) (Road ?from ?to)))))

@@ -1,0 +1,10 @@
+(define (domain roads)
+  (:requirements :strips :typing :equality :action-costs)
+  (:types place)
+  (:constants depot - place)
+  (:predicates (at ?p - place))
+  (:functions (road ?a ?b - place) - number (total-cost) - number)
+  (:action drive
+    :parameters (?from ?to - place)
+    :precondition (and (at ?from) (not (= ?from ?to)))
+    :effect (and (not (at ?from)) (at ?to) (increase (total-cost) 1) (increase (total-cost) 2) (increase (total-cost) 3) (increase (total-cost) 4) (increase (total-cost) 5) (increase (total-cost) 6) (increase (total-cost) 7) (increase (total-cost) 8) (increase (total-cost) 9) (increase (total-cost) 10) (increase (total-cost) 11) (increase (total-cost) 12) (increase (total-cost) 13) (increase (total-cost) 14) (increase (total-cost) 15) (increase (total-cost) 16) (increase (total-cost) 17) (increase (total-cost) 18) (increase (total-cost) 19) (increase (total-cost) 20) (increase (total-cost) 21) (increase (total-cost) 22) (increase (total-cost) 23) (increase (total-cost) 24) (increase (total-cost) 25) (increase (total-cost) 26) (increase (total-cost) 27) (increase (total-cost) 28) (increase (total-cost) 29) (increase (total-cost) 30) (increase (total-cost) 31) (increase (total-cost) 32))))

@@ -1,0 +1,1 @@
+(define (problem evening) (:domain lamp) (:goal (lit)))

@@ -1,0 +1,1 @@
+(define (problem t) (:domain ticks) (:goal (done)))

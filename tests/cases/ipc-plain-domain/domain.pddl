@@ -1,0 +1,1 @@
+(define (domain lamp) (:predicates (lit)) (:action light :effect (lit)))

@@ -1,0 +1,1 @@
+(define (domain roads) (:predicates (at ?p)))

@@ -1,0 +1,1 @@
+(define (problem trip) (:domain roads) (:init (= (total-cost) 0)) (:goal ()))
