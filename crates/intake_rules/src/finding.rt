@@ -3,7 +3,7 @@ ghost use Rattle.std.specs.Prelude.{◌≡◌, IfOk};
 ghost use Rattle.intake_rules.specs.Findings.{IsRight};
 
 use crate::Job;
-use plan_cost::{Assessment, Cost, CostedTask, assess};
+use plan_cost::{Assessment, CompactCost, CostedTask, assess};
 use std::alloc::{AllocError, Global};
 use std::sync::Arc;
 use strips_judge::Verdict;
@@ -16,7 +16,7 @@ pub struct Finding {
     /// The verdict of its plan.
     pub verdict: Verdict,
     /// What its plan costs, if it is valid and the task counts costs.
-    pub cost: Cost,
+    pub cost: CompactCost,
 }
 
 impl Finding {
@@ -34,7 +34,7 @@ impl Finding {
                 plan: Arc::try_clone(&job.plan)?,
             },
             verdict,
-            cost,
+            cost: CompactCost::new(cost),
         })
     }
 }

@@ -6,7 +6,7 @@ use Rattle.std.specs.Option.{option_map}
 use Rattle.std.specs.List.{cons_option}
 use Rattle.strips_task.specs.declared.tasks.TaskParts.{TaskParts}
 use Rattle.judge_engine.specs.declared.planner.Tally.{Tally}
-use Rattle.judge_engine.specs.Report.{Judged, plan_line, plan_lines, valid_costs, valid_steps, least, cost_if_valid, defined_cost, steps_if_valid}
+use Rattle.judge_engine.specs.Report.{Judged, plan_line, plan_lines, valid_costs, valid_steps, least, defined_cost, steps_if_valid}
 use Rattle.judge_engine.specs.Tally.{lesser, one_if_valid, tally_with, tally_of, both}
 
 min-assoc : (a b c : ℕ) → min (min a b) c ≡ min a (min b c)
@@ -44,7 +44,7 @@ counted tally plan rest =
     let valid : (tally.valid + one_if_valid steps) + length (valid_steps rest) ≡ tally.valid + length (cons_option steps (valid_steps rest)) =
     omega (arith, count_more steps (valid_steps rest)) in
     let best = least_with tally.best steps (valid_steps rest) in
-    let cost = least_with tally.cost (defined_cost (cost_if_valid plan.verdict plan.cost)) (valid_costs rest) in
+    let cost = least_with tally.cost (defined_cost plan.cost) (valid_costs rest) in
     (λ j. record { plans = plans j; valid = valid j; best = best j; cost = cost j })
 
 -- nothing was counted yet

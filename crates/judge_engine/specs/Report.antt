@@ -87,16 +87,9 @@ pub record Judged : Type 0 where
   pub verdict : Verdict
   pub cost : Cost
 
--- the cost that is reported beside a verdict: only that of a valid plan
-abbrev pub cost_if_valid : Verdict → Cost → Cost
-cost_if_valid (Valid steps) cost = cost
-cost_if_valid (Fails number why) cost = NotCounted
-cost_if_valid (Goal conds) cost = NotCounted
-cost_if_valid (Unread line) cost = NotCounted
-
--- what is found about a plan: its verdict, and its cost if it is valid and costs are counted
+-- what is found about a plan: its verdict, and its cost if that is counted
 abbrev pub judged_text : TaskParts → Judged → List ℕ
-judged_text task judged = verdict_text task judged.plan judged.verdict ++ cost_text (cost_if_valid judged.verdict judged.cost)
+judged_text task judged = verdict_text task judged.plan judged.verdict ++ cost_text judged.cost
 
 -- the line of a planner's plan; plans count from 1
 abbrev pub plan_line : TaskParts → List ℕ → ℕ → Judged → List ℕ
@@ -119,9 +112,9 @@ defined_cost NotCounted = None
 defined_cost Undefined = None
 defined_cost (Billionths billionths) = Some billionths
 
--- the defined costs of the valid plans
+-- the defined costs of plans; one that is not valid has none
 abbrev pub valid_costs : List Judged → List ℕ
-valid_costs plans = filter_map (λ judged. defined_cost (cost_if_valid judged.verdict judged.cost)) plans
+valid_costs plans = filter_map (λ judged. defined_cost judged.cost) plans
 
 -- the least number of a list, if there is one
 abbrev pub least : List ℕ → Option ℕ

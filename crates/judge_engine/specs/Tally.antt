@@ -2,7 +2,7 @@
 
 use Rattle.std.specs.Prelude.{ℕ, ◌+◌, List, length, min, Option, None, Some}
 use Rattle.judge_engine.specs.declared.planner.Tally.{Tally}
-use Rattle.judge_engine.specs.Report.{Judged, cost_if_valid, defined_cost, steps_if_valid, valid_costs, valid_steps, least}
+use Rattle.judge_engine.specs.Report.{Judged, defined_cost, steps_if_valid, valid_costs, valid_steps, least}
 
 -- the lesser of two numbers, as far as there are any
 abbrev pub lesser : Option ℕ → Option ℕ → Option ℕ
@@ -26,7 +26,7 @@ tally_over tally steps cost = record {
 
 -- this plan more
 abbrev pub tally_with : Tally → Judged → Tally
-tally_with tally judged = tally_over tally (steps_if_valid judged.verdict) (defined_cost (cost_if_valid judged.verdict judged.cost))
+tally_with tally judged = tally_over tally (steps_if_valid judged.verdict) (defined_cost judged.cost)
 
 -- what is told of these plans
 abbrev pub tally_of : List Judged → Tally

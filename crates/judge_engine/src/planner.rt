@@ -6,7 +6,6 @@ ghost use Rattle.judge_engine.specs.Report.{defined_cost, least_cost, planner_li
 ghost use Rattle.judge_engine.specs.Tally.{lesser, tally_over, tally_with};
 
 use crate::lines::{push_plan_line, push_summary};
-use crate::render::cost_if_valid;
 use crate::text::Text;
 use intake_rules::Finding;
 use judge_bench::Findings;
@@ -61,8 +60,7 @@ fn counted(tally: Tally, finding: &Finding) -> Tally
     requires some { tally.valid ≤ tally.plans }
     ensures { result ≡ tally_with tally (as_judged finding.now) }
 {
-    let cost = cost_if_valid(&finding.verdict, finding.cost);
-    tally_over(tally, valid_steps(&finding.verdict), defined_cost(cost))
+    tally_over(tally, valid_steps(&finding.verdict), defined_cost(finding.cost.get()))
 }
 
 /// A tally with one plan more, which has this number of steps if it is valid, and this cost if that is defined.

@@ -3,14 +3,13 @@
 //! Each function adds its piece behind the text that is there. Names come from the task, by number.
 ghost use Rattle.std.specs.Prelude.{◌≡◌, ◌++◌, ◌∷◌, ℕ, List, ◌-◌, OnOk, map, slice_get};
 ghost use Rattle.std.specs.Map.{keys_of};
-ghost use Rattle.judge_engine.specs.Report.{name_at, spaced, atom_text, formula_text, condition_text, conditions_text, step_text, why_text, failure_text, verdict_text, cost_if_valid, judged_text};
+ghost use Rattle.judge_engine.specs.Report.{name_at, spaced, atom_text, formula_text, condition_text, conditions_text, step_text, why_text, failure_text, verdict_text, judged_text};
 ghost use Rattle.judge_engine.specs.Plans.{as_judged};
 ghost use Rattle.strips_task.specs.StepView.{step_shown};
 
 use crate::costs::push_cost;
 use crate::text::Text;
 use intake_rules::Finding;
-use plan_cost::Cost;
 use std::alloc::AllocError;
 use strips_judge::{Verdict, Why};
 use strips_task::{Atom, GroundCond, GroundFormula, Plan, StepList, StepView, Task};
@@ -182,19 +181,7 @@ pub(crate) fn push_finding(
     ensures { OnOk result (text.new ≡ text.old ++ judged_text task.now (as_judged finding.now)) }
 {
     push_verdict(text, task, &finding.job.plan, &finding.verdict)?;
-    push_cost(text, cost_if_valid(&finding.verdict, finding.cost))
-}
-
-/// The cost that is reported beside a verdict: only that of a valid plan.
-pub(crate) fn cost_if_valid(verdict: &Verdict, cost: Cost) -> Cost
-    ensures { result ≡ cost_if_valid verdict.now cost }
-{
-    match verdict {
-        Verdict::Valid { .. } => cost,
-        Verdict::Fails { .. } | Verdict::Goal { .. } | Verdict::Unreadable { .. } => {
-            Cost::NotCounted
-        }
-    }
+    push_cost(text, finding.cost.get())
 }
 
 /// Adds a verdict of a plan.

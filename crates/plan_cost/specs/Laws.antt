@@ -1,6 +1,6 @@
 -- What follows from the definition of costs.
 
-use Rattle.std.specs.Prelude.{◌≡◌, ◌↔◌, ℕ, ◌+◌, List, ◌++◌, Option, Some, None, Contains, map, sum}
+use Rattle.std.specs.Prelude.{◌≡◌, ◌↔◌, ℕ, ◌+◌, List, ◌++◌, Some, None, Contains, map, sum}
 use Rattle.std.specs.List.{flat_map}
 use Rattle.strips_task.specs.declared.plans.Plan.{Plan}
 use Rattle.strips_task.specs.declared.steps.StepText.{StepText}

@@ -1,5 +1,6 @@
 pub mod Amounts
 pub mod Assessments
+pub mod CompactCosts
 pub mod Costs
 pub mod Laws
 pub mod Values

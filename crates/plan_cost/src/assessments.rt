@@ -1,6 +1,7 @@
 //! A plan's verdict, and what it costs.
 ghost use Rattle.std.specs.Prelude.{◌≡◌, IfOk};
 ghost use Rattle.plan_cost.specs.Assessments.{assessment, cost_beside};
+ghost use Rattle.plan_cost.specs.CompactCosts.{IsCompact};
 
 use crate::counting::plan_cost;
 use crate::{Cost, CostedTask};
@@ -19,7 +20,8 @@ pub struct Assessment {
 
 /// Judges a plan, and adds up what it costs if it is valid and the task counts costs.
 pub fn assess(alloc: Global, task: &CostedTask, plan: &Plan) -> Result<Assessment, AllocError>
-    ensures { IfOk result (λ answer. answer ≡ assessment task.now plan.now) }
+    ensures answer { IfOk result (λ answer. answer ≡ assessment task.now plan.now) }
+    ensures compact { IfOk result (λ answer. IsCompact answer.cost) }
 {
     let verdict = judge(alloc, &task.task, plan)?;
     let cost = match (&task.costs, &verdict) {

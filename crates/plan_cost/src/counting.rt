@@ -2,9 +2,10 @@
 //!
 //! A step takes one hash to find its action. If the action adds values of functions, it takes one more for each argument and one for each
 //! such value. The list of objects and the ground function are used again for every step, so that steps take no memory of their own.
-ghost use Rattle.std.specs.Prelude.{◌≡◌, ◌≤◌, ◌*◌, ◌^◌, length, map, IfOk, IfSome, OnOk};
+ghost use Rattle.std.specs.Prelude.{◌≡◌, ◌<◌, ◌≤◌, ◌*◌, ◌^◌, length, map, IfOk, IfSome, OnOk};
 ghost use Rattle.strips_task.specs.StepView.{step_shown};
 ghost use Rattle.strips_judge.specs.Step.{objects_named};
+ghost use Rattle.plan_cost.specs.CompactCosts.{IsCompact};
 ghost use Rattle.plan_cost.specs.Costs.{amount_of, increases_of, step_amounts, initial_cost, sum_of, steps_cost, cost_answer, cost_of};
 
 use crate::objects::{find_objects_for, ground};
@@ -37,7 +38,8 @@ impl Scratch {
 /// It does not judge the plan: what a plan that is not valid costs is defined, but says nothing. A text that is no plan is
 /// [`Cost::NotCounted`].
 pub fn plan_cost(alloc: Global, task: &Task, costs: &Costs, plan: &Plan) -> Result<Cost, AllocError>
-    ensures { IfOk result (λ answer. answer ≡ cost_of task.now costs.now plan.now) }
+    ensures cost { IfOk result (λ answer. answer ≡ cost_of task.now costs.now plan.now) }
+    ensures compact { IfOk result IsCompact }
 {
     match plan {
         Plan::Steps(steps) => Ok(match steps_cost(alloc, task, costs, steps)? {
@@ -54,7 +56,8 @@ fn steps_cost(
     costs: &Costs,
     steps: &StepList,
 ) -> Result<Option<u128>, AllocError>
-    ensures { IfOk result (λ cost. cost ≡ steps_cost task.now costs.now steps.now) }
+    ensures cost { IfOk result (λ cost. cost ≡ steps_cost task.now costs.now steps.now) }
+    ensures small { IfOk result (λ cost. IfSome cost (λ sum. sum < 2 ^ 127)) }
 {
     let mut scratch = Scratch::new(alloc);
     let mut sum = u128::from(costs.initial_cost(alloc));

@@ -11,8 +11,8 @@ loop-place-init c = (
   omega arith,
 )
 
-pub returns-in-None : goal.returns-in-None
-returns-in-None c =
+pub returns-in-None-clause-cost : goal.returns-in-None-clause-cost
+returns-in-None-clause-cost c =
     let lt : c.loop-place.place < length c.args.steps.now = omega arith in
     sym (undefined_here (λ step. sum_of (step_amounts c.args.task.now c.args.costs.now step)) (steps_cost c.args.task.now c.args.costs.now c.args.steps.now) c.loop-place.sum c.args.steps.now c.loop-place.place c.loop-place.invariant.0
     (step_shown c.get.result) lt (sym (get_or_from_slice_get c.args.steps.now c.loop-place.place (step_shown c.get.result) (step_shown c.get.result) c.get.ensures))
