@@ -60,7 +60,11 @@ fn counted(tally: Tally, finding: &Finding) -> Tally
     requires some { tally.valid ≤ tally.plans }
     ensures { result ≡ tally_with tally (as_judged finding.now) }
 {
-    tally_over(tally, valid_steps(&finding.verdict), defined_cost(finding.cost.get()))
+    tally_over(
+        tally,
+        valid_steps(&finding.verdict),
+        defined_cost(finding.cost.get()),
+    )
 }
 
 /// A tally with one plan more, which has this number of steps if it is valid, and this cost if that is defined.
