@@ -1,9 +1,11 @@
 -- Rows of bits: what a word changed in place leaves of the others, and which bits a word's own are.
 
-use Rattle.std.proofs.Common.{◌≡◌, ◌≢◌, ℕ, ◌+◌, ◌*◌, ◌/◌, ◌%◌, ◌^◌, ◌-◌, ◌<◌, ⊎_elim, true, false, List, length, get_or, set, slice_index, nat_eq, ap, sym, ◌∙◌, arith, get_or-set_same, get_or-set_other}
+use Rattle.std.proofs.Common.{◌≡◌, ◌≢◌, ℕ, ◌+◌, ◌*◌, ◌/◌, ◌%◌, ◌^◌, ◌-◌, ◌<◌, ◌≤◌, ⊎_elim, false, ltb, List, length, get_or, set, slice_index, nat_eq, ap, sym, ◌∙◌, arith, get_or-set_same, get_or-set_other}
 use Rattle.std.specs.Int.{bit_at}
-use Rattle.std.proofs.lemmas.Nat.Bits.{bit_at-zero, bit_at_ones}
-use Rattle.std.proofs.lemmas.Bool.{cases_eq}
+use Rattle.std.proofs.Math.Nat.{mod-eq_of_lt, one-mul}
+use Rattle.std.proofs.Math.Pow.{pow-lt}
+use Rattle.std.proofs.lemmas.Nat.Bits.{bit_at-zero, bit_at_ones, bit_at_ones_above}
+use Rattle.std.proofs.lemmas.Bool.{cases_eq, cases_lt, lt-ltb, le-ltb}
 use Rattle.std.proofs.lemmas.List.{get_or_past}
 use Rattle.bit_rows.specs.Rows.{row_has, ChangesBit}
 
@@ -58,10 +60,54 @@ row_has-in words j i b within at =
     ∙ ap (λ k. nat_eq (bit_at (slice_index words j) k) 1) bit
     ∙ ap (λ v. nat_eq v 1) at
 
--- where each word up to a place is all ones, so is each bit
-pub row_has-ones : (words : List ℕ) (count : ℕ) → ((j : ℕ) → j < count / 64 + 1 → slice_index words j ≡ 2 ^ 64 - 1)
-    → (k : ℕ) → k < count → row_has words k ≡ true
-row_has-ones words count ones k lt =
-    let place : k / 64 < count / 64 + 1 = omega arith in
-    let bit : k % 64 < 64 = omega arith in
-    ap (λ w. nat_eq (bit_at w (k % 64)) 1) (ones (k / 64) place) ∙ ap (λ b. nat_eq b 1) (bit_at_ones 64 (k % 64) bit)
+-- a whole word of a row of which the first bits are set
+pub whole_word : (place count bit : ℕ) → place < count / 64 → bit < 64 → nat_eq (bit_at (2 ^ 64 - 1) bit) 1 ≡ ltb (place * 64 + bit) count
+whole_word place count bit before within =
+    ap (λ b. nat_eq b 1) (bit_at_ones 64 bit within) ∙ sym (lt-ltb (place * 64 + bit) count (omega arith))
+
+-- its last word that has a bit set
+pub last_word : (place count bit : ℕ) → place ≡ count / 64 → bit < 64
+    → nat_eq (bit_at (1 * 2 ^ (count % 64) % 2 ^ 64 - 1) bit) 1 ≡ ltb (place * 64 + bit) count
+last_word place count bit at within =
+    let few : count % 64 < 64 = omega arith in
+    let fits : 1 * 2 ^ (count % 64) % 2 ^ 64 ≡ 2 ^ (count % 64) =
+    ap (λ n. n % 2 ^ 64) (one-mul (2 ^ (count % 64))) ∙ mod-eq_of_lt (pow-lt few) in
+    ap (λ w. nat_eq (bit_at (w - 1) bit) 1) fits
+    ∙ ⊎_elim
+    (λ (low : bit < count % 64). ap (λ b. nat_eq b 1) (bit_at_ones (count % 64) bit low) ∙ sym (lt-ltb (place * 64 + bit) count (omega arith)))
+    (λ (high : count % 64 ≤ bit). ap (λ b. nat_eq b 1) (bit_at_ones_above (count % 64) bit high) ∙ sym (le-ltb (place * 64 + bit) count (omega arith)))
+    (cases_lt bit (count % 64))
+
+-- a row whose words are those of a row of which the first bits are set is one
+pub row_has-first : (words : List ℕ) (count : ℕ)
+    → ((j bit : ℕ) → bit < 64 → nat_eq (bit_at (slice_index words j) bit) 1 ≡ ltb (j * 64 + bit) count)
+    → (k : ℕ) → row_has words k ≡ ltb k count
+row_has-first words count first k =
+    let within : k % 64 < 64 = omega arith in
+    let whole : k / 64 * 64 + k % 64 ≡ k = omega arith in
+    first (k / 64) (k % 64) within ∙ ap (λ n. ltb n count) whole
+
+-- one word that is cut to the first bits behind whole ones makes such a row
+pub cut_last : (words : List ℕ) (count word : ℕ) → length words ≡ count / 64 + 1 → ((j : ℕ) → j < count / 64 + 1 → slice_index words j ≡ 2 ^ 64 - 1)
+    → ((bit : ℕ) → bit < 64 → nat_eq (bit_at word bit) 1 ≡ ltb (count / 64 * 64 + bit) count)
+    → (k : ℕ) → row_has (set words (count / 64) word) k ≡ ltb k count
+cut_last words count word long ones last = row_has-first (set words (count / 64) word) count by
+  where
+    by : (j bit : ℕ) → bit < 64 → nat_eq (bit_at (slice_index (set words (count / 64) word) j) bit) 1 ≡ ltb (j * 64 + bit) count
+    by j bit within =
+        ⊎_elim
+        (λ (same : j ≡ count / 64).
+        ap (λ i. nat_eq (bit_at (slice_index (set words (count / 64) word) i) bit) 1) same
+        ∙ ap (λ w. nat_eq (bit_at w bit) 1) (get_or-set_same words (count / 64) word 0 (omega (arith, long)))
+        ∙ last bit within
+        ∙ ap (λ i. ltb (i * 64 + bit) count) (sym same))
+        (λ (other : j ≢ count / 64).
+        ap (λ w. nat_eq (bit_at w bit) 1) (get_or-set_other words (count / 64) j word 0 other)
+        ∙ ⊎_elim
+        (λ (before : j < count / 64). ap (λ w. nat_eq (bit_at w bit) 1) (ones j (omega arith)) ∙ whole_word j count bit before within)
+        (λ (behind : count / 64 ≤ j).
+        let past : length words ≤ j = omega (arith, other, long) in
+        let none : slice_index words j ≡ 0 = get_or_past words j 0 past in
+        ap (λ w. nat_eq (bit_at w bit) 1) none ∙ ap (λ b. nat_eq b 1) (bit_at-zero bit) ∙ sym (le-ltb (j * 64 + bit) count (omega (arith, other))))
+        (cases_lt j (count / 64)))
+        (cases_eq j (count / 64))

@@ -2,11 +2,12 @@
 //!
 //! ```text
 //! let mut row = Row::new(alloc);
-//! row.set(70)?;                       // two words now
+//! row.reserve(71)?;                   // two words now
+//! row.set(70);
 //! row.has(70) && !row.has(1000)       // a bit that was never set is clear
 //! ```
 //!
-//! [`Row`] takes memory as bits far to the right are set. The functions over slices take none; [`least_bit`] finds the first set bit of a word
+//! [`Row`] takes memory where room is asked for. The functions over slices take none; [`least_bit`] finds the first set bit of a word
 //! in one instruction.
 #![tactic(auto)]
 

@@ -1,8 +1,9 @@
 //! A row of bits that grows.
 //!
-//! The row has no length for its users: a bit that was never set is clear. Words are added as bits far to the right are set, and
-//! setting and clearing change the row in place.
-ghost use Rattle.std.specs.Prelude.{◌≡◌, ◌≢◌, ◌^◌, ◌<◌, ℕ, List, slice_index, vec_len, true, false, OnOk, IfOk};
+//! A bit that was never set is clear, also one for which there is no room. Room is made ahead, and setting and clearing change the row in
+//! place.
+ghost use Rattle.std.specs.Prelude.{◌≡◌, ◌≢◌, ◌+◌, ◌*◌, ◌<◌, ◌≤◌, ℕ, length, ltb, nat_eq, true, false, OnOk, IfOk};
+ghost use Rattle.std.specs.Int.{bit_at};
 ghost use Rattle.bit_rows.specs.Rows.{row_has};
 
 use crate::words::{WORD_BITS, clear_bit, has_bit, set_bit};
@@ -16,6 +17,8 @@ pub struct Row {
 }
 
 impl Model for Row {
+    ghost use Rattle.std.specs.Prelude.{List, ℕ};
+
     ghost Value = { List ℕ };
 
     ghost view = { λ row. row.words.items };
@@ -31,13 +34,40 @@ impl Row {
         }
     }
 
-    /// A row in which at least the first `count` bits are set.
+    /// A row in which the first `count` bits are set and no others, with room for them.
     pub fn with_first(alloc: Global, count: usize) -> Result<Row, AllocError>
-        ensures { IfOk result (λ row. (k : ℕ) → k < count → row_has row k ≡ true) }
+        ensures first { IfOk result (λ row. (k : ℕ) → row_has row k ≡ ltb k count) }
+        ensures room { IfOk result (λ row. count ≤ 64 * length row) }
     {
+        let whole = count / WORD_BITS;
         let mut words = Vec::new(alloc);
-        words.resize(count / WORD_BITS + 1, u64::MAX)?;
+        words.resize(whole + 1, u64::MAX)?;
+        words[whole] = first_in(whole, count);
         Ok(Row { words })
+    }
+
+    /// Makes room for so many bits. Takes memory where there is none, and changes no bit.
+    pub fn reserve(&mut self, count: usize) -> Result<(), AllocError>
+        ensures room { OnOk result (count ≤ 64 * length self.new) }
+        ensures longer { length self.old ≤ length self.new }
+        ensures same { (k : ℕ) → row_has self.new k ≡ row_has self.old k }
+    {
+        let place = count / WORD_BITS;
+        if place >= self.words.len() {
+            self.words.resize(place + 1, 0)?;
+        }
+        Ok(())
+    }
+
+    /// Sets the first `count` bits, for which there is room, and clears all others, a word at a time.
+    pub fn reset_to_first(&mut self, count: usize)
+        requires { count ≤ 64 * length self.old }
+        ensures first { (k : ℕ) → row_has self.new k ≡ ltb k count }
+        ensures long { length self.new ≡ length self.old }
+    {
+        for place in 0..self.words.len() {
+            self.words[place] = first_in(place, count);
+        }
     }
 
     /// Whether a bit is set.
@@ -47,20 +77,21 @@ impl Row {
         bit / WORD_BITS < self.words.len() && has_bit(&self.words, bit)
     }
 
-    /// Sets a bit.
-    pub fn set(&mut self, bit: usize) -> Result<(), AllocError>
-        ensures set { OnOk result (row_has self.new bit ≡ true) }
-        ensures others { OnOk result ((k : ℕ) → k ≢ bit → row_has self.new k ≡ row_has self.old k) }
+    /// Sets a bit for which there is room.
+    pub fn set(&mut self, bit: usize)
+        requires { bit < 64 * length self.old }
+        ensures set { row_has self.new bit ≡ true }
+        ensures others { (k : ℕ) → k ≢ bit → row_has self.new k ≡ row_has self.old k }
+        ensures long { length self.new ≡ length self.old }
     {
-        reach(&mut self.words, bit / WORD_BITS)?;
         set_bit(&mut self.words, bit);
-        Ok(())
     }
 
     /// Clears a bit.
     pub fn clear(&mut self, bit: usize)
         ensures cleared { row_has self.new bit ≡ false }
         ensures others { (k : ℕ) → k ≢ bit → row_has self.new k ≡ row_has self.old k }
+        ensures long { length self.new ≡ length self.old }
     {
         if bit / WORD_BITS < self.words.len() {
             clear_bit(&mut self.words, bit);
@@ -68,14 +99,16 @@ impl Row {
     }
 }
 
-// Makes the words reach up to and with a place; the new ones are 0.
-fn reach(words: &mut Vec<u64>, place: usize) -> Result<(), AllocError>
-    requires { place < 2 ^ 60 }
-    ensures reached { OnOk result (place < vec_len words.new) }
-    ensures same { OnOk result ((k : ℕ) → slice_index words.new.items k ≡ slice_index words.old.items k) }
+/// The word with an index in a row of which the first `count` bits are set and no others.
+fn first_in(place: usize, count: usize) -> u64
+    ensures { (bit : ℕ) → bit < 64 → nat_eq (bit_at result bit) 1 ≡ ltb (place * 64 + bit) count }
 {
-    if place >= words.len() {
-        words.resize(place + 1, 0)?;
+    let whole = count / WORD_BITS;
+    if place < whole {
+        u64::MAX
+    } else if place == whole {
+        (1 << (count % WORD_BITS)) - 1
+    } else {
+        0
     }
-    Ok(())
 }

@@ -21,6 +21,7 @@ use std::mem;
 use std::snapshot::Snapshot;
 use std::sync::Arc;
 use strips_judge::Plan;
+use submitted_plan::SubmittedPlan;
 
 /// The desk of one thread. Contracts see its task, the number of its places, and what it knows.
 #[derive(Drop)]
@@ -88,8 +89,9 @@ impl Desk {
         ensures reply { submit_reply result ≡ desk_reply self.old (submit planner (arc_value plan)) }
         ensures state { self.new ≡ desk_after self.old (submit planner (arc_value plan)) (submit_reply result) }
         ensures history { GoesOn self.old self.new (submit planner (arc_value plan)) (submit_reply result) }
-        ensures plan { IfErr result (λ refused. refused.plan ≡ plan) }
+        ensures plan { IfErr result (λ refused. refused.plan ≡ arc_value plan) }
     {
+        let plan = SubmittedPlan::from_plan(plan);
         match self.submit_refusal(planner) {
             Some(refusal) => Err(SubmitRefused { refusal, plan }),
             None => Ok(self.accept(planner, plan)),
@@ -236,10 +238,10 @@ impl Desk {
     }
 
     /// Takes a plan in that is not refused.
-    fn accept(&mut self, planner: u32, plan: Arc<Plan>) -> u32
+    fn accept(&mut self, planner: u32, plan: SubmittedPlan) -> u32
         requires { submit_refusal self.old.places self.old.intake planner ≡ None }
         ensures number { result ≡ length self.old.intake.jobs }
-        ensures state { self.new ≡ with_intake self.old (with_job self.old.intake planner (arc_value plan)) }
+        ensures state { self.new ≡ with_intake self.old (with_job self.old.intake planner plan) }
     {
         let number = self.table.len() as u32;
         let row = self.planners[planner as usize];

@@ -1,12 +1,15 @@
 //! A job with its verdict and its cost.
 ghost use Rattle.std.specs.Prelude.{◌≡◌, IfOk};
+ghost use Rattle.plan_cost.specs.Assessments.{assessment};
+ghost use Rattle.plan_cost.specs.CompactCosts.{IsCompact};
 ghost use Rattle.intake_rules.specs.Findings.{IsRight};
 
 use crate::Job;
 use plan_cost::{Assessment, CompactCost, CostedTask, assess};
 use std::alloc::{AllocError, Global};
-use std::sync::Arc;
 use strips_judge::Verdict;
+use submitted_plan::{Form, SubmittedPlan};
+use text_judge::TextJudge;
 
 /// What was found of a job.
 #[derive(Drop)]
@@ -20,21 +23,49 @@ pub struct Finding {
 }
 
 impl Finding {
-    /// Judges the plan of a job, and adds up what it costs. Takes the memory that [`assess`] takes; the plan gets one owner more.
-    #[tactic(auto, unfolding(crate::specs::Findings::verdict_of, crate::specs::Findings::counted_cost))]
+    /// Judges the plan of a job, and adds up what it costs. Its plan gets one owner more. Who judges many plans has a judge of its own
+    /// and calls [`judge_by`](Finding::judge_by).
     pub fn judge(alloc: Global, task: &CostedTask, job: &Job) -> Result<Finding, AllocError>
         ensures right { IfOk result (λ finding. IsRight task.now finding) }
         ensures job { IfOk result (λ finding. finding.job ≡ job.now) }
     {
-        let Assessment { verdict, cost } = assess(alloc, task, &job.plan)?;
+        let mut judge = TextJudge::new(alloc, task)?;
+        Finding::judge_by(alloc, &mut judge, job)
+    }
+
+    /// Judges the plan of a job for the task of a judge, who remembers steps from one plan to the next, and adds up what it costs. Its plan gets
+    /// one owner more.
+    #[tactic(auto, unfolding(crate::specs::Findings::verdict_of, crate::specs::Findings::counted_cost))]
+    pub fn judge_by(
+        alloc: Global,
+        judge: &mut TextJudge<'_>,
+        job: &Job,
+    ) -> Result<Finding, AllocError>
+        ensures right { IfOk result (λ finding. IsRight judge.old finding) }
+        ensures job { IfOk result (λ finding. finding.job ≡ job.now) }
+        ensures task { judge.new ≡ judge.old }
+    {
+        let Assessment { verdict, cost } = assess_by(alloc, judge, &job.plan)?;
         Ok(Finding {
-            job: Job {
-                number: job.number,
-                planner: job.planner,
-                plan: Arc::try_clone(&job.plan)?,
-            },
+            job: job.try_clone()?,
             verdict,
             cost: CompactCost::new(cost),
         })
+    }
+}
+
+/// Judges a plan in whichever form it is kept, and adds up what it costs.
+fn assess_by(
+    alloc: Global,
+    judge: &mut TextJudge<'_>,
+    plan: &SubmittedPlan,
+) -> Result<Assessment, AllocError>
+    ensures answer { IfOk result (λ answer. answer ≡ assessment judge.old plan.now) }
+    ensures compact { IfOk result (λ answer. IsCompact answer.cost) }
+    ensures task { judge.new ≡ judge.old }
+{
+    match plan.form() {
+        Form::Read(plan) => assess(alloc, judge.task(), plan),
+        Form::Text(text) => judge.assess(alloc, text),
     }
 }

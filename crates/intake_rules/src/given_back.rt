@@ -1,7 +1,6 @@
 //! What an intake gives back with a refusal.
 use crate::{Finding, Refusal};
-use std::sync::Arc;
-use strips_judge::Plan;
+use submitted_plan::SubmittedPlan;
 
 /// A plan that was not accepted.
 #[derive(Drop)]
@@ -9,7 +8,7 @@ pub struct SubmitRefused {
     /// Why not.
     pub refusal: Refusal,
     /// The plan that was handed in.
-    pub plan: Arc<Plan>,
+    pub plan: SubmittedPlan,
 }
 
 /// A finding that was not stored.

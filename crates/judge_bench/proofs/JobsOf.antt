@@ -10,7 +10,7 @@ use Rattle.intake_rules.specs.Intake.{is_of, jobs_of}
 use Rattle.intake_rules.specs.Jobs.{AcceptedPlan}
 use Rattle.judge_bench.specs.Findings.{of_planner, right_finding}
 use Rattle.judge_bench.specs.Kept.{Numbered}
-use Rattle.judge_bench.specs.Submissions.{SubmittedPlan, jobs_from}
+use Rattle.judge_bench.specs.Submissions.{SubmissionParts, jobs_from}
 
 pub jobs_of-append : (planner : ℕ) (jobs more : List AcceptedPlan) → jobs_of planner (jobs ++ more) ≡ jobs_of planner jobs ++ jobs_of planner more
 unfolding jobs_of
@@ -51,12 +51,12 @@ found_of task planner (job ∷ jobs) = by (nat_eq job.planner planner) (of_plann
     by false found of_it is = is
 
 -- plans as jobs are numbered by their slots
-numbers_from : (number : ℕ) (plans : List SubmittedPlan) (slot : ℕ) (job : AcceptedPlan) → slice_get (jobs_from number plans) slot ≡ Some job → job.number ≡ number + slot
+numbers_from : (number : ℕ) (plans : List SubmissionParts) (slot : ℕ) (job : AcceptedPlan) → slice_get (jobs_from number plans) slot ≡ Some job → job.number ≡ number + slot
 numbers_from number [] slot job at = cc
 numbers_from number (plan ∷ plans) zero job at =
     let same : record { number = number; planner = plan.planner; plan = plan.plan } ≡ job = cc in
     sym (ap (λ (x : AcceptedPlan). x.number) same) ∙ (let e : number ≡ number + 0 = omega arith in e)
 numbers_from number (plan ∷ plans) (suc slot) job at = let rest = numbers_from (suc number) plans slot job at in omega arith
 
-pub numbered_from_zero : (plans : List SubmittedPlan) → Numbered (jobs_from 0 plans)
+pub numbered_from_zero : (plans : List SubmissionParts) → Numbered (jobs_from 0 plans)
 numbered_from_zero plans slot job at = let e = numbers_from 0 plans slot job at in omega arith

@@ -11,7 +11,7 @@ use Rattle.bench_rule.specs.declared.views.View.{View}
 use Rattle.bench_rule.specs.Views.{with_close, with_joined, with_posted, with_seat_out, times, times_held}
 use Rattle.judge_bench.specs.Keeping.{AllKnown, KeptNext, NextIsUnknown, NoneWaits, OnlyAccepts, with_all_joined, with_all_out}
 use Rattle.judge_bench.specs.Kept.{Numbered}
-use Rattle.judge_bench.specs.Submissions.{SubmittedPlan, job_of, jobs_from}
+use Rattle.judge_bench.specs.Submissions.{SubmissionParts, job_of, jobs_from}
 use Rattle.judge_bench.proofs.JobsOf.{its_slot}
 
 -- a place with nothing is past the end
@@ -21,15 +21,15 @@ none_past (x ∷ xs) zero at = cc
 none_past (x ∷ xs) (suc place) at = let rest = none_past xs place at in omega arith
 
 -- so far the plans before those that are left were accepted
-pub record AcceptedSoFar (slots planners : ℕ) (before view : View) (plans left : List SubmittedPlan) : Type 0 where
+pub record AcceptedSoFar (slots planners : ℕ) (before view : View) (plans left : List SubmissionParts) : Type 0 where
   pub others : OnlyAccepts before view
   pub jobs : view.jobs ++ jobs_from (length view.jobs) left ≡ before.jobs ++ jobs_from (length before.jobs) plans
   pub room : length view.jobs + length left ≤ slots
   pub known : All (λ plan. plan.planner < planners) left
 
 -- one plan more was accepted
-pub one_accepted : (slots planners : ℕ) (before view : View) (plans left : List SubmittedPlan) → AcceptedSoFar slots planners before view plans left
-    → (plan : SubmittedPlan) (rest : List SubmittedPlan) → left ≡ plan ∷ rest
+pub one_accepted : (slots planners : ℕ) (before view : View) (plans left : List SubmissionParts) → AcceptedSoFar slots planners before view plans left
+    → (plan : SubmissionParts) (rest : List SubmissionParts) → left ≡ plan ∷ rest
     → (later : View) → later ≡ with_posted view (job_of (length view.jobs) plan)
     → AcceptedSoFar slots planners before later plans rest
 one_accepted slots planners before view plans left so_far plan rest at later is =
@@ -50,7 +50,7 @@ one_accepted slots planners before view plans left so_far plan rest at later is 
           ∙ ap (λ l. view.jobs ++ jobs_from (length view.jobs) l) (sym at)
           ∙ so_far.jobs;
       room = omega arith;
-      known = All-tail (λ (p : SubmittedPlan). p.planner < planners) plan rest (subst (All (λ (p : SubmittedPlan). p.planner < planners)) at so_far.known);
+      known = All-tail (λ (p : SubmissionParts). p.planner < planners) plan rest (subst (All (λ (p : SubmissionParts). p.planner < planners)) at so_far.known);
     }
 
 -- the first planners are closed, and so many others are open

@@ -6,7 +6,7 @@ use Rattle.plan_cost.specs.declared.costs.CostedTask.{CostedTask}
 use Rattle.intake_rules.specs.declared.finding.Finding.{Finding}
 use Rattle.intake_rules.specs.Findings.{verdict_of, counted_cost}
 use Rattle.intake_rules.specs.Jobs.{AcceptedPlan}
-use Rattle.judge_bench.specs.Submissions.{SubmittedPlan, jobs_from}
+use Rattle.judge_bench.specs.Submissions.{SubmissionParts, jobs_from}
 
 -- the right finding of a job
 abbrev pub right_finding : CostedTask → AcceptedPlan → Finding
@@ -21,7 +21,7 @@ abbrev pub by_planner : ℕ → List Finding → List (List Finding)
 by_planner planners findings = map (of_planner findings) (range_with_len 0 planners)
 
 -- what a run finds: for each planner one right finding of each of its plans, in the order in which they were handed in
-unfoldable pub findings_of : CostedTask → ℕ → List SubmittedPlan → List (List Finding)
+unfoldable pub findings_of : CostedTask → ℕ → List SubmissionParts → List (List Finding)
 findings_of task planners plans = by_planner planners (map (right_finding task) (jobs_from 0 plans))
 
 -- no finding, for so many planners

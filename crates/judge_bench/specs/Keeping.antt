@@ -11,7 +11,7 @@ use Rattle.bench_rule.specs.Plays.{SeemsWaiting}
 use Rattle.bench_rule.specs.Views.{times, with_emission}
 use Rattle.judge_bench.specs.Findings.{right_finding}
 use Rattle.judge_bench.specs.Seats.{accepted_intake, with_misses}
-use Rattle.judge_bench.specs.Submissions.{SubmittedPlan, jobs_from}
+use Rattle.judge_bench.specs.Submissions.{SubmissionParts, jobs_from}
 
 -- the right findings of the first of a planner's jobs, as many as were emitted
 abbrev pub emitted_of : CostedTask → View → ℕ → List Finding
@@ -41,7 +41,7 @@ pub record OnlyAccepts (before later : View) : Type 0 where
   pub finished : later.finished ≡ before.finished
 
 -- the plans were accepted as jobs, numbered on from those of before
-abbrev pub AcceptsAll : List SubmittedPlan → View → View → Type 0
+abbrev pub AcceptsAll : List SubmissionParts → View → View → Type 0
 AcceptsAll plans before later = later.jobs ≡ before.jobs ++ jobs_from (length before.jobs) plans
 
 -- nothing changed but misses and how many findings of this planner were emitted

@@ -5,15 +5,15 @@ use Rattle.strips_task.specs.declared.plans.Plan.{Plan}
 use Rattle.intake_rules.specs.Jobs.{AcceptedPlan}
 
 -- what is known of a plan that is handed in: whose plan it is, and the plan
-pub record SubmittedPlan : Type 0 where
+pub record SubmissionParts : Type 0 where
   pub planner : ℕ
   pub plan : Plan
 
 -- the plan as the job of a number
-abbrev pub job_of : ℕ → SubmittedPlan → AcceptedPlan
+abbrev pub job_of : ℕ → SubmissionParts → AcceptedPlan
 job_of number submitted = record { number = number; planner = submitted.planner; plan = submitted.plan }
 
 -- the plans as jobs in the same order, numbered from a number on
-abbrev pub jobs_from : ℕ → List SubmittedPlan → List AcceptedPlan
+abbrev pub jobs_from : ℕ → List SubmissionParts → List AcceptedPlan
 jobs_from number [] = []
 jobs_from number (submitted ∷ others) = job_of number submitted ∷ jobs_from (suc number) others

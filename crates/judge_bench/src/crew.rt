@@ -1,7 +1,7 @@
 //! The workers of a run, each on a thread of its own.
-ghost use Rattle.std.specs.Prelude.{◌≡◌, ◌≤◌, ◌+◌, ℕ, [], Some, IfSome, OnOk, IfErr, List, length, vec_len, vec_capacity};
+ghost use Rattle.std.specs.Prelude.{◌≡◌, ◌<◌, ◌≤◌, ◌+◌, ℕ, [], Some, IfSome, OnOk, IfErr, List, length, vec_len, vec_capacity};
 ghost use Rattle.bench_rule.specs.Views.{worker_view};
-ghost use Rattle.judge_bench.specs.Keeping.{with_all_joined, with_all_out};
+ghost use Rattle.judge_bench.specs.Keeping.{with_all_joined, with_all_out, with_more_finished};
 ghost use Rattle.judge_bench.specs.Seats.{SitsAt};
 ghost use Rattle.judge_bench.specs.Workers.{AllWorkAt, CameBack, first_held};
 
@@ -89,6 +89,28 @@ fn whole_work<G: Gate>(
     ensures { CameBack bench.now (G.may_hold gate.now) result }
 {
     work(alloc, bench, seat, task, gate, IDLE_ROUNDS)
+}
+
+/// The owner's thread works as the others do, with a seat of its own, until it finds no job that waits and the bench is shut. Answers the job for which it
+/// ended, if the gate held one.
+pub(crate) fn take_part<G: Gate>(
+    alloc: Global,
+    bench: &Bench,
+    owner: &mut Owner,
+    task: &CostedTask,
+    gate: &G,
+) -> Option<u32>
+    requires seat { SitsAt bench.now owner.old }
+    requires few { owner.old.view.seats_out < 1024 }
+    requires task { bench.now.setting.task.value ≡ task.now }
+    ensures seat { SitsAt bench.now owner.new }
+    ensures view { (more : List ℕ) × (owner.new.view ≡ with_more_finished owner.old.view more) }
+    ensures held { IfSome result (G.may_hold gate.now) }
+{
+    let seat = owner.seat(bench);
+    let Ended { seat, refused } = whole_work(alloc, bench, seat, task, gate);
+    owner.hand_in(bench, seat);
+    first_held(None, refused)
 }
 
 /// Waits for all workers and hands their seats in. Answers the job for which the first of them ended that found one held.

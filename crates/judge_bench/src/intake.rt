@@ -9,10 +9,10 @@ use std::vec::IntoIter;
 /// Where the plans of a run come from, one after another.
 pub trait Intake {
     ghost use Rattle.std.specs.Prelude.{List};
-    ghost use Rattle.judge_bench.specs.Submissions.{SubmittedPlan};
+    ghost use Rattle.judge_bench.specs.Submissions.{SubmissionParts};
 
     // The plans that are still to come, in order.
-    ghost to_come: { Self → List SubmittedPlan };
+    ghost to_come: { Self → List SubmissionParts };
 
     /// The next plan, and `None` exactly at the end. After a refusal nothing is known of what is still to come.
     fn next(&mut self) -> Result<Option<Submission>, AllocError>
@@ -28,9 +28,9 @@ pub struct Listed {
 impl Model for Listed {
     ghost use Rattle.std.specs.Prelude.{◌≡◌, List, length};
     ghost use Rattle.std.specs.Vec.Iter.{into_iter_items, into_iter_len};
-    ghost use Rattle.judge_bench.specs.Submissions.{SubmittedPlan};
+    ghost use Rattle.judge_bench.specs.Submissions.{SubmissionParts};
 
-    ghost Value = { List SubmittedPlan };
+    ghost Value = { List SubmissionParts };
 
     ghost view = { λ listed. into_iter_items listed.rest };
 

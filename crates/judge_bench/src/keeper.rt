@@ -12,6 +12,7 @@ use crate::{Bench, Findings, Intake, Owner, Submission, Ticket};
 use intake_rules::Finding;
 use plan_cost::CostedTask;
 use std::alloc::{AllocError, Global};
+use text_judge::TextJudge;
 
 /// The owner of a bench, and the findings that it emitted.
 #[derive(Drop)]
@@ -111,7 +112,7 @@ impl Keeper {
         ensures { IfOk result (λ findings. findings ≡ by_planner planners (map (right_finding task.now) self.owner.view.jobs)) }
     {
         let mut keeper = self;
-        judge_rest(alloc, bench, &mut keeper.owner, task)?;
+        judge_left(alloc, bench, &mut keeper.owner, task)?;
         for planner in 0..planners {
             keeper.keep_all_of(bench, planner)?;
         }
@@ -134,8 +135,8 @@ impl Keeper {
     }
 }
 
-/// The owner judges all jobs that wait.
-fn judge_rest(
+/// The owner judges all jobs that wait, with a judge of its own.
+fn judge_left(
     alloc: Global,
     bench: &Bench,
     owner: &mut Owner,
@@ -145,11 +146,29 @@ fn judge_rest(
     requires task { bench.now.setting.task.value ≡ task.now }
     requires alone { owner.old.view.seats_out ≡ 0 }
     ensures seat { SitsAt bench.now owner.new }
+    ensures view { OnOk result ((more : List ℕ) × (owner.new.view ≡ with_more_finished owner.old.view more)) }
+    ensures none_waits { OnOk result (NoneWaits owner.new.view) }
+{
+    let mut judge = TextJudge::new(alloc, task)?;
+    judge_rest(alloc, bench, owner, &mut judge)
+}
+
+/// The owner has all jobs that wait judged by this judge.
+fn judge_rest(
+    alloc: Global,
+    bench: &Bench,
+    owner: &mut Owner,
+    judge: &mut TextJudge<'_>,
+) -> Result<(), AllocError>
+    requires seat { SitsAt bench.now owner.old }
+    requires task { bench.now.setting.task.value ≡ judge.old }
+    requires alone { owner.old.view.seats_out ≡ 0 }
+    ensures seat { SitsAt bench.now owner.new }
     ensures view { (more : List ℕ) × (owner.new.view ≡ with_more_finished owner.old.view more) }
     ensures none_waits { OnOk result (NoneWaits owner.new.view) }
 {
     while let Some(ticket) = owner.take_own(bench) {
-        judge_own(alloc, bench, owner, ticket, task)?;
+        judge_own(alloc, bench, owner, ticket, judge)?;
     }
     Ok(())
 }
@@ -160,17 +179,18 @@ fn judge_own(
     bench: &Bench,
     owner: &mut Owner,
     ticket: Ticket,
-    task: &CostedTask,
+    judge: &mut TextJudge<'_>,
 ) -> Result<(), AllocError>
     requires seat { SitsAt bench.now owner.old }
     requires ticket { HoldsJob ticket.slot ticket.job owner.old.view.held }
-    requires task { bench.now.setting.task.value ≡ task.now }
+    requires task { bench.now.setting.task.value ≡ judge.old }
     ensures seat { SitsAt bench.now owner.new }
+    ensures task { judge.new ≡ judge.old }
     ensures finished { OnOk result (owner.new.view ≡ with_finished owner.old.view ticket.slot) }
     ensures count { OnOk result (length owner.new.view.finished ≤ bench.now.setting.slots) }
     ensures handed_back { OnErr result (owner.new.view ≡ with_handed_back owner.old.view ticket.slot) }
 {
-    match Finding::judge(alloc, task, ticket.job()) {
+    match Finding::judge_by(alloc, judge, ticket.job()) {
         Ok(finding) => {
             owner.finish_own(bench, ticket, finding);
             Ok(())

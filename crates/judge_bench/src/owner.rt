@@ -1,5 +1,4 @@
 //! The seat of the owner.
-ghost use Rattle.std.specs.Arc.{arc_value};
 ghost use Rattle.std.specs.Prelude.{◌≡◌, ◌<◌, ◌≤◌, ◌+◌, ℕ, [], Some, None, IfOk, IfErr, MatchOption, MatchResult, length};
 ghost use Rattle.intake_rules.specs.Answers.{submit_reply, close_reply};
 ghost use Rattle.intake_rules.specs.Findings.{IsRight};
@@ -20,8 +19,7 @@ use intake_rules::{Finding, Job, Refusal, SubmitRefused};
 use planner_lines::PlannerLines;
 use std::alloc::{AllocError, Global};
 use std::marker::Model;
-use std::sync::Arc;
-use strips_judge::Plan;
+use submitted_plan::SubmittedPlan;
 
 /// The seat of the owner: it accepts plans, gives seats out, emits findings, and may judge as a worker does. Contracts see at which bench it is, and
 /// what it knows.
@@ -72,12 +70,12 @@ impl Owner {
         &mut self,
         bench: &Bench,
         planner: u32,
-        plan: Arc<Plan>,
+        plan: SubmittedPlan,
     ) -> Result<u32, SubmitRefused>
         requires { SitsAt bench.now self.old }
         ensures seat { SitsAt bench.now self.new }
-        ensures reply { submit_reply result ≡ reply_to bench.now.setting.slots (accepted_intake self.old.view) (submit planner (arc_value plan)) }
-        ensures view { MatchResult result (λ number. self.new.view ≡ with_posted self.old.view record { number = number; planner = planner; plan = arc_value plan }) (λ _. self.new.view ≡ self.old.view) }
+        ensures reply { submit_reply result ≡ reply_to bench.now.setting.slots (accepted_intake self.old.view) (submit planner plan) }
+        ensures view { MatchResult result (λ number. self.new.view ≡ with_posted self.old.view record { number = number; planner = planner; plan = plan }) (λ _. self.new.view ≡ self.old.view) }
         ensures plan { IfErr result (λ refused. refused.plan ≡ plan) }
     {
         match self.submit_refusal(bench, planner) {
@@ -226,12 +224,12 @@ impl Owner {
     }
 
     /// Accepts a plan that is not refused.
-    fn accept(&mut self, bench: &Bench, planner: u32, plan: Arc<Plan>) -> u32
+    fn accept(&mut self, bench: &Bench, planner: u32, plan: SubmittedPlan) -> u32
         requires seat { SitsAt bench.now self.old }
         requires open { submit_refusal bench.now.setting.slots (accepted_intake self.old.view) planner ≡ None }
         ensures seat { SitsAt bench.now self.new }
         ensures number { result ≡ length self.old.view.jobs }
-        ensures view { self.new.view ≡ with_posted self.old.view record { number = result; planner = planner; plan = arc_value plan } }
+        ensures view { self.new.view ≡ with_posted self.old.view record { number = result; planner = planner; plan = plan } }
     {
         let number = self.lines.jobs();
         let job = Job {

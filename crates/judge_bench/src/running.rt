@@ -1,13 +1,14 @@
 //! A run: plans in, findings out.
-ghost use Rattle.std.specs.Prelude.{◌≡◌, ◌≢◌, ◌<◌, ◌≤◌, [], All, IfOk, IfErr, OnOk, ℕ, length, vec_len, vec_capacity};
-ghost use Rattle.judge_bench.specs.Findings.{findings_of};
+ghost use Rattle.std.specs.Prelude.{◌≡◌, ◌≢◌, ◌<◌, ◌≤◌, [], All, IfOk, IfErr, OnOk, ℕ, length, map, vec_len, vec_capacity};
+ghost use Rattle.judge_bench.specs.Findings.{by_planner, findings_of, right_finding};
 ghost use Rattle.judge_bench.specs.Keeping.{KeptFindings};
+ghost use Rattle.judge_bench.specs.Kept.{Numbered};
 ghost use Rattle.judge_bench.specs.Runs.{AllAccepted, FoundOrHeld, IsReady, MayRun};
 ghost use Rattle.judge_bench.specs.Seats.{SitsAt};
 ghost use Rattle.judge_bench.specs.Workers.{AllWorkAt};
 ghost use Rattle.judge_bench.specs.declared.running.RunFault.TheVariants.{Held};
 
-use crate::crew::{Crew, NoThread, join_all, start_all};
+use crate::crew::{Crew, NoThread, join_all, start_all, take_part};
 use crate::keeper::Keeper;
 use crate::{Bench, Findings, Gate, Intake};
 use plan_cost::CostedTask;
@@ -23,7 +24,8 @@ pub enum RunFault {
     OutOfMemory,
     /// A thread could not be started.
     NoThread,
-    /// The gate held the job with this number. Where it held several, it is the one for which the first worker ended, in the order in which they were started.
+    /// The gate held the job with this number. Where it held several, it is the one for which the first worker ended, in the order in which they were started;
+    /// the calling thread is the last.
     Held(u32),
 }
 
@@ -49,11 +51,11 @@ impl From<NoThread> for RunFault {
     }
 }
 
-/// Judges the plans of all planners on so many threads, while the intake still gives plans, and answers one finding of each plan.
+/// Judges the plans of all planners on so many threads, the calling one among them, and answers one finding of each plan.
 ///
-/// The plans are jobs, numbered from 0 in the order of the intake, and the gate is asked of each before a worker judges it. The workers and the
-/// calling thread meet at a [`Bench`]. What the workers leave, since memory ran out for them, the calling thread judges once they have ended. Waits
-/// until all its threads are done.
+/// The plans are jobs, numbered from 0 in the order of the intake, and the gate is asked of each before a worker judges it. The workers meet at a
+/// [`Bench`]. All but the last are threads that are started first, and judge while the intake still gives plans. The last is the calling thread, once it has
+/// accepted all plans. What is left then, since memory ran out for a worker, it judges once the others have ended. Waits until all its threads are done.
 ///
 /// First of all the memory of the bench and of the lists is taken. After that the order of faults is: a thread that can't be started, or memory
 /// that runs out for the intake or for what is kept while it lasts; a held job; memory that runs out afterwards.
@@ -77,10 +79,11 @@ pub fn run<R: Threads + Wait + Sync, I: Intake, G: Gate + Sync>(
 {
     let (bench, owner) = Bench::make(alloc, task, planners, slots)?;
     let findings = Findings::new(alloc, planners)?;
-    let crew = Crew::with_capacity(alloc, workers as usize)?;
+    let threads = workers - 1;
+    let crew = Crew::with_capacity(alloc, threads as usize)?;
     let keeper = Keeper { owner, findings };
     run_at(
-        rt, alloc, &bench, keeper, crew, task, planners, intake, workers, gate,
+        rt, alloc, &bench, keeper, crew, task, planners, intake, threads, gate,
     )
 }
 
@@ -94,11 +97,11 @@ fn run_at<R: Threads + Wait + Sync, I: Intake, G: Gate + Sync>(
     task: &CostedTask,
     planners: u32,
     intake: &mut I,
-    workers: u32,
+    threads: u32,
     gate: &G,
 ) -> Result<Findings, RunFault>
     requires ready { IsReady bench.now task.now planners keeper.owner keeper.findings }
-    requires crew { (crew.items ≡ []) × (vec_len crew ≡ 0) × (workers ≤ vec_capacity crew) × (workers ≤ 32) }
+    requires crew { (crew.items ≡ []) × (vec_len crew ≡ 0) × (threads ≤ vec_capacity crew) × (threads ≤ 32) }
     requires plans { MayRun bench.now.setting.slots planners (I.to_come intake.old) }
     ensures { FoundOrHeld task.now planners (I.to_come intake.old) (G.may_hold gate.now) result }
 {
@@ -106,11 +109,11 @@ fn run_at<R: Threads + Wait + Sync, I: Intake, G: Gate + Sync>(
         thread::scope_env(),
         rt,
         |scope| -> Result<Findings, RunFault>
-            requires { IsReady bench.now task.now planners keeper.owner keeper.findings × (crew.items ≡ []) × (vec_len crew ≡ 0) × (workers ≤ vec_capacity crew) × (workers ≤ 32) × MayRun bench.now.setting.slots planners (I.to_come intake.now) }
+            requires { IsReady bench.now task.now planners keeper.owner keeper.findings × (crew.items ≡ []) × (vec_len crew ≡ 0) × (threads ≤ vec_capacity crew) × (threads ≤ 32) × MayRun bench.now.setting.slots planners (I.to_come intake.now) }
             ensures { FoundOrHeld task.entry.now planners (I.to_come intake.entry.now) (G.may_hold gate.entry.now) result }
         {
             conduct(
-                scope, rt, alloc, bench, keeper, crew, task, planners, intake, workers, gate,
+                scope, rt, alloc, bench, keeper, crew, task, planners, intake, threads, gate,
             )
         },
     )
@@ -127,15 +130,15 @@ fn conduct<'s, E, R: Threads, I: Intake, G: Gate + Sync>(
     task: &'s CostedTask,
     planners: u32,
     intake: &mut I,
-    workers: u32,
+    threads: u32,
     gate: &'s G,
 ) -> Result<Findings, RunFault>
     requires ready { IsReady bench.now task.now planners keeper.owner keeper.findings }
-    requires crew { (crew.items ≡ []) × (vec_len crew ≡ 0) × (workers ≤ vec_capacity crew) × (workers ≤ 32) }
+    requires crew { (crew.items ≡ []) × (vec_len crew ≡ 0) × (threads ≤ vec_capacity crew) × (threads ≤ 32) }
     requires plans { MayRun bench.now.setting.slots planners (I.to_come intake.old) }
     ensures { FoundOrHeld task.now planners (I.to_come intake.old) (G.may_hold gate.now) result }
 {
-    let accepted = attend(
+    match attend(
         scope,
         alloc,
         bench,
@@ -144,19 +147,48 @@ fn conduct<'s, E, R: Threads, I: Intake, G: Gate + Sync>(
         task,
         planners,
         intake,
-        workers,
+        threads,
         gate,
-    );
+    ) {
+        Ok(()) => see_through(rt, alloc, bench, keeper, crew, task, planners, gate),
+        Err(fault) => {
+            keeper.owner.shut(bench);
+            let _held = join_all(rt, crew, bench, &mut keeper.owner, gate);
+            Err(fault)
+        }
+    }
+}
+
+/// What is found once all plans are accepted: the owner's thread takes part, waits for the other threads, and judges what is left.
+fn see_through<R: Threads, G: Gate + Sync>(
+    rt: &R,
+    alloc: Global,
+    bench: &Bench,
+    mut keeper: Keeper,
+    crew: Crew<G>,
+    task: &CostedTask,
+    planners: u32,
+    gate: &G,
+) -> Result<Findings, RunFault>
+    requires seat { SitsAt bench.now keeper.owner }
+    requires setting { (bench.now.setting.task.value ≡ task.now) × (bench.now.setting.planners ≡ planners) }
+    requires crew { AllWorkAt bench.now gate.now crew.items × (length crew.items ≤ 32) }
+    requires out { (keeper.owner.view.seats_out ≡ length crew.items) × (keeper.owner.view.held ≡ []) }
+    requires jobs { Numbered keeper.owner.view.jobs }
+    requires kept { KeptFindings task.now planners keeper.owner.view keeper.findings }
+    ensures findings { IfOk result (λ findings. findings ≡ by_planner planners (map (right_finding task.now) keeper.owner.view.jobs)) }
+    ensures held { IfErr result (λ fault. (job : ℕ) → fault ≡ Held job → G.may_hold gate.now job) }
+{
     keeper.owner.shut(bench);
-    let held = join_all(rt, crew, bench, &mut keeper.owner, gate);
-    accepted?;
-    match held {
+    let own = take_part(alloc, bench, &mut keeper.owner, task, gate);
+    let others = join_all(rt, crew, bench, &mut keeper.owner, gate);
+    match others.or(own) {
         Some(job) => Err(RunFault::Held(job)),
         None => Ok(keeper.finish(alloc, bench, task, planners)?),
     }
 }
 
-/// Starts the workers, accepts all plans, and closes all planners.
+/// Starts the workers that are threads of their own, accepts all plans, and closes all planners.
 fn attend<'s, E, I: Intake, G: Gate + Sync>(
     scope: &Scope<'s, E>,
     alloc: Global,
@@ -166,14 +198,15 @@ fn attend<'s, E, I: Intake, G: Gate + Sync>(
     task: &'s CostedTask,
     planners: u32,
     intake: &mut I,
-    workers: u32,
+    threads: u32,
     gate: &'s G,
 ) -> Result<(), RunFault>
     requires ready { IsReady bench.now task.now planners keeper.old.owner keeper.old.findings }
-    requires crew { (crew.old.items ≡ []) × (vec_len crew.old ≡ 0) × (workers ≤ vec_capacity crew.old) × (workers ≤ 32) }
+    requires crew { (crew.old.items ≡ []) × (vec_len crew.old ≡ 0) × (threads ≤ vec_capacity crew.old) × (threads ≤ 32) }
     requires plans { MayRun bench.now.setting.slots planners (I.to_come intake.old) }
     ensures seat { SitsAt bench.now keeper.new.owner }
     ensures crew { AllWorkAt bench.now gate.now crew.new.items }
+    ensures count { OnOk result (length crew.new.items ≡ threads) }
     ensures accepted { OnOk result (AllAccepted (I.to_come intake.old) (length crew.new.items) keeper.new.owner.view) }
     ensures kept { OnOk result (KeptFindings task.now planners keeper.new.owner.view keeper.new.findings) }
     ensures held { IfErr result (λ fault. (job : ℕ) → fault ≢ Held job) }
@@ -185,7 +218,7 @@ fn attend<'s, E, I: Intake, G: Gate + Sync>(
         bench,
         &mut keeper.owner,
         task,
-        workers,
+        threads,
         gate,
     )?;
     keeper.accept_all(bench, intake)?;

@@ -1,22 +1,20 @@
 //! A plan that is handed in.
 use std::marker::Model;
-use std::sync::Arc;
-use strips_judge::Plan;
+use submitted_plan::SubmittedPlan;
 
-/// A plan that is handed in. Contracts see whose plan it is and its content, whichever owner of the plan it is.
+/// A plan that is handed in. Contracts see whose plan it is and its content, however the plan is kept.
 #[derive(Drop)]
 pub struct Submission {
     /// Whose plan it is, counted from 0.
     pub planner: u32,
-    /// The plan, which others may own as well.
-    pub plan: Arc<Plan>,
+    /// The plan, read or as its text, which others may own as well.
+    pub plan: SubmittedPlan,
 }
 
 impl Model for Submission {
-    ghost use Rattle.std.specs.Arc.{arc_value};
-    ghost use Rattle.judge_bench.specs.Submissions.{SubmittedPlan};
+    ghost use Rattle.judge_bench.specs.Submissions.{SubmissionParts};
 
-    ghost Value = { SubmittedPlan };
+    ghost Value = { SubmissionParts };
 
-    ghost view = { λ submission. record { planner = submission.planner; plan = arc_value submission.plan } };
+    ghost view = { λ submission. record { planner = submission.planner; plan = submission.plan } };
 }

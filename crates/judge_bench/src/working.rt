@@ -10,6 +10,7 @@ use intake_rules::Finding;
 use plan_cost::CostedTask;
 use std::alloc::{AllocError, Global};
 use std::{hint, thread};
+use text_judge::TextJudge;
 
 /// How often a worker yields at most before it looks for a job again: together some tens of microseconds on a machine that has nothing else to do.
 const MOST_YIELDS: u32 = 32;
@@ -37,11 +38,11 @@ pub struct Ended {
 /// Takes jobs, judges them and finishes them, until none is found after the bench was seen to be shut, or for so many rounds without a job.
 ///
 /// The gate is asked of each job before it is judged. Where it holds one, or where memory runs out, the job is handed back and the worker ends. Between
-/// two rounds without a job it pauses, and lets other threads run.
+/// two rounds without a job it pauses, and lets other threads run. The worker has a judge of its own, which remembers steps from one job to the next.
 pub fn work<G: Gate>(
     alloc: Global,
     bench: &Bench,
-    mut seat: WorkerSeat,
+    seat: WorkerSeat,
     task: &CostedTask,
     gate: &G,
     idle: u32,
@@ -52,12 +53,36 @@ pub fn work<G: Gate>(
     ensures seat { SitsAt bench.now result.seat }
     ensures worked { Worked (G.may_hold gate.now) bench.now.setting.slots idle seat.view result.seat.view result.refused }
 {
+    match TextJudge::new(alloc, task) {
+        Ok(mut judge) => work_by(alloc, bench, seat, &mut judge, gate, idle),
+        Err(AllocError) => Ended {
+            seat,
+            refused: Some(WorkFault::OutOfMemory),
+        },
+    }
+}
+
+/// Takes jobs and has them judged by this judge, as [`work`] says.
+fn work_by<G: Gate>(
+    alloc: Global,
+    bench: &Bench,
+    mut seat: WorkerSeat,
+    judge: &mut TextJudge<'_>,
+    gate: &G,
+    idle: u32,
+) -> Ended
+    requires seat { SitsAt bench.now seat }
+    requires task { bench.now.setting.task.value ≡ judge.old }
+    requires idle { 1 ≤ idle }
+    ensures seat { SitsAt bench.now result.seat }
+    ensures worked { Worked (G.may_hold gate.now) bench.now.setting.slots idle seat.view result.seat.view result.refused }
+{
     let mut shut = false;
     let mut rounds = 0;
     let mut in_a_row = 0;
     while rounds < idle {
         if let Some(ticket) = seat.take(bench) {
-            if let Err(fault) = judge_one(alloc, bench, &mut seat, ticket, task, gate) {
+            if let Err(fault) = judge_one(alloc, bench, &mut seat, ticket, judge, gate) {
                 return Ended {
                     seat,
                     refused: Some(fault),
@@ -88,13 +113,14 @@ fn judge_one<G: Gate>(
     bench: &Bench,
     seat: &mut WorkerSeat,
     ticket: Ticket,
-    task: &CostedTask,
+    judge: &mut TextJudge<'_>,
     gate: &G,
 ) -> Result<(), WorkFault>
     requires seat { SitsAt bench.now seat.old }
     requires ticket { HoldsJob ticket.slot ticket.job seat.old.view.held }
-    requires task { bench.now.setting.task.value ≡ task.now }
+    requires task { bench.now.setting.task.value ≡ judge.old }
     ensures seat { SitsAt bench.now seat.new }
+    ensures task { judge.new ≡ judge.old }
     ensures finished { OnOk result (seat.new.view ≡ with_finished seat.old.view ticket.slot) }
     ensures count { OnOk result (length seat.new.view.finished ≤ bench.now.setting.slots) }
     ensures handed_back { IfErr result (λ fault. seat.new.view ≡ with_handed_back seat.old.view ticket.slot) }
@@ -105,7 +131,7 @@ fn judge_one<G: Gate>(
         seat.hand_back(bench, ticket);
         return Err(WorkFault::Held(number));
     }
-    match Finding::judge(alloc, task, ticket.job()) {
+    match Finding::judge_by(alloc, judge, ticket.job()) {
         Ok(finding) => {
             seat.finish(bench, ticket, finding);
             Ok(())

@@ -1,4 +1,5 @@
 pub mod CostTexts
+pub mod Cutting
 pub mod Planners
 pub mod Reading
 pub mod Refusals

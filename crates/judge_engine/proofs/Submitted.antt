@@ -11,7 +11,7 @@ use Rattle.plan_cost.specs.declared.costs.CostedTask.{CostedTask}
 use Rattle.intake_rules.specs.declared.finding.Finding.{Finding}
 use Rattle.intake_rules.specs.Findings.{verdict_of, counted_cost}
 use Rattle.judge_bench.specs.Findings.{findings_of, of_planner, right_finding}
-use Rattle.judge_bench.specs.Submissions.{SubmittedPlan, jobs_from}
+use Rattle.judge_bench.specs.Submissions.{SubmissionParts, jobs_from}
 use Rattle.plan_text.specs.Bundle.{parts}
 use Rattle.judge_engine.specs.Answer.{judged, planner_of, plan_count}
 use Rattle.judge_engine.specs.Bundle.{BundleValue}
@@ -34,16 +34,16 @@ count_is planner (bundle ∷ bundles) =
 
 -- each is of a planner whose file there is
 of_file : (planner planners : ℕ) (texts : List (List ℕ)) → planner < planners → All (λ plan. plan.planner < planners) (map (plan_of_part planner) texts)
-of_file planner planners [] within = All-nil (λ (plan : SubmittedPlan). plan.planner < planners)
+of_file planner planners [] within = All-nil (λ (plan : SubmissionParts). plan.planner < planners)
 of_file planner planners (text ∷ texts) within =
-    All-cons (λ (plan : SubmittedPlan). plan.planner < planners) (plan_of_part planner text) (map (plan_of_part planner) texts) within (of_file planner planners texts within)
+    All-cons (λ (plan : SubmissionParts). plan.planner < planners) (plan_of_part planner text) (map (plan_of_part planner) texts) within (of_file planner planners texts within)
 
 known_from : (planner planners : ℕ) (bundles : List BundleValue) → planner + length bundles ≤ planners
     → All (λ plan. plan.planner < planners) (plans_of_files planner bundles)
 unfolding plans_of_file
-known_from planner planners [] within = All-nil (λ (plan : SubmittedPlan). plan.planner < planners)
+known_from planner planners [] within = All-nil (λ (plan : SubmissionParts). plan.planner < planners)
 known_from planner planners (bundle ∷ bundles) within =
-    All-append (λ (plan : SubmittedPlan). plan.planner < planners) (map (plan_of_part planner) (parts bundle.bytes)) (plans_of_files (suc planner) bundles)
+    All-append (λ (plan : SubmissionParts). plan.planner < planners) (map (plan_of_part planner) (parts bundle.bytes)) (plans_of_files (suc planner) bundles)
     (of_file planner planners (parts bundle.bytes) (omega (arith, within)))
     (known_from (suc planner) planners bundles (omega (arith, within)))
 
@@ -51,7 +51,7 @@ pub all_known : (bundles : List BundleValue) → All (λ plan. plan.planner < le
 all_known bundles = known_from 0 (length bundles) bundles (omega arith)
 
 -- jobs of plans side by side
-jobs_both : (number : ℕ) (plans others : List SubmittedPlan) → jobs_from number (plans ++ others) ≡ jobs_from number plans ++ jobs_from (number + length plans) others
+jobs_both : (number : ℕ) (plans others : List SubmissionParts) → jobs_from number (plans ++ others) ≡ jobs_from number plans ++ jobs_from (number + length plans) others
 jobs_both number [] others = let same : number ≡ number + 0 = omega arith in ap (λ n. jobs_from n others) same
 jobs_both number (plan ∷ plans) others =
     let same : suc number + length plans ≡ number + suc (length plans) = omega arith in
@@ -60,10 +60,10 @@ jobs_both number (plan ∷ plans) others =
 
 module _ (task : CostedTask) where
   -- what is found for a planner of the plans, of which the first has this number as a job
-  abbrev found : ℕ → ℕ → List SubmittedPlan → List Finding
+  abbrev found : ℕ → ℕ → List SubmissionParts → List Finding
   found planner number plans = of_planner (map (right_finding task) (jobs_from number plans)) planner
 
-  found_both : (planner number : ℕ) (plans others : List SubmittedPlan)
+  found_both : (planner number : ℕ) (plans others : List SubmissionParts)
       → found planner number (plans ++ others) ≡ found planner number plans ++ found planner (number + length plans) others
   found_both planner number plans others =
       ap (λ jobs. of_planner (map (right_finding task) jobs) planner) (jobs_both number plans others)
@@ -141,6 +141,6 @@ module _ (task : CostedTask) where
       ∙ length-map (parts bundle.bytes) (judged task)
 
   -- for each file there is a list
-  pub list_of_each : (planners : ℕ) (plans : List SubmittedPlan) → length (findings_of task planners plans) ≡ planners
+  pub list_of_each : (planners : ℕ) (plans : List SubmissionParts) → length (findings_of task planners plans) ≡ planners
   unfolding findings_of
   list_of_each planners plans = length-map-range_with_len (of_planner (map (right_finding task) (jobs_from 0 plans))) 0 planners

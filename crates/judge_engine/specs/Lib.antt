@@ -5,7 +5,6 @@ pub mod CostText
 pub mod Inlet
 pub mod Outlet
 pub mod Plans
-pub mod PlansLeft
 pub mod Refusal
 pub mod ReplayAnswer
 pub mod ReplayText

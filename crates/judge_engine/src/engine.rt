@@ -1,7 +1,7 @@
 //! The engine: texts in, report out.
 //!
-//! [`judge_bytes`] reads the domain and the problem, has the plans of all planners judged while it reads the next ones, and makes the whole
-//! report. Its contract says that the report is the stated function of the bytes that came in, for any number of threads.
+//! [`judge_bytes`] reads the domain and the problem, cuts the planners' files into plans, has these read and judged on several threads, and
+//! makes the whole report. Its contract says that the report is the stated function of the bytes that came in, for any number of threads.
 ghost use Rattle.std.specs.Prelude.{◌≡◌, ◌≢◌, ◌↔◌, ◌+◌, ◌<◌, ◌≤◌, ◌^◌, [], ℕ, List, length, map, IfOk, IfErr, Some, None, Err, MatchOption};
 ghost use Rattle.judge_bench.specs.Findings.{findings_of};
 ghost use Rattle.pddl_syntax.specs.declared.fault.ReadFault as read_fault;
@@ -17,13 +17,12 @@ use crate::fault::JudgeFault;
 use crate::inlet::FILE_LIMIT;
 use crate::lines::push_header;
 use crate::planner::push_planner;
-use crate::plans::FilePlans;
+use crate::plans::cut_plans;
 use crate::report::Report;
 use crate::text::Text;
-use judge_bench::{Findings, Gate, run};
+use judge_bench::{Findings, Gate, Listed, Submission, run};
 use pddl_reader::{Dialect, FaultKind, ReadFault, read_domain_in, read_problem_in};
 use plan_cost::CostedTask;
-use plan_text::count_parts;
 use std::alloc::{AllocError, Global};
 use std::sync::Wait;
 use std::thread::Threads;
@@ -76,8 +75,8 @@ pub fn judge_bytes<R: Threads + Wait + Sync, G: Gate + Sync>(
 /// judge the plans.
 ///
 /// A file holds one plan or more (`plan_text::Parts`). Reading and judging a plan never refuses the run: a text that is no plan is a
-/// verdict. The plans are jobs, numbered from 0 in the order of the files and of the parts of each. They are read one after another, while
-/// those that were read are judged, and the gate is asked of each before it is judged. If the domain declares `total-cost`, the cost of each
+/// verdict. The plans are jobs, numbered from 0 in the order of the files and of the parts of each. The threads read and judge them side by
+/// side, and the gate is asked of each before it is judged. If the domain declares `total-cost`, the cost of each
 /// valid plan is reported beside its verdict, and the least of them in the planner's last line. The whole report is made before anything
 /// is written; without planners it is the first line alone. Tables of names and atoms hash with the seed; the report is the same with any.
 /// Waits until all threads are done.
@@ -191,8 +190,10 @@ fn judge_planners<R: Threads + Wait + Sync, G: Gate + Sync>(
     ensures refusal { IfErr result (λ fault. IsOfTexts fault → (fault ≡ TooManyPlans) × (most_plans < plan_count bundles.now)) }
     ensures held { IfErr result (λ fault. (job : ℕ) → fault ≡ Held job → G.may_hold gate.now job) }
 {
-    let Some(plans) = count_plans(bundles) else {
-        return Err(JudgeFault::TooManyPlans);
+    let plans = match cut_plans(alloc, bundles) {
+        Ok(Some(plans)) => plans,
+        Ok(None) => return Err(JudgeFault::TooManyPlans),
+        Err(AllocError) => return Err(JudgeFault::OutOfMemory),
     };
     match judge_plans(rt, alloc, task, bundles, plans, workers, gate) {
         Ok(findings) => match report_of(alloc, task, bundles, &findings) {
@@ -203,46 +204,32 @@ fn judge_planners<R: Threads + Wait + Sync, G: Gate + Sync>(
     }
 }
 
-/// What is found of the plans of all files, of which there are so many. No more threads judge than there are plans.
+/// What is found of the plans of all files. No more threads judge than there are plans.
 fn judge_plans<R: Threads + Wait + Sync, G: Gate + Sync>(
     rt: &R,
     alloc: Global,
     task: &CostedTask,
     bundles: &[Bundle],
-    plans: u32,
+    plans: Vec<Submission>,
     workers: u32,
     gate: &G,
 ) -> Result<Findings, JudgeFault>
     requires planners { length bundles.now ≤ 64 }
-    requires count { plans ≡ plan_count bundles.now }
-    requires plans { plans ≤ most_plans }
+    requires plans { plans.items ≡ plans_of_files 0 bundles.now }
+    requires few { plan_count bundles.now ≤ most_plans }
     requires workers { (1 ≤ workers) × (workers ≤ 32) }
     ensures findings { IfOk result (λ findings. findings ≡ findings_of task.now (length bundles.now) (plans_of_files 0 bundles.now)) }
     ensures refusal { IfErr result (λ fault. IsOfTexts fault → ⊥) }
     ensures held { IfErr result (λ fault. (job : ℕ) → fault ≡ Held job → G.may_hold gate.now job) }
 {
     let planners = bundles.len() as u32;
-    let mut intake = FilePlans::new(alloc, bundles);
-    let workers = workers.min(plans).max(1);
-    match run(rt, alloc, task, planners, plans, &mut intake, workers, gate) {
+    let slots = plans.len() as u32;
+    let mut intake = Listed::new(plans);
+    let workers = workers.min(slots).max(1);
+    match run(rt, alloc, task, planners, slots, &mut intake, workers, gate) {
         Ok(findings) => Ok(findings),
         Err(fault) => Err(JudgeFault::from(fault)),
     }
-}
-
-/// How many plans the planners' files hold, unless they hold too many. The plans are counted, and none is read.
-fn count_plans(bundles: &[Bundle]) -> Option<u32>
-    ensures { MatchOption result (most_plans < plan_count bundles.now) (λ plans. (plans ≡ plan_count bundles.now) × (plans ≤ most_plans)) }
-{
-    let mut plans = 0;
-    for bundle in bundles {
-        let count = count_parts(bundle.bytes());
-        if count > MOST_PLANS - plans {
-            return None;
-        }
-        plans += count;
-    }
-    Some(plans as u32)
 }
 
 /// The report of a task's plans, of which this was found.

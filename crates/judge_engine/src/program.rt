@@ -20,7 +20,7 @@ use judge_bench::Open;
 use pddl_reader::ReadFault;
 use pddl_tokens::line_of;
 use std::alloc::{AllocError, AllocFailed, Global};
-use std::sync::Wait;
+use std::sync::{Arc, Wait};
 use std::thread::Threads;
 
 /// Why a run over files stops without a report.
@@ -252,6 +252,7 @@ fn read_bundle<S: Sources>(alloc: Global, sources: &S, name: &str) -> Result<Bun
 {
     let bytes = read(alloc, sources, name)?;
     let name = String::from_str(alloc, name)?;
+    let bytes = Arc::new(alloc, bytes)?;
     Ok(Bundle { name, bytes })
 }
 

@@ -3,16 +3,18 @@
 //! Each function adds its piece behind the text that is there. Names come from the task, by number.
 ghost use Rattle.std.specs.Prelude.{◌≡◌, ◌++◌, ◌∷◌, ℕ, List, ◌-◌, OnOk, map, slice_get};
 ghost use Rattle.std.specs.Map.{keys_of};
-ghost use Rattle.judge_engine.specs.Report.{name_at, spaced, atom_text, formula_text, condition_text, conditions_text, step_text, why_text, failure_text, verdict_text, judged_text};
+ghost use Rattle.judge_engine.specs.Report.{name_at, spaced, atom_text, formula_text, condition_text, conditions_text, step_text, why_text, failure_text, steps_of, verdict_text, judged_text};
 ghost use Rattle.judge_engine.specs.Plans.{as_judged};
 ghost use Rattle.strips_task.specs.StepView.{step_shown};
 
 use crate::costs::push_cost;
 use crate::text::Text;
 use intake_rules::Finding;
+use plan_text::read_plan;
 use std::alloc::AllocError;
 use strips_judge::{Verdict, Why};
 use strips_task::{Atom, GroundCond, GroundFormula, Plan, StepList, StepView, Task};
+use submitted_plan::{Form, SubmittedPlan};
 
 /// Adds the name of the object with a number; a number that no object has adds nothing.
 fn push_object(text: &mut Text, task: &Task, number: u16) -> Result<(), AllocError>
@@ -172,6 +174,41 @@ fn push_failure(
     Ok(())
 }
 
+/// Adds the failing step of a plan with a number, as above. A plan that is kept as its text is read again: only plans that fail are.
+fn push_failing_step(
+    text: &mut Text,
+    task: &Task,
+    plan: &SubmittedPlan,
+    number: u32,
+    why: &Why,
+) -> Result<(), AllocError>
+    ensures { OnOk result (text.new ≡ text.old ++ failure_text task.now (slice_get (steps_of plan.now) (number - 1)) why.now) }
+{
+    match plan.form() {
+        Form::Read(plan) => push_failing_step_of(text, task, plan, number, why),
+        Form::Text(bytes) => {
+            let plan = read_plan(text.alloc(), bytes)?;
+            push_failing_step_of(text, task, &plan, number, why)
+        }
+    }
+}
+
+/// The same of a plan that is read.
+fn push_failing_step_of(
+    text: &mut Text,
+    task: &Task,
+    plan: &Plan,
+    number: u32,
+    why: &Why,
+) -> Result<(), AllocError>
+    ensures { OnOk result (text.new ≡ text.old ++ failure_text task.now (slice_get (steps_of plan.now) (number - 1)) why.now) }
+{
+    match plan {
+        Plan::Steps(steps) => push_failure(text, task, steps, number, why),
+        Plan::Unreadable { line: _ } => Ok(()),
+    }
+}
+
 /// Adds what is found about a plan: its verdict, and its cost if it is valid and costs are counted.
 pub(crate) fn push_finding(
     text: &mut Text,
@@ -188,7 +225,7 @@ pub(crate) fn push_finding(
 fn push_verdict(
     text: &mut Text,
     task: &Task,
-    plan: &Plan,
+    plan: &SubmittedPlan,
     verdict: &Verdict,
 ) -> Result<(), AllocError>
     ensures { OnOk result (text.new ≡ text.old ++ verdict_text task.now plan.now verdict.now) }
@@ -202,10 +239,7 @@ fn push_verdict(
         Verdict::Fails { step, why } => {
             text.push(b"fails at ")?;
             text.push_number(*step as usize)?;
-            match plan {
-                Plan::Steps(steps) => push_failure(text, task, steps, *step, why),
-                Plan::Unreadable { line: _ } => Ok(()),
-            }
+            push_failing_step(text, task, plan, *step, why)
         }
         Verdict::Goal { missing } => {
             text.push(b"goal missing")?;

@@ -27,6 +27,11 @@ impl Text {
         }
     }
 
+    /// Where the text takes its memory.
+    pub(crate) fn alloc(&self) -> Global {
+        *self.bytes.allocator()
+    }
+
     /// Adds bytes at the end.
     pub(crate) fn push(&mut self, bytes: &[u8]) -> Result<(), AllocError>
         ensures { OnOk result (self.new ≡ self.old ++ bytes.now) }

@@ -10,8 +10,8 @@ use judge_engine::engine::judge_bytes;
 use judge_engine::fault::JudgeFault;
 use judge_engine::report::Report;
 use std::alloc::{AllocError, Global};
-use std::sync::Wait;
 use std::sync::atomic::{AtomicBool, Ordering};
+use std::sync::{Arc, Wait};
 use std::thread::Threads;
 
 /// The gate that may hold the jobs from one to another, and holds them all.
@@ -69,10 +69,10 @@ fn waits_in_vain(mine: &AtomicBool, other: &AtomicBool) -> bool {
 }
 
 /// The file of a planner `p`.
-fn bundle(alloc: Global, bytes: &[u8]) -> Result<Bundle, AllocError> {
+pub(crate) fn bundle(alloc: Global, bytes: &[u8]) -> Result<Bundle, AllocError> {
     Ok(Bundle {
         name: String::from_str(alloc, "p")?,
-        bytes: bytes.to_vec(alloc)?,
+        bytes: Arc::new(alloc, bytes.to_vec(alloc)?)?,
     })
 }
 

@@ -16,6 +16,7 @@ use std::sync::{Arc, Wait};
 use std::test::Fail;
 use std::thread::Threads;
 use strips_judge::Verdict;
+use submitted_plan::SubmittedPlan;
 
 /// The gate that holds no job, and raises a flag when it is asked of job 0.
 #[derive(Drop)]
@@ -74,7 +75,7 @@ pub(crate) fn light(alloc: Global) -> Result<Submission, AllocError>
     let plan = read_plan(alloc, b"(light)\n")?;
     Ok(Submission {
         planner: 0,
-        plan: Arc::new(alloc, plan)?,
+        plan: SubmittedPlan::from_plan(Arc::new(alloc, plan)?),
     })
 }
 

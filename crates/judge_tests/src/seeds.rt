@@ -1,9 +1,9 @@
 //! Two seeds: the hashes are others, and the report is the same.
 
 use crate::fixtures::{LAMP, LAMP_1};
+use crate::gates::bundle;
 use judge_bench::Open;
 use judge_engine::Seed;
-use judge_engine::bundle::Bundle;
 use judge_engine::engine::judge_bytes;
 use judge_engine::fault::JudgeFault;
 use judge_engine::report::Report;
@@ -48,10 +48,7 @@ fn report(
     rt: &(impl AllocGlobal + Threads + Wait + Sync),
     seed: Seed,
 ) -> Result<Report, JudgeFault> {
-    let bundles = [Bundle {
-        name: String::from_str(rt.alloc(), "p")?,
-        bytes: b"(light)\n---\n(light) (light)\n".to_vec(rt.alloc())?,
-    }];
+    let bundles = [bundle(rt.alloc(), b"(light)\n---\n(light) (light)\n")?];
     judge_bytes(rt, rt.alloc(), seed, LAMP, LAMP_1, &bundles, 2, &Open)
 }
 

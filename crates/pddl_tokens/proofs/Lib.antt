@@ -4,4 +4,6 @@ pub mod CutLaws
 pub mod Places
 mod Table
 mod OnlyCut
+pub mod PlainRows
+pub mod NamesArePlain
 pub mod Counts

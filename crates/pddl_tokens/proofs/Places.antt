@@ -5,17 +5,8 @@ use Rattle.pddl_tokens.specs.declared.spans.TokenKind.{TokenKind}
 use Rattle.pddl_tokens.specs.declared.spans.TokenKind.TheVariants.{Left, Right, Word}
 use Rattle.pddl_tokens.specs.Tokens.{Piece, token, bad, pieces}
 use Rattle.pddl_tokens.specs.Cut.{IsTokenAt, IsCutInto}
+use Rattle.pddl_tokens.specs.Places.{AreWithin}
 use Rattle.pddl_tokens.proofs.CutLaws.{cut_into_pieces}
-
--- where a piece stands in a text of this length
-abbrev pub IsWithin : ℕ → Piece → Type 0
-IsWithin size (bad at) = at < size
-IsWithin size (token kind span bytes) = (span.start < span.end) × (span.end ≤ size)
-
--- each of the pieces stands in a text of this length
-abbrev pub AreWithin : ℕ → List Piece → Type 0
-AreWithin size [] = Unit {0}
-AreWithin size (p ∷ ps) = IsWithin size p × AreWithin size ps
 
 within_at : (text : List ℕ) (kind : TokenKind) (start end : ℕ) → IsTokenAt kind text start end → (start < end) × (end ≤ length text)
 within_at text Left start end is = (omega (arith, is.one), is.within)

@@ -11,15 +11,15 @@ use Rattle.pddl_tokens.specs.Tokens.{Piece, token, bad, span, Place, between, in
 use Rattle.pddl_tokens.specs.Front.{pieces_at}
 
 -- the pieces behind the first byte, by its class
-first_byte : (place : Place) (at b : ℕ) (bytes : List ℕ) (class : ByteClass) → class_of b ≡ class → pieces_from place at (b ∷ bytes) ≡ begins place class at (b ∷ bytes) ++ pieces_from (place_after place class) (at + 1) bytes
+pub first_byte : (place : Place) (at b : ℕ) (bytes : List ℕ) (class : ByteClass) → class_of b ≡ class → pieces_from place at (b ∷ bytes) ≡ begins place class at (b ∷ bytes) ++ pieces_from (place_after place class) (at + 1) bytes
 unfolding pieces_from
 first_byte place at b bytes class is = ap (λ (k : ByteClass). begins place k at (b ∷ bytes) ++ pieces_from (place_after place k) (at + 1) bytes) is
 
 -- how far a run of bytes that pass goes, by its first byte
-run_goes : (p : ℕ → Bool) (b : ℕ) (bytes : List ℕ) → p b ≡ true → prefix_len p (b ∷ bytes) ≡ 1 + prefix_len p bytes
+pub run_goes : (p : ℕ → Bool) (b : ℕ) (bytes : List ℕ) → p b ≡ true → prefix_len p (b ∷ bytes) ≡ 1 + prefix_len p bytes
 run_goes p b bytes passes = ap (λ (t : Bool). cond t (1 + prefix_len p bytes) 0) passes
 
-run_ends : (p : ℕ → Bool) (b : ℕ) (bytes : List ℕ) → p b ≡ false → prefix_len p (b ∷ bytes) ≡ 0
+pub run_ends : (p : ℕ → Bool) (b : ℕ) (bytes : List ℕ) → p b ≡ false → prefix_len p (b ∷ bytes) ≡ 0
 run_ends p b bytes fails = ap (λ (t : Bool). cond t (1 + prefix_len p bytes) 0) fails
 
 -- the pieces behind the first n bytes
@@ -81,7 +81,7 @@ comment_rest at [] = refl
 comment_rest at (b ∷ bytes) = comment_rest_by at b bytes (class_of b) refl (comment_rest (at + 1) bytes)
 
 -- a word's bytes, and what is behind them
-word_whole : (at b : ℕ) (bytes : List ℕ) → class_of b ≡ c.WordByte → pieces_from between at (b ∷ bytes) ≡ word_at at (b ∷ bytes) ∷ behind (prefix_len is_word_byte (b ∷ bytes)) at (b ∷ bytes)
+pub word_whole : (at b : ℕ) (bytes : List ℕ) → class_of b ≡ c.WordByte → pieces_from between at (b ∷ bytes) ≡ word_at at (b ∷ bytes) ∷ behind (prefix_len is_word_byte (b ∷ bytes)) at (b ∷ bytes)
 word_whole at b bytes is =
     first_byte between at b bytes _ is
     ∙ ap (λ (ps : List Piece). word_at at (b ∷ bytes) ∷ ps) (sym (first_byte in_word at b bytes _ is) ∙ word_rest at (b ∷ bytes))
@@ -91,7 +91,7 @@ comment_whole : (at b : ℕ) (bytes : List ℕ) → class_of b ≡ c.Semicolon �
 comment_whole at b bytes is = first_byte between at b bytes _ is ∙ sym (first_byte in_comment at b bytes _ is) ∙ comment_rest at (b ∷ bytes)
 
 -- a place before the end is at a byte
-byte_at : (text : List ℕ) (at : ℕ) → at < length text → drop at text ≡ get_or text at 0 ∷ drop (at + 1) text
+pub byte_at : (text : List ℕ) (at : ℕ) → at < length text → drop at text ≡ get_or text at 0 ∷ drop (at + 1) text
 byte_at text at lt = rw add-one (drop-cons text at 0 lt)
 
 -- the pieces from a place on, where the bytes there are known

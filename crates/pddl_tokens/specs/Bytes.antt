@@ -36,3 +36,9 @@ is_line_end_class _ = false
 -- a byte that a comment goes on with
 abbrev pub is_comment_byte : ℕ → Bool
 is_comment_byte b = not (is_line_end_class (class_of b))
+
+-- whether a class is that of blanks, LF among them
+abbrev pub is_blank_class : ByteClass → Bool
+is_blank_class LineEnd = true
+is_blank_class Blank = true
+is_blank_class _ = false

@@ -3,3 +3,5 @@ pub mod Tokens
 pub mod Front
 pub mod Lines
 pub mod Cut
+pub mod Groups
+pub mod Places

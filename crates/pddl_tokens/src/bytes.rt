@@ -1,7 +1,7 @@
 //! The classes of bytes that a text is cut by.
 
 ghost use Rattle.std.specs.Prelude.{◌≡◌};
-ghost use Rattle.pddl_tokens.specs.Bytes.{class_of, is_word_byte, is_comment_byte};
+ghost use Rattle.pddl_tokens.specs.Bytes.{class_of, is_blank_class, is_word_byte, is_comment_byte};
 
 /// What a byte stands for outside comments.
 #[derive(Clone, Copy, Debug, PartialEq, Eq)]
@@ -70,4 +70,11 @@ pub(crate) fn is_comment_byte(b: u8) -> bool
     ensures { result ≡ is_comment_byte b }
 {
     !matches!(class_of(b), ByteClass::LineEnd)
+}
+
+/// Whether a byte outside comments only parts tokens.
+pub(crate) fn is_blank(b: u8) -> bool
+    ensures { result ≡ is_blank_class (class_of b) }
+{
+    matches!(class_of(b), ByteClass::LineEnd | ByteClass::Blank)
 }

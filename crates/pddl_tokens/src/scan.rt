@@ -1,12 +1,13 @@
 //! The cursor over the tokens of a text.
 
-ghost use Rattle.std.specs.Prelude.{◌≡◌, ◌+◌, ◌<◌, ◌≤◌, ◌^◌, length, drop, IfOk, IfErr};
+ghost use Rattle.std.specs.Prelude.{◌≡◌, ◌+◌, ◌<◌, ◌≤◌, ◌^◌, ◌++◌, length, drop, IfOk, IfErr, IfSome};
 ghost use Rattle.std.specs.List.{prefix_len};
 ghost use Rattle.pddl_tokens.specs.Bytes.{is_word_byte, is_comment_byte};
-ghost use Rattle.pddl_tokens.specs.Front.{IsFront};
+ghost use Rattle.pddl_tokens.specs.Front.{IsFront, pieces_at};
 
-use crate::bytes::{ByteClass, class_of, is_comment_byte, is_word_byte};
+use crate::bytes::{ByteClass, class_of, is_blank, is_comment_byte, is_word_byte};
 use crate::spans::{Span, TextFault, Token, TokenKind};
+use memchr::memchr;
 use std::marker::Model;
 
 /// A walk over the tokens of a text, one pass over its bytes. A contract sees it as the pieces that are still to come.
@@ -75,6 +76,63 @@ impl<'a> Cursor<'a> {
             }
         }
     }
+}
+
+/// A `(`, and what stands between it and the first `)` behind it.
+#[derive(Debug, Drop)]
+pub struct Group<'a> {
+    /// The offset of the `(`.
+    pub start: u32,
+    /// The bytes between the two, which nobody has looked at.
+    pub key: &'a [u8],
+    /// A cursor behind the `)`.
+    pub rest: Cursor<'a>,
+}
+
+impl<'a> Cursor<'a> {
+    ghost use Rattle.pddl_tokens.specs.Groups.{IsPlain, group_pieces};
+
+    /// What stands up to the next `)`, where a `(` comes next.
+    ///
+    /// Only who knows that the key is plain, so that it has words and single spaces alone, knows that these are the next tokens: a comment
+    /// may hide the `)`, another `(` may stand before it, and a bad byte too. Nothing is said where there is no group.
+    pub fn group(&self) -> Option<Group<'a>>
+        ensures { IfSome result (λ group. IsPlain group.key.now → self.now ≡ group_pieces group.start group.key.now ++ group.rest) }
+    {
+        let text = self.text;
+        let open = skip_blanks(text, self.at);
+        if open == text.len() {
+            return None;
+        }
+        if text[open] != b'(' {
+            return None;
+        }
+        let inside = &text[open + 1..];
+        let size = memchr(b')', inside)?;
+        Some(Group {
+            start: open as u32,
+            key: &inside[..size],
+            rest: Cursor {
+                text,
+                at: open + 1 + size + 1,
+            },
+        })
+    }
+}
+
+/// The place of the first byte from `at` on that is no blank, or the end.
+fn skip_blanks(text: &[u8], mut at: usize) -> usize
+    requires { at ≤ length text.now }
+    ensures same { pieces_at text.now result ≡ pieces_at text.now at }
+    ensures within { result ≤ length text.now }
+{
+    'blanks: while at < text.len() {
+        if !is_blank(text[at]) {
+            return at;
+        }
+        at += 1;
+    }
+    at
 }
 
 /// What comes first in the rest of a text.

@@ -31,7 +31,7 @@ impl Costs {
     }
 
     /// The value that the total cost begins with, in billionths: 0 if the problem gives none. Takes no memory.
-    pub(crate) fn initial_cost(&self, alloc: Global) -> u64
+    pub fn initial_cost(&self, alloc: Global) -> u64
         ensures { result ≡ initial_cost self.now }
     {
         let total_cost = Atom {

@@ -13,16 +13,17 @@ use crate::{Amount, Cost, Costs, FunctionValues, MOST_INCREASES};
 use std::alloc::{AllocError, Global};
 use strips_task::{Atom, Plan, ShortSeq, StepList, StepView, Task};
 
-/// What the steps of a plan share.
+/// What steps share, so that a step takes no memory of its own. No answer depends on what it holds.
 #[derive(Drop)]
-struct Scratch {
+pub struct CostScratch {
     objects: Vec<u16>,
     function: Atom,
 }
 
-impl Scratch {
-    fn new(alloc: Global) -> Scratch {
-        Scratch {
+impl CostScratch {
+    /// Takes no memory.
+    pub fn new(alloc: Global) -> CostScratch {
+        CostScratch {
             objects: Vec::new(alloc),
             function: Atom {
                 pred: 0,
@@ -59,7 +60,7 @@ fn steps_cost(
     ensures cost { IfOk result (λ cost. cost ≡ steps_cost task.now costs.now steps.now) }
     ensures small { IfOk result (λ cost. IfSome cost (λ sum. sum < 2 ^ 127)) }
 {
-    let mut scratch = Scratch::new(alloc);
+    let mut scratch = CostScratch::new(alloc);
     let mut sum = u128::from(costs.initial_cost(alloc));
     for place in 0..steps.len() {
         match step_cost(task, costs, steps.get(place), &mut scratch)? {
@@ -70,12 +71,12 @@ fn steps_cost(
     Ok(Some(sum))
 }
 
-/// What a step adds to the total cost.
-fn step_cost(
+/// What a step adds to the total cost, or nothing where that is undefined. Takes no memory but for functions of many arguments.
+pub fn step_cost(
     task: &Task,
     costs: &Costs,
     step: StepView<'_>,
-    scratch: &mut Scratch,
+    scratch: &mut CostScratch,
 ) -> Result<Option<u128>, AllocError>
     ensures cost { IfOk result (λ cost. cost ≡ sum_of (step_amounts task.now costs.now (step_shown step.entry))) }
     ensures small { IfOk result (λ cost. IfSome cost (λ sum. sum ≤ MOST_INCREASES * 2 ^ 64)) }

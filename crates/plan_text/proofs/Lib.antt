@@ -1,6 +1,5 @@
 mod Lines
 mod Bundles
-mod PartCounts
 mod MarkedNumbers
 mod DecimalLaws
 mod Names
@@ -10,3 +9,7 @@ mod Runs
 mod Reached
 mod PlanLaws
 mod OnlyPlan
+mod WholeSteps
+mod WalkSteps
+mod Extensions
+mod Comparisons

@@ -12,7 +12,8 @@ use Rattle.plan_text.specs.declared.want.Want.TheVariants.{Step, Number, Opening
 use Rattle.plan_text.specs.PlanGrammar.{Symbol, symbol_of, symbols, IsPlanText, IsViable}
 use Rattle.plan_text.specs.PlanReading.{Reading, nothing_read, read_on, at_end, behind, unreadable, plan_from, plan_of}
 use Rattle.plan_text.specs.PlanFaults.{AreTokens, place_of, Refuses, IsFaultAt, EndsTooEarly, IsFaultLine, IsPlanOf}
-use Rattle.plan_text.proofs.Runs.{reading, run, run-append, IsBetween, run_plan}
+use Rattle.plan_text.specs.Walks.{IsBetween}
+use Rattle.plan_text.proofs.Runs.{reading, run, run-append, run_plan}
 use Rattle.plan_text.proofs.Reached.{IsReached, reached_start, reached_on, viable_reached, plan_reached}
 use Rattle.plan_text.proofs.Steps.{plan_bad, plan_refused, plan_too_long, plan_short}
 

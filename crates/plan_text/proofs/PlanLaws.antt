@@ -15,7 +15,8 @@ use Rattle.plan_text.specs.declared.want.Want.TheVariants.{Step, Number, Opening
 use Rattle.plan_text.specs.PlanGrammar.{Symbol, symbol_of, symbols, IsPlanText, IsViable}
 use Rattle.plan_text.specs.PlanReading.{Reading, nothing_read, read_on, at_end, behind, plan_from, plan_of}
 use Rattle.plan_text.specs.PlanFaults.{AreTokens, place_of, Refuses, IsFaultLine, IsPlanOf}
-use Rattle.plan_text.proofs.Runs.{run, IsBetween}
+use Rattle.plan_text.specs.Walks.{IsBetween}
+use Rattle.plan_text.proofs.Runs.{run}
 use Rattle.plan_text.proofs.Reached.{IsReached, reached_start, reached_on, viable_reached, plan_reached, not_viable, run_more, no_plan}
 
 symbols-append : (before ps : List Piece) → AreTokens before → symbols (before ++ ps) ≡ symbols before ++ symbols ps

@@ -19,7 +19,8 @@ use Rattle.plan_text.specs.PlanGrammar.{Symbol, left, right, word, stamp_word, b
 use Rattle.plan_text.specs.PlanReading.{Reading, nothing_read, risen, stamped, numbered, followed, closed, by_want, read_on}
 use Rattle.plan_text.proofs.DecimalLaws.{IsNumberWord, number_found}
 use Rattle.plan_text.proofs.Stamps.{least_after, RisesAt, Rises, least_at, increases, rises_push, least_push, want_after, want_at, want_push}
-use Rattle.plan_text.proofs.Runs.{reading, run, run-append, IsBetween, run_plan}
+use Rattle.plan_text.specs.Walks.{IsBetween}
+use Rattle.plan_text.proofs.Runs.{reading, run, run-append, run_plan}
 
 -- tokens are a plan text, behind which this may come, from this stamp on
 pub record IsWritten (tokens : List Symbol) (want : Want) (least : ℕ) (steps : List StepText) : Type 0 where

@@ -16,6 +16,7 @@ use Rattle.pddl_words.specs.Decimals.{Decimal, IsDecimal, IsDigit, behind_whole,
 use Rattle.plan_text.specs.MarkedNumbers.{number_before}
 use Rattle.plan_text.specs.PlanGrammar.{Symbol, left, right, word, stamp_word, bracket_word, perhaps, WrittenStep, step_symbols, IsStep, meant, IsPlanText}
 use Rattle.plan_text.specs.PlanReading.{Reading, nothing_read, begun, risen, stamped, numbered, followed, named, read_on}
+use Rattle.plan_text.specs.Walks.{IsBetween}
 use Rattle.pddl_words.proofs.DecimalLaws.{no_bracket}
 use Rattle.plan_text.proofs.DecimalLaws.{number_read}
 use Rattle.plan_text.proofs.Stamps.{least_after, RisesAt, Rises, least_at, rises, want_after, want_at}
@@ -37,14 +38,6 @@ pub run-append : (r : Reading) (a b : List Symbol) → run r (a ++ b) ≡ option
 run-append r [] b = refl
 run-append r (s ∷ a) b = run-append_by (read_on r s) a b (λ next. run-append next a b)
 
--- a step may begin, or the text end
-abbrev pub IsBetween : Want → Type 0
-IsBetween Step = Unit {0}
-IsBetween Number = Unit {0}
-IsBetween Opening = ⊥
-IsBetween Action = ⊥
-IsBetween Argument = ⊥
-
 pub between_after : (number : Option Decimal) → IsBetween (want_after number)
 between_after None = tt
 between_after (Some d) = tt
@@ -54,14 +47,14 @@ between_at want [] between = between
 between_at want (s ∷ written) between = between_at (want_after s.number) written (between_after s.number)
 
 -- a word of a step that is a name is read on
-read_name : (r : Reading) (text : List ℕ) → is_name text ≡ true → named r text ≡ Some (reading Argument r.least r.steps (r.words ++ folded text ∷ []))
+pub read_name : (r : Reading) (text : List ℕ) → is_name text ≡ true → named r text ≡ Some (reading Argument r.least r.steps (r.words ++ folded text ∷ []))
 read_name r text is = ap (λ (t : Bool). cond t (Some (reading Argument r.least r.steps (r.words ++ folded text ∷ []))) None) is
 
 has_room : (r : Reading) (next : Option Reading) → length r.steps < 1000000 → begun r next ≡ next
 has_room r next few = ap (λ (t : Bool). cond t next None) (lt-ltb (length r.steps) 1000000 few)
 
 -- a `(` between steps is read on
-read_left : (want : Want) (least : ℕ) (steps : List StepText) → IsBetween want → length steps < 1000000 → read_on (reading want least steps []) left ≡ Some (reading Action least steps [])
+pub read_left : (want : Want) (least : ℕ) (steps : List StepText) → IsBetween want → length steps < 1000000 → read_on (reading want least steps []) left ≡ Some (reading Action least steps [])
 unfolding read_on
 read_left Step least steps between few = has_room (reading Step least steps []) _ few
 read_left Number least steps between few = has_room (reading Number least steps []) _ few

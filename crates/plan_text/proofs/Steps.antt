@@ -9,6 +9,7 @@ use Rattle.std.proofs.lemmas.Bool.{lt-ltb, le-ltb, and_parts}
 use Rattle.pddl_words.specs.Words.{is_name, folded}
 use Rattle.pddl_tokens.specs.declared.spans.Span.{Span}
 use Rattle.pddl_tokens.specs.declared.spans.TokenKind.{TokenKind}
+use Rattle.pddl_tokens.specs.declared.spans.TokenKind.TheVariants.{Right}
 use Rattle.pddl_tokens.specs.Tokens.{Piece, token, bad, pieces}
 use Rattle.strips_task.specs.declared.plans.Plan.TheVariants.{Unreadable}
 use Rattle.strips_task.specs.OpenPlan.{OpenPlan}
@@ -18,9 +19,9 @@ use Rattle.plan_text.specs.declared.want.Want.TheVariants.{Step, Number, Opening
 use Rattle.plan_text.specs.declared.want.Expected.{Expected}
 use Rattle.plan_text.specs.MarkedNumbers.{number_before}
 use Rattle.plan_text.specs.PlanGrammar.{Symbol, left, right, word, symbol_of}
-use Rattle.plan_text.specs.PlanReading.{Reading, begun, risen, stamped, numbered, followed, named, by_want, read_on, nothing_read, at_end, behind, unreadable, plan_from, plan_of}
+use Rattle.plan_text.specs.PlanReading.{Reading, then_want, begun, risen, stamped, numbered, followed, named, by_want, read_on, nothing_read, at_end, behind, unreadable, plan_from, plan_of}
 use Rattle.plan_text.specs.Wants.{takes_name}
-use Rattle.plan_text.specs.PlanSteps.{reading, IsReady, LeadsTo, ReadsOn}
+use Rattle.plan_text.specs.PlanSteps.{reading, IsReady, LeadsTo, ReadsOn, ReadsBetween}
 use Rattle.plan_text.proofs.MarkedNumbers.{no_last}
 
 pub plan_end : (text : List ℕ) (r : Reading) → plan_from text r [] ≡ at_end r.want text r.steps
@@ -84,6 +85,15 @@ pub word_refused : (expected : Expected) (plan : OpenPlan) (text : List ℕ) →
 unfolding read_on
 word_refused expected plan text takes step number = no_word expected.want (reading expected plan) text takes step number
 
+-- a `(` between steps
+pub step_begins : (result : Option Expected) (expected next : Expected) (plan : OpenPlan) → next ≡ record { want = Action; least_stamp = expected.least_stamp } → plan.words ≡ [] → ((length plan.steps < 1000000 → IsReady next.want plan) → LeadsTo result plan (begun (reading next plan) (Some (reading next plan)))) → LeadsTo result plan (begun (reading expected plan) (Some (then_want Action (reading expected plan))))
+step_begins result expected next plan same none leads =
+    subst (λ (n : Expected). (length plan.steps < 1000000 → IsReady n.want plan) → LeadsTo result plan (begun (reading n plan) (Some (reading n plan)))) same leads (λ few. (none, few))
+
+-- between steps no word is open
+pub none_open : (want between : Want) (plan : OpenPlan) → want ≡ between → IsReady want plan → IsReady between plan
+none_open want between plan is ready = subst (λ (w : Want). IsReady w plan) is ready
+
 -- a `(` behind a stamp
 pub opening_reads : (expected next : Expected) (plan : OpenPlan) → expected.want ≡ Opening → next ≡ record { want = Action; least_stamp = expected.least_stamp } → IsReady expected.want plan → ReadsOn (Some next) expected plan left plan
 opening_reads expected next plan is same ready =
@@ -113,6 +123,17 @@ no_right Argument r other = absurd (other refl)
 pub right_refused : (expected : Expected) (plan : OpenPlan) → (expected.want ≡ Argument → ⊥) → read_on (reading expected plan) right ≡ None
 unfolding read_on
 right_refused expected plan other = no_right expected.want (reading expected plan) other
+
+not_inside : (want : Want) → takes_name want ≡ false → want ≡ Argument → ⊥
+not_inside Step outside is = cc
+not_inside Number outside is = cc
+not_inside Opening outside is = cc
+not_inside Action outside is = cc
+not_inside Argument outside is = cc
+
+pub right_outside : (expected : Expected) (count : ℕ) (kind : TokenKind) (text : List ℕ) → kind ≡ Right → takes_name expected.want ≡ false → ReadsBetween None expected count (symbol_of kind text)
+right_outside expected count kind text is outside =
+    subst (λ (k : TokenKind). ReadsBetween None expected count (symbol_of k text)) (sym is) (λ plan counted ready. right_refused expected plan (not_inside expected.want outside))
 
 -- a `)` behind a name
 pub closed_reads : (expected next : Expected) (old new : OpenPlan) → expected.want ≡ Argument → next ≡ record { want = Number; least_stamp = expected.least_stamp } → new ≡ record { steps = old.steps ++ step_of old.words ∷ []; words = [] } → ReadsOn (Some next) expected old right new

@@ -28,3 +28,12 @@ parts bundle = map concat (slice_split is_separator (lines bundle))
 abbrev pub parts_left : Option (List ℕ) → List (List ℕ)
 parts_left None = []
 parts_left (Some rest) = parts rest
+
+-- the parts of a bundle from a place on
+abbrev pub parts_from : List ℕ → ℕ → List (List ℕ)
+parts_from bundle start = parts (drop start bundle)
+
+-- the parts behind one of them: those from a place on, or none
+abbrev pub parts_behind : List ℕ → Option ℕ → List (List ℕ)
+parts_behind bundle None = []
+parts_behind bundle (Some next) = parts_from bundle next

@@ -6,3 +6,6 @@ pub mod Bundle
 pub mod Separators
 pub mod MarkedNumbers
 pub mod Wants
+pub mod Walks
+pub mod WalkFinds
+pub mod Faults

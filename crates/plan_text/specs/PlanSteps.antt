@@ -1,6 +1,6 @@
 -- What single steps of the reader do to an open plan.
 
-use Rattle.std.specs.Prelude.{◌≡◌, ◌<◌, [], length, Option, Some, None}
+use Rattle.std.specs.Prelude.{◌≡◌, ℕ, ◌<◌, [], length, Option, Some, None}
 use Rattle.strips_task.specs.OpenPlan.{OpenPlan}
 use Rattle.plan_text.specs.declared.want.Want.{Want}
 use Rattle.plan_text.specs.declared.want.Want.TheVariants.{Step, Number, Opening, Action, Argument}
@@ -28,3 +28,8 @@ LeadsTo (Some expected) new next = (next ≡ Some (reading expected new)) × IsR
 -- a token was read on, or may not stand here
 abbrev pub ReadsOn : Option Expected → Expected → OpenPlan → Symbol → OpenPlan → Type 0
 ReadsOn next expected old symbol new = LeadsTo next new (read_on (reading expected old) symbol)
+
+-- a token outside steps was read on, or may not stand here, whichever so many steps stand before it
+abbrev pub ReadsBetween : Option Expected → Expected → ℕ → Symbol → Type 0
+ReadsBetween next expected steps symbol =
+    (plan : OpenPlan) → length plan.steps ≡ steps → IsReady expected.want plan → ReadsOn next expected plan symbol plan

@@ -1,8 +1,9 @@
 -- Where the first line of a text ends, and where its first separator stands.
 
-use Rattle.std.specs.Prelude.{◌≡◌, ℕ, ◌<◌, ◌≤◌, List, [], ◌∷◌, length, take, drop, Option, Some, None}
+use Rattle.std.specs.Prelude.{◌≡◌, ℕ, ◌<◌, ◌≤◌, List, [], ◌∷◌, length, take, drop, slice_range, Option, Some, None, IfSome}
 use Rattle.plan_text.specs.declared.parts.Line.{Line}
-use Rattle.plan_text.specs.Bundle.{lines, parts}
+use Rattle.plan_text.specs.declared.parts.PartPlace.{PartPlace}
+use Rattle.plan_text.specs.Bundle.{lines, parts, parts_from, parts_behind}
 
 -- the first line of a text that has one takes up so many bytes
 pub record CutsLine (text : List ℕ) (size : ℕ) : Type 0 where
@@ -15,3 +16,10 @@ abbrev pub IsFirstSeparator : Option Line → List ℕ → Type 0
 IsFirstSeparator None text = parts text ≡ text ∷ []
 IsFirstSeparator (Some line) text =
     (line.start ≤ line.end) × (line.end ≤ length text) × (parts text ≡ take line.start text ∷ parts (drop line.end text))
+
+-- the first part of a bundle from a place on ends there, and the other parts begin behind it, if there are any
+pub record IsFirstPart (place : PartPlace) (bundle : List ℕ) (start : ℕ) : Type 0 where
+  pub ordered : start ≤ place.end
+  pub within : place.end ≤ length bundle
+  pub behind : IfSome place.next (λ next. next ≤ length bundle)
+  pub first : parts_from bundle start ≡ slice_range bundle start place.end ∷ parts_behind bundle place.next

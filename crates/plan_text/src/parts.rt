@@ -3,7 +3,7 @@
 ghost use Rattle.std.specs.Prelude.{◌≡◌, ◌≤◌, length};
 ghost use Rattle.std.specs.List.{list_all};
 ghost use Rattle.plan_text.specs.Bundle.{parts, is_separator, may_follow_dashes};
-ghost use Rattle.plan_text.specs.Separators.{CutsLine, IsFirstSeparator};
+ghost use Rattle.plan_text.specs.Separators.{CutsLine, IsFirstPart, IsFirstSeparator};
 
 use memchr::memchr;
 use std::marker::Model;
@@ -61,11 +61,31 @@ impl<'a> Iterator for Parts<'a> {
     }
 }
 
-/// How many parts a bundle has, in one pass and without memory.
-pub fn count_parts(bundle: &[u8]) -> usize
-    ensures { result ≡ length (parts bundle.now) }
+/// Where a part of a bundle ends, and where the part behind it begins, if there is one.
+#[derive(Clone, Copy, Debug)]
+pub struct PartPlace {
+    /// The place behind the last byte of the part.
+    pub end: usize,
+    /// The place of the first byte of the part behind it, which may be empty.
+    pub next: Option<usize>,
+}
+
+/// The part of a bundle that begins at a place. The first one begins at 0, and each says where the one behind it begins, so that all parts
+/// together cost one pass over the bundle, and no memory.
+pub fn part_from(bundle: &[u8], start: usize) -> PartPlace
+    requires { start ≤ length bundle.now }
+    ensures { IsFirstPart result bundle.now start }
 {
-    Parts::new(bundle).count()
+    match first_separator(&bundle[start..]) {
+        Some(line) => PartPlace {
+            end: start + line.start,
+            next: Some(start + line.end),
+        },
+        None => PartPlace {
+            end: bundle.len(),
+            next: None,
+        },
+    }
 }
 
 /// Where a line stands, with its LF where it has one: from `start` up to and without `end`.

@@ -1,15 +1,15 @@
 //! Reading a plan text, token by token.
 
 ghost use Rattle.std.specs.Prelude.{◌≡◌, ◌<◌, ◌≤◌, ◌^◌, length, Some, IfOk};
-ghost use Rattle.plan_text.specs.PlanGrammar.{left, right, word, symbol_of};
-ghost use Rattle.plan_text.specs.PlanReading.{plan_of, unreadable, at_end, begun, then_want, stamped, followed, named};
+ghost use Rattle.plan_text.specs.PlanGrammar.{right, word, symbol_of};
+ghost use Rattle.plan_text.specs.PlanReading.{plan_of, unreadable, at_end, named};
 ghost use Rattle.plan_text.specs.PlanSteps.{reading, IsReady, LeadsTo, ReadsOn};
 
-use crate::marked::number_before;
+use crate::between::{read_left, read_number};
 use crate::want::{Expected, Want};
 use pddl_tokens::{Cursor, TextFault, TokenKind, WordKind, line_of, word_kind};
 use std::alloc::{AllocError, Global};
-use strips_task::{MOST_STEPS, OpenSteps, Plan};
+use strips_task::{OpenSteps, Plan};
 
 /// The plan of a text, in one pass over its tokens.
 ///
@@ -53,22 +53,9 @@ fn read_on(
     ensures { IfOk result (λ next. ReadsOn next expected plan.old (symbol_of kind text.now) plan.new) }
 {
     match kind {
-        TokenKind::Left => Ok(read_left(plan, expected)),
+        TokenKind::Left => Ok(read_left(plan.len(), expected)),
         TokenKind::Right => read_right(plan, expected),
         TokenKind::Word => read_word(plan, expected, text),
-    }
-}
-
-/// Reads a `(` on.
-fn read_left(plan: &OpenSteps, expected: Expected) -> Option<Expected>
-    requires { IsReady expected.want plan.now }
-    ensures { ReadsOn result expected plan.now left plan.now }
-{
-    match expected.want {
-        Want::Step => begun(plan, expected.then(Want::Action)),
-        Want::Number => begun(plan, expected.then(Want::Action)),
-        Want::Opening => Some(expected.then(Want::Action)),
-        _ => None,
     }
 }
 
@@ -99,55 +86,7 @@ fn read_word(
     if expected.want.takes_name() {
         return push_name(plan, expected, text);
     }
-    match expected.want {
-        Want::Step => Ok(stamped(plan, expected, text)),
-        Want::Number => Ok(followed(plan, expected, text)),
-        _ => Ok(None),
-    }
-}
-
-/// A step begins, unless the plan has as many as it may have.
-fn begun(plan: &OpenSteps, next: Expected) -> Option<Expected>
-    requires fits { length plan.now.steps < 1000000 → IsReady next.want plan.now }
-    ensures { LeadsTo result plan.now (begun (reading next plan.now) (Some (reading next plan.now))) }
-{
-    if plan.len() < MOST_STEPS {
-        Some(next)
-    } else {
-        None
-    }
-}
-
-/// A word before a step, which has to be a stamp above all others.
-fn stamped(plan: &OpenSteps, expected: Expected, text: &[u8]) -> Option<Expected>
-    requires { IsReady Want.Step plan.now }
-    ensures { LeadsTo result plan.now (stamped (reading expected plan.now) text.now) }
-{
-    let value = number_before(b':', text)?;
-    if value < expected.least_stamp {
-        return None;
-    }
-    begun(
-        plan,
-        Expected {
-            want: Want::Opening,
-            least_stamp: value + 1,
-        },
-    )
-}
-
-/// A word behind a step: its number in brackets, or the stamp of the next step.
-fn followed(plan: &OpenSteps, expected: Expected, text: &[u8]) -> Option<Expected>
-    requires { IsReady Want.Number plan.now }
-    ensures { LeadsTo result plan.now (followed (reading expected plan.now) text.now) }
-{
-    match text.strip_prefix(b"[") {
-        Some(number) => {
-            number_before(b']', number)?;
-            Some(expected.then(Want::Step))
-        }
-        None => stamped(plan, expected, text),
-    }
+    Ok(read_number(plan.len(), expected, text))
 }
 
 /// A word of a step, which has to be a name.

@@ -11,6 +11,7 @@ use plan_cost::CostedTask;
 use std::alloc::{AllocError, Global};
 use std::sync::Arc;
 use strips_judge::Plan;
+use submitted_plan::SubmittedPlan;
 
 /// A bench is made.
 pub(crate) fn bench_row(alloc: Global) -> Seen {
@@ -62,7 +63,7 @@ pub(crate) fn submits(bench: &Bench, owner: &mut Owner, plan: &Arc<Plan>, number
     ensures { SitsAt bench.now owner.new }
 {
     match Arc::try_clone(plan) {
-        Ok(plan) => match owner.submit(bench, 0, plan) {
+        Ok(plan) => match owner.submit(bench, 0, SubmittedPlan::from_plan(plan)) {
             Ok(job) => job == number,
             Err(_) => false,
         },

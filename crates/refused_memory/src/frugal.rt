@@ -14,7 +14,7 @@ use judge_engine::replay::replay_bytes;
 use judge_engine::report::Report;
 use pddl_reader::FaultKind;
 use pddl_tokens::{Cursor, WordKind, line_of, same_folded, word_kind};
-use plan_text::{Parts, count_parts};
+use plan_text::{Parts, part_from};
 use std::alloc::Global;
 use strips_judge::Task;
 
@@ -99,7 +99,7 @@ fn reads_words() -> bool {
 /// Whether a file has two plans.
 fn reads_parts() -> bool {
     let mut parts = Parts::new(BOTH);
-    count_parts(BOTH) == 2
+    part_from(BOTH, 0).end == LIGHT.len()
         && is_part(parts.next(), LIGHT)
         && is_part(parts.next(), LIGHT_TWICE)
         && parts.next().is_none()

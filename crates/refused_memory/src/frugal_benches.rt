@@ -14,6 +14,7 @@ use plan_cost::CostedTask;
 use std::alloc::{AllocError, Global};
 use std::sync::Arc;
 use strips_judge::Plan;
+use submitted_plan::SubmittedPlan;
 
 /// What the owner of a bench asks, once it took a job and judged it.
 pub(crate) fn owner_row(alloc: Global, makes_calls: bool) -> Seen {
@@ -91,7 +92,7 @@ fn is_full(bench: &Bench, owner: &mut Owner, plan: &Arc<Plan>) -> bool
     ensures { SitsAt bench.now owner.new }
 {
     match Arc::try_clone(plan) {
-        Ok(plan) => match owner.submit(bench, 0, plan) {
+        Ok(plan) => match owner.submit(bench, 0, SubmittedPlan::from_plan(plan)) {
             Ok(_) => false,
             Err(refused) => refused.refusal == Refusal::Full,
         },

@@ -11,12 +11,13 @@ use plan_cost::CostedTask;
 use std::alloc::{AllocError, Global};
 use std::sync::Arc;
 use strips_judge::Plan;
+use submitted_plan::SubmittedPlan;
 
 /// What is asked of a desk, once two findings of one job were made.
 pub(crate) fn desk_row(alloc: Global, makes_calls: bool) -> Seen {
     match lamp(alloc) {
         Ok(task) => match light(alloc) {
-            Ok(plan) => judge_first(alloc, &task, plan, makes_calls),
+            Ok(plan) => judge_first(alloc, &task, &plan, makes_calls),
             Err(seen) => seen,
         },
         Err(seen) => seen,
@@ -24,15 +25,18 @@ pub(crate) fn desk_row(alloc: Global, makes_calls: bool) -> Seen {
 }
 
 /// Judges the job that a plan will be, twice.
-fn judge_first(alloc: Global, task: &CostedTask, plan: Arc<Plan>, makes_calls: bool) -> Seen {
+fn judge_first(alloc: Global, task: &CostedTask, plan: &Arc<Plan>, makes_calls: bool) -> Seen {
+    let Ok(own) = Arc::try_clone(plan) else {
+        return Seen::Wrong;
+    };
     let job = Job {
         number: 0,
         planner: 0,
-        plan,
+        plan: SubmittedPlan::from_plan(own),
     };
     match Finding::judge(alloc, task, &job) {
         Ok(finding) => match Finding::judge(alloc, task, &job) {
-            Ok(other) => with_findings(alloc, task, finding, other, makes_calls),
+            Ok(other) => with_findings(alloc, task, plan, finding, other, makes_calls),
             Err(AllocError) => Seen::Refused,
         },
         Err(AllocError) => Seen::Refused,
@@ -43,6 +47,7 @@ fn judge_first(alloc: Global, task: &CostedTask, plan: Arc<Plan>, makes_calls: b
 fn with_findings(
     alloc: Global,
     task: &CostedTask,
+    plan: &Arc<Plan>,
     finding: Finding,
     other: Finding,
     makes_calls: bool,
@@ -52,7 +57,7 @@ fn with_findings(
     match Desk::make(alloc, task, 1, 2) {
         Ok(mut desk) => Seen::whole_if(
             !makes_calls
-                || takes_in(&mut desk, &finding.job.plan)
+                || takes_in(&mut desk, plan)
                     && gives_out(&mut desk)
                     && finishes(&mut desk, finding, other)
                     && emits(&mut desk),

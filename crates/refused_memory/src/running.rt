@@ -16,6 +16,7 @@ use std::alloc::{AllocError, Global};
 use std::sync::{Arc, Wait};
 use std::thread::Threads;
 use strips_judge::Plan;
+use submitted_plan::SubmittedPlan;
 
 /// Two plans of one planner are judged by so many workers.
 pub(crate) fn run_row<R: AllocGlobal + Threads + Wait + Sync>(rt: &R, workers: u32) -> Seen
@@ -63,7 +64,10 @@ fn submission(plan: &Arc<Plan>) -> Result<Submission, Seen>
     ensures { IfOk result (λ it. it.planner ≡ 0) }
 {
     match Arc::try_clone(plan) {
-        Ok(plan) => Ok(Submission { planner: 0, plan }),
+        Ok(plan) => Ok(Submission {
+            planner: 0,
+            plan: SubmittedPlan::from_plan(plan),
+        }),
         Err(_) => Err(Seen::Wrong),
     }
 }
@@ -129,11 +133,19 @@ fn bundles(alloc: Global) -> Result<[Bundle; 3], Seen> {
 /// The file of a planner.
 fn bundle(alloc: Global, name: &str, bytes: &[u8]) -> Result<Bundle, Seen> {
     match String::from_str(alloc, name) {
-        Ok(name) => match bytes.to_vec(alloc) {
-            Ok(bytes) => Ok(Bundle { name, bytes }),
-            Err(AllocError) => Err(Seen::Refused),
-        },
+        Ok(name) => with_bytes(alloc, name, bytes),
         Err(AllocError) => Err(Seen::Refused),
+    }
+}
+
+/// The file of a planner with this name.
+fn with_bytes(alloc: Global, name: String, bytes: &[u8]) -> Result<Bundle, Seen> {
+    let Ok(bytes) = bytes.to_vec(alloc) else {
+        return Err(Seen::Refused);
+    };
+    match Arc::new(alloc, bytes) {
+        Ok(bytes) => Ok(Bundle { name, bytes }),
+        Err(_) => Err(Seen::Refused),
     }
 }
 

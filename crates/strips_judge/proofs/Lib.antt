@@ -2,7 +2,9 @@ pub mod Applicable
 pub mod Bound
 pub mod VerdictMeanings
 pub mod NumberedLaws
+pub mod CodeLaws
 pub mod Fits
+pub mod Growth
 pub mod Numbering
 pub mod Runs
 pub mod Searches

@@ -1,6 +1,6 @@
--- The numbers of atoms in a list: two atoms with one number are the same, and an atom more changes no other number.
+-- The numbers of atoms in a list: two atoms with one number are the same, and atoms that come behind change no other number.
 
-use Rattle.std.proofs.Common.{◌≡◌, ℕ, ◌+◌, ◌≤◌, Bool, true, false, cond, ◌||◌, List, [], ◌∷◌, ◌++◌, Some, None, is_some, refl, ap, sym, ◌∙◌, length, arith, if◌then◌else◌}
+use Rattle.std.proofs.Common.{◌≡◌, ℕ, ◌+◌, ◌<◌, ◌≤◌, Bool, true, false, cond, ◌||◌, List, [], ◌∷◌, ◌++◌, Option, Some, None, option_map, is_some, refl, ap, sym, ◌∙◌, length, arith, if◌then◌else◌}
 use Rattle.std.specs.List.{position_from, list_any}
 use Rattle.indexmap.specs.IndexSet.{insert_key}
 use Rattle.strips_task.specs.declared.atoms.Atom.{Atom}
@@ -74,6 +74,52 @@ module _ {A : Type 0} where
           ∙ rest (sym (ap (λ c. cond c (Some i) (position_from p (i + 1) xs)) is) ∙ none) e
           ∙ ap Some (omega arith)
 
+  -- items that come behind change no place
+  pub place-stays : (p : A → Bool) (i n : ℕ) (xs ys : List A) → position_from p i xs ≡ Some n → position_from p i (xs ++ ys) ≡ Some n
+  place-stays p i n [] ys e = cc
+  place-stays p i n (x ∷ xs) ys e = by (p x) refl (place-stays p (i + 1) n xs ys)
+    where
+      by : (b : Bool) → p x ≡ b → (position_from p (i + 1) xs ≡ Some n → position_from p (i + 1) (xs ++ ys) ≡ Some n) → position_from p i ((x ∷ xs) ++ ys) ≡ Some n
+      by true is rest =
+          ap (λ c. cond c (Some i) (position_from p (i + 1) (xs ++ ys))) is ∙ sym (ap (λ c. cond c (Some i) (position_from p (i + 1) xs)) is) ∙ e
+      by false is rest =
+          ap (λ c. cond c (Some i) (position_from p (i + 1) (xs ++ ys))) is ∙ rest (sym (ap (λ c. cond c (Some i) (position_from p (i + 1) xs)) is) ∙ e)
+
+  -- where no item passes, the place is one of those behind
+  pub place-behind : (p : A → Bool) (i : ℕ) (xs ys : List A) → position_from p i xs ≡ None → position_from p i (xs ++ ys) ≡ position_from p (i + length xs) ys
+  place-behind p i [] ys none = ap (λ k. position_from p k ys) (let e : i ≡ i + 0 = omega arith in e)
+  place-behind p i (x ∷ xs) ys none = by (p x) refl (place-behind p (i + 1) xs ys)
+    where
+      by : (b : Bool) → p x ≡ b → (position_from p (i + 1) xs ≡ None → position_from p (i + 1) (xs ++ ys) ≡ position_from p (i + 1 + length xs) ys)
+          → position_from p i ((x ∷ xs) ++ ys) ≡ position_from p (i + length (x ∷ xs)) ys
+      by true is rest = let apart : Some i ≡ None = sym (ap (λ c. cond c (Some i) (position_from p (i + 1) xs)) is) ∙ none in cc
+      by false is rest =
+          ap (λ c. cond c (Some i) (position_from p (i + 1) (xs ++ ys))) is
+          ∙ rest (sym (ap (λ c. cond c (Some i) (position_from p (i + 1) xs)) is) ∙ none)
+          ∙ ap (λ k. position_from p k ys) (let e : i + 1 + length xs ≡ i + length (x ∷ xs) = omega arith in e)
+
+  -- and so it comes after all places of the first part
+  pub place-late : (p : A → Bool) (i n : ℕ) (xs ys : List A) → position_from p i xs ≡ None → position_from p i (xs ++ ys) ≡ Some n → i + length xs ≤ n
+  place-late p i n xs ys none e = place-le p (i + length xs) n ys (sym (place-behind p i xs ys none) ∙ e)
+
+  -- where no item of the whole passes, none of the first part does
+  pub place-none : (p : A → Bool) (i : ℕ) (xs ys : List A) → position_from p i (xs ++ ys) ≡ None → position_from p i xs ≡ None
+  place-none p i xs ys none = by (position_from p i xs) refl
+    where
+      by : (o : Option ℕ) → position_from p i xs ≡ o → o ≡ None
+      by None e = refl
+      by (Some n) e = let apart : Some n ≡ None = sym (place-stays p i n xs ys e) ∙ none in cc
+
+  -- places that are counted from further on
+  pub place-shift : (p : A → Bool) (i d : ℕ) (xs : List A) → position_from p (d + i) xs ≡ option_map (λ n. d + n) (position_from p i xs)
+  place-shift p i d [] = refl
+  place-shift p i d (x ∷ xs) = by (p x) (ap (λ k. position_from p k xs) (let e : d + i + 1 ≡ d + (i + 1) = omega arith in e) ∙ place-shift p (i + 1) d xs)
+    where
+      by : (b : Bool) → position_from p (d + i + 1) xs ≡ option_map (λ n. d + n) (position_from p (i + 1) xs)
+          → cond b (Some (d + i)) (position_from p (d + i + 1) xs) ≡ option_map (λ n. d + n) (cond b (Some i) (position_from p (i + 1) xs))
+      by true rest = refl
+      by false rest = rest
+
 -- two atoms with one number are the same
 pub same_number : (atoms : List Atom) (a b : Atom) (n : ℕ) → number_in atoms a ≡ Some n → number_in atoms b ≡ Some n → a ≡ b
 same_number atoms a b n e f =
@@ -95,3 +141,26 @@ pub insert_key-new : (atoms : List Atom) (a copy : Atom) → copy ≡ a → numb
 insert_key-new atoms a copy same none =
     let absent : list_any (atom_eq copy) atoms ≡ false = ap (λ x. list_any (atom_eq x) atoms) same ∙ sym (is_some-place (atom_eq a) 0 atoms) ∙ ap is_some none in
     ap (λ c. if c then atoms else atoms ++ copy ∷ []) absent
+
+-- the number of an atom of the first of two lists, in both together
+pub number_in-first : (first later : List Atom) (a : Atom) (n : ℕ) → number_in first a ≡ Some n → number_in (first ++ later) a ≡ Some n
+number_in-first first later a n e = place-stays (atom_eq a) 0 n first later e
+
+-- that of an atom that the first list lacks
+pub number_in-later : (first later : List Atom) (a : Atom) → number_in first a ≡ None → number_in (first ++ later) a ≡ option_map (λ n. length first + n) (number_in later a)
+number_in-later first later a none =
+    place-behind (atom_eq a) 0 first later none
+    ∙ ap (λ k. position_from (atom_eq a) k later) (let e : 0 + length first ≡ length first + 0 = omega arith in e)
+    ∙ place-shift (atom_eq a) 0 (length first) later
+
+-- an atom without a number in both together has none in the second list
+pub number_in-none_later : (first later : List Atom) (a : Atom) → number_in (first ++ later) a ≡ None → number_in later a ≡ None
+number_in-none_later first later a none = by (number_in later a) (sym (number_in-later first later a (place-none (atom_eq a) 0 first later none)) ∙ none)
+  where
+    by : (o : Option ℕ) → option_map (λ n. length first + n) o ≡ None → o ≡ None
+    by None e = refl
+    by (Some n) e = cc
+
+-- numbers are below how many there are
+pub number_in-lt : (atoms : List Atom) (a : Atom) (n : ℕ) → number_in atoms a ≡ Some n → n < length atoms
+number_in-lt atoms a n e = omega (arith, place-lt (atom_eq a) 0 n atoms e)

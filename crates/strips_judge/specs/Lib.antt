@@ -1,3 +1,4 @@
+pub mod Codes
 pub mod Grounding
 pub mod Numbered
 pub mod Numbers

@@ -1,19 +1,41 @@
 -- The state that is kept as numbered atoms with a bit each.
 
-use Rattle.std.specs.Prelude.{ℕ, Bool, false, List, Option, Some, None}
-use Rattle.strips_task.specs.Atom.{atom_eq}
-use Rattle.strips_task.specs.FirstPlaces.{first_places}
-use Rattle.strips_judge.specs.declared.state.NumberedState.{NumberedState}
+use Rattle.std.specs.Prelude.{◌≡◌, ℕ, ◌≤◌, ◌<◌, ◌*◌, ◌^◌, Bool, false, List, Option, Some, None, length}
+use Rattle.strips_task.specs.declared.atoms.Atom.{Atom}
 use Rattle.bit_rows.specs.Rows.{row_has}
 use Rattle.strips_judge.specs.Numbers.{number_in}
 use Rattle.strips_judge.specs.State.{State}
 
--- the bit of an atom with a number among the initial atoms, or else with a number among the later ones; an atom with neither is false
-abbrev pub bit_of : List ℕ → List ℕ → Option ℕ → Option ℕ → Bool
-bit_of initial_bits later_bits (Some number) later = row_has initial_bits number
-bit_of initial_bits later_bits None (Some number) = row_has later_bits number
-bit_of initial_bits later_bits None None = false
+-- a state by numbers: the initial atoms of its task, the atoms that have numbers, each by its place, and a row of bits
+pub record Numbered : Type 0 where
+  pub initial : List Atom
+  pub atoms : List Atom
+  pub bits : List ℕ
+
+-- the bit of an atom with a number; an atom without one is false
+abbrev pub bit_of : List ℕ → Option ℕ → Bool
+bit_of bits (Some number) = row_has bits number
+bit_of bits None = false
+
+-- the state in which an atom is true where its bit is set
+abbrev pub state_by : List Atom → List ℕ → State
+state_by atoms bits = λ atom. bit_of bits (number_in atoms atom)
 
 -- the state that the bits stand for
-abbrev pub state_of : NumberedState → State
-state_of kept = λ atom. bit_of kept.initial_bits kept.later_bits (number_in (first_places atom_eq kept.initial.now) atom) (number_in kept.later.keys atom)
+abbrev pub state_of : Numbered → State
+state_of kept = state_by kept.atoms kept.bits
+
+-- each atom that had a number has the same one still
+abbrev pub KeepsNumbers : List Atom → List Atom → Type 0
+KeepsNumbers old new = (atom : Atom) (number : ℕ) → number_in old atom ≡ Some number → number_in new atom ≡ Some number
+
+-- the task's initial atoms stay, and atoms only get numbers
+pub record Grows (old new : Numbered) : Type 0 where
+  pub initial : new.initial ≡ old.initial
+  pub numbers : KeepsNumbers old.atoms new.atoms
+
+-- what is true of the row: it has room for all numbers, and no bit behind them is set
+pub record IsRowFor (atoms : List Atom) (bits : List ℕ) : Type 0 where
+  pub room : length atoms ≤ 64 * length bits
+  pub clear : (k : ℕ) → length atoms ≤ k → row_has bits k ≡ false
+  pub countable : length atoms < 2 ^ 64

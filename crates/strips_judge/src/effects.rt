@@ -2,7 +2,7 @@
 ghost use Rattle.std.specs.Prelude.{◌≡◌, length, map, All, OnOk};
 ghost use Rattle.strips_task.specs.Within.{IsPatternWithin};
 ghost use Rattle.strips_judge.specs.Grounding.{ground};
-ghost use Rattle.strips_judge.specs.Numbered.{state_of};
+ghost use Rattle.strips_judge.specs.Numbered.{Grows, state_of};
 ghost use Rattle.strips_judge.specs.State.{without, with_all, after_effects};
 
 use crate::grounding::ground;
@@ -20,7 +20,8 @@ pub(crate) fn apply(
 ) -> Result<(), AllocError>
     requires deletes { All (IsPatternWithin (length objects.now)) action.now.del }
     requires adds { All (IsPatternWithin (length objects.now)) action.now.add }
-    ensures { OnOk result (state_of state.new ≡ after_effects (state_of state.old)
+    ensures grows { Grows state.old state.new }
+    ensures state { OnOk result (state_of state.new ≡ after_effects (state_of state.old)
         (map (ground objects.now) action.now.del) (map (ground objects.now) action.now.add)) }
 {
     remove_all(state, action.del.as_slice(), objects, atom)?;
@@ -34,7 +35,8 @@ fn remove_all(
     atom: &mut Atom,
 ) -> Result<(), AllocError>
     requires { All (IsPatternWithin (length objects.now)) patterns.now }
-    ensures { OnOk result (state_of state.new ≡ without (state_of state.old) (map (ground objects.now) patterns.now)) }
+    ensures grows { Grows state.old state.new }
+    ensures state { OnOk result (state_of state.new ≡ without (state_of state.old) (map (ground objects.now) patterns.now)) }
 {
     for pattern in patterns {
         ground(pattern, objects, atom)?;
@@ -51,7 +53,8 @@ fn insert_all(
     atom: &mut Atom,
 ) -> Result<(), AllocError>
     requires { All (IsPatternWithin (length objects.now)) patterns.now }
-    ensures { OnOk result (state_of state.new ≡ with_all (state_of state.old) (map (ground objects.now) patterns.now)) }
+    ensures grows { Grows state.old state.new }
+    ensures state { OnOk result (state_of state.new ≡ with_all (state_of state.old) (map (ground objects.now) patterns.now)) }
 {
     for pattern in patterns {
         ground(pattern, objects, atom)?;

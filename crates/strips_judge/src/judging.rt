@@ -5,7 +5,7 @@
 ghost use Rattle.std.specs.Prelude.{◌≡◌, IfOk, IfNone, Some, length};
 ghost use Rattle.strips_task.specs.StepView.{step_shown};
 ghost use Rattle.strips_task.specs.Within.{IsActionWithin};
-ghost use Rattle.strips_judge.specs.Numbered.{state_of};
+ghost use Rattle.strips_judge.specs.Numbered.{Grows, state_of};
 ghost use Rattle.strips_judge.specs.State.{is_in};
 ghost use Rattle.strips_judge.specs.Step.{objects_named, missing, action_hindrance, hindrance, after_by, after};
 ghost use Rattle.strips_judge.specs.Verdict.{goal_verdict, verdict_from, verdict};
@@ -18,15 +18,16 @@ use crate::verdict::{Verdict, Why};
 use std::alloc::{AllocError, Global};
 use strips_task::{Action, Atom, Plan, ShortSeq, StepList, StepView, Task};
 
-/// What the steps of a plan share, so that a step takes no memory of its own.
+/// What steps share, so that a step takes no memory of its own. No answer depends on what it holds.
 #[derive(Drop)]
-struct Scratch {
-    objects: Vec<u16>,
-    atom: Atom,
+pub struct Scratch {
+    pub(crate) objects: Vec<u16>,
+    pub(crate) atom: Atom,
 }
 
 impl Scratch {
-    fn new(alloc: Global) -> Scratch {
+    /// Takes no memory.
+    pub fn new(alloc: Global) -> Scratch {
         Scratch {
             objects: Vec::new(alloc),
             atom: Atom {
@@ -65,8 +66,8 @@ fn judge_steps(alloc: Global, task: &Task, steps: &StepList) -> Result<Verdict, 
     judge_goal(alloc, task, &state, steps.len() as u32)
 }
 
-/// The verdict of a plan whose steps were all taken and lead to this state.
-fn judge_goal(
+/// The verdict of a plan whose steps were all taken and lead to this state. Takes memory for what is missing.
+pub fn judge_goal(
     alloc: Global,
     task: &Task,
     state: &NumberedState<'_>,
@@ -82,14 +83,17 @@ fn judge_goal(
     }
 }
 
-/// Takes a step where it is applicable, or else answers why it is not.
-fn take_step(
+/// Takes a step where it is applicable, or else answers why it is not. Where memory runs out some of its effects may have happened.
+///
+/// Takes one hash for each of its words and for each of its atoms, and memory for atoms that have no number yet.
+pub fn take_step(
     alloc: Global,
     task: &Task,
     step: StepView<'_>,
     state: &mut NumberedState<'_>,
     scratch: &mut Scratch,
 ) -> Result<Option<Why>, AllocError>
+    ensures grows { Grows state.old state.new }
     ensures why { IfOk result (λ why. why ≡ hindrance task.now (state_of state.old) (step_shown step.entry)) }
     ensures next { IfOk result (λ why. IfNone why (state_of state.new ≡ after task.now (state_of state.old) (step_shown step.entry))) }
 {
@@ -109,6 +113,7 @@ fn take_action(
     scratch: &mut Scratch,
 ) -> Result<Option<Why>, AllocError>
     requires { IsActionWithin (length task.now.parents) action.now }
+    ensures grows { Grows state.old state.new }
     ensures why { IfOk result (λ why. why ≡ action_hindrance task.now (state_of state.old) action.now (step_shown step.entry).args) }
     ensures next { IfOk result (λ why. IfNone why (state_of state.new
         ≡ after_by (objects_named task.now (step_shown step.entry).args) (state_of state.old) (Some action.now))) }

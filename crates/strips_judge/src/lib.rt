@@ -1,11 +1,13 @@
 //! The judge: whether a plan is valid for a task, and if not, why.
 //!
 //! [`judge`] takes a [`Task`] and a [`Plan`] and gives a [`Verdict`]. What the verdict means is stated by `specs/Verdict.antt`, and the
-//! functions of [`laws`] tie it to validity in the words of PDDL. Tasks and plans come from the crate `strips_task`, whose whole surface
-//! is passed on here, so that users name this crate alone.
+//! functions of [`laws`] tie it to validity in the words of PDDL. Who judges many plans of one task keeps a [`NumberedState`] over them, and
+//! takes their steps by [`take_step`], or by the [`StepCode`] of a step that came before ([`take_by_code`]). Tasks and plans come from the
+//! crate `strips_task`, whose whole surface is passed on here, so that users name this crate alone.
 #![tactic(auto)]
 
 mod arguments;
+mod codes;
 mod conditions;
 mod effects;
 mod grounding;
@@ -15,7 +17,9 @@ mod numbers;
 mod state;
 mod verdict;
 
-pub use judging::judge;
+pub use codes::{CodeBuffer, StepCode, code_of_step, take_by_code};
+pub use judging::{Scratch, judge, judge_goal, take_step};
+pub use state::NumberedState;
 pub use strips_task::{
     Action, Alternatives, Atom, AtomList, Cond, CondList, Formula, GroundCond, GroundFormula,
     InitialAtoms, MOST_STEPS, Name, NameTable, OpenSteps, Pattern, Plan, Seed, Seq, ShortSeq,

@@ -1,42 +1,67 @@
-//! The state of the world while a plan is judged: which ground atoms are true.
+//! The state of the world while plans are judged: which ground atoms are true.
 //!
-//! Each atom that is ever true has a number and a bit. The initial atoms have theirs from the task, so a plan starts with a row of ones
-//! and hashes none of them. An atom that a step adds for the first time gets a number of the plan's own. Steps change the bits in
-//! place. An atom without a number is false.
-ghost use Rattle.std.specs.Prelude.{◌≡◌, ◌∷◌, [], IfOk, OnOk};
+//! Each atom that was ever true or asked for by number has a number and a bit. The initial atoms have the task's numbers, so a plan starts
+//! with a row of ones and hashes none of them. Atoms that come up later get the numbers behind, and numbers never change: a state that is
+//! reset for another plan keeps them. Steps change the bits in place. An atom without a number is false.
+ghost use Rattle.std.specs.Prelude.{◌≡◌, ◌∷◌, [], ◌<◌, ℕ, Some, IfOk, OnOk, length};
+ghost use Rattle.strips_task.specs.declared.atoms.Atom.{Atom};
+ghost use Rattle.strips_judge.specs.Numbered.{Grows, state_of};
+ghost use Rattle.strips_judge.specs.Numbers.{number_in};
 ghost use Rattle.strips_judge.specs.State.{is_in, without, with_all};
 
-use crate::numbers::{number_in, number_or_add};
+use crate::numbers::{copy_of, number_in};
 use bit_rows::Row;
 use indexmap::IndexSet;
 use std::alloc::{AllocError, Global};
+use std::marker::Model;
 use strips_task::{Atom, InitialAtoms, Seed};
 
-/// A set of ground atoms.
+/// A set of ground atoms of a task, each with a number. Contracts see the initial atoms of the task, the atoms that have numbers and the bits.
 #[derive(Drop)]
-pub(crate) struct NumberedState<'t> {
+pub struct NumberedState<'t> {
     initial: &'t InitialAtoms,
-    initial_bits: Row,
     later: IndexSet<Atom, Seed>,
-    later_bits: Row,
+    bits: Row,
+}
+
+impl<'t> Model for NumberedState<'t> {
+    ghost use Rattle.std.specs.Prelude.{◌++◌};
+    ghost use Rattle.strips_task.specs.Atom.{atom_eq};
+    ghost use Rattle.strips_task.specs.FirstPlaces.{first_places};
+    ghost use Rattle.strips_judge.specs.Numbered.{Numbered, IsRowFor};
+
+    ghost Value = { Numbered };
+
+    ghost view = { λ s. record { initial = s.initial.now; atoms = first_places atom_eq s.initial.now ++ s.later.keys; bits = s.bits } };
+
+    ghost invariant = { λ s. IsRowFor (first_places atom_eq s.initial.now ++ s.later.keys) s.bits };
 }
 
 impl NumberedState<'_> {
-    ghost use Rattle.strips_judge.specs.Numbered.{state_of};
-
     /// The state in which the initial atoms are true, and no others. Takes a bit for each of them.
-    pub(crate) fn new(
-        alloc: Global,
-        initial: &InitialAtoms,
-    ) -> Result<NumberedState<'_>, AllocError>
-        ensures { IfOk result (λ state. state_of state ≡ is_in initial.now) }
+    pub fn new(alloc: Global, initial: &InitialAtoms) -> Result<NumberedState<'_>, AllocError>
+        ensures state { IfOk result (λ state. state_of state ≡ is_in initial.now) }
+        ensures initial { IfOk result (λ state. state.initial ≡ initial.now) }
     {
         Ok(NumberedState {
             initial,
-            initial_bits: Row::with_first(alloc, initial.distinct_len())?,
             later: IndexSet::with_hasher(alloc, initial.seed()),
-            later_bits: Row::new(alloc),
+            bits: Row::with_first(alloc, initial.distinct_len())?,
         })
+    }
+
+    /// Makes the initial atoms true and all others false, a word of the row at a time. Numbers and room stay.
+    pub fn reset(&mut self)
+        ensures state { state_of self.new ≡ is_in self.old.initial }
+        ensures atoms { self.new.atoms ≡ self.old.atoms }
+        ensures initial { self.new.initial ≡ self.old.initial }
+    {
+        self.bits.reset_to_first(self.initial.distinct_len());
+    }
+
+    /// How many atoms have numbers beside the initial ones.
+    pub fn later_len(&self) -> usize {
+        self.later.len()
     }
 
     /// The seed that its tables hash with.
@@ -44,39 +69,90 @@ impl NumberedState<'_> {
         self.initial.seed()
     }
 
+    /// The number of an atom, if it has one. Takes one hash, and another for an atom that is no initial one.
+    pub(crate) fn number_of(&self, atom: &Atom) -> Option<usize>
+        ensures { result ≡ number_in self.now.atoms atom.now }
+    {
+        if let Some(number) = self.initial.number_of(atom) {
+            return Some(number);
+        }
+        match number_in(&self.later, atom) {
+            Some(number) => Some(self.initial.distinct_len() + number),
+            None => None,
+        }
+    }
+
+    /// The number of an atom, which gets the next one where it has none. It stays as true or false as it is.
+    pub(crate) fn number(&mut self, alloc: Global, atom: &Atom) -> Result<usize, AllocError>
+        ensures number { IfOk result (λ number. number_in self.new.atoms atom.now ≡ Some number) }
+        ensures state { state_of self.new ≡ state_of self.old }
+        ensures grows { Grows self.old self.new }
+    {
+        if let Some(number) = self.number_of(atom) {
+            return Ok(number);
+        }
+        let number = self.initial.distinct_len() + self.later.len();
+        if number == usize::MAX {
+            return Err(AllocError);
+        }
+        self.bits.reserve(number + 1)?;
+        self.later.insert(copy_of(alloc, atom)?)?;
+        Ok(number)
+    }
+
+    /// Whether the atom with a number is true.
+    pub(crate) fn has(&self, number: usize) -> bool
+        ensures { (atom : Atom) → number_in self.now.atoms atom ≡ Some number → result ≡ state_of self.now atom }
+    {
+        self.bits.has(number)
+    }
+
+    /// Makes the atom with a number true. Takes no memory.
+    pub(crate) fn set(&mut self, number: usize)
+        requires { number < length self.old.atoms }
+        ensures state { (atom : Atom) → number_in self.old.atoms atom ≡ Some number → state_of self.new ≡ with_all (state_of self.old) (atom ∷ []) }
+        ensures atoms { self.new.atoms ≡ self.old.atoms }
+        ensures initial { self.new.initial ≡ self.old.initial }
+    {
+        self.bits.set(number);
+    }
+
+    /// Makes the atom with a number false.
+    pub(crate) fn clear(&mut self, number: usize)
+        ensures state { (atom : Atom) → number_in self.old.atoms atom ≡ Some number → state_of self.new ≡ without (state_of self.old) (atom ∷ []) }
+        ensures atoms { self.new.atoms ≡ self.old.atoms }
+        ensures initial { self.new.initial ≡ self.old.initial }
+    {
+        self.bits.clear(number);
+    }
+
     /// Whether an atom is true.
     pub(crate) fn contains(&self, atom: &Atom) -> bool
         ensures { result ≡ state_of self.now atom.now }
     {
-        if let Some(number) = self.initial.number_of(atom) {
-            self.initial_bits.has(number)
-        } else if let Some(number) = number_in(&self.later, atom) {
-            self.later_bits.has(number)
-        } else {
-            false
+        match self.number_of(atom) {
+            Some(number) => self.bits.has(number),
+            None => false,
         }
     }
 
     /// Makes an atom true. Takes memory for an atom that has no number yet.
     pub(crate) fn insert(&mut self, alloc: Global, atom: &Atom) -> Result<(), AllocError>
-        ensures { OnOk result (state_of self.new ≡ with_all (state_of self.old) (atom.now ∷ [])) }
+        ensures state { OnOk result (state_of self.new ≡ with_all (state_of self.old) (atom.now ∷ [])) }
+        ensures grows { Grows self.old self.new }
     {
-        if let Some(number) = self.initial.number_of(atom) {
-            self.initial_bits.set(number)
-        } else {
-            let number = number_or_add(alloc, &mut self.later, atom)?;
-            self.later_bits.set(number)
-        }
+        let number = self.number(alloc, atom)?;
+        self.set(number);
+        Ok(())
     }
 
     /// Makes an atom false.
     pub(crate) fn remove(&mut self, atom: &Atom)
-        ensures { state_of self.new ≡ without (state_of self.old) (atom.now ∷ []) }
+        ensures state { state_of self.new ≡ without (state_of self.old) (atom.now ∷ []) }
+        ensures grows { Grows self.old self.new }
     {
-        if let Some(number) = self.initial.number_of(atom) {
-            self.initial_bits.clear(number);
-        } else if let Some(number) = number_in(&self.later, atom) {
-            self.later_bits.clear(number);
+        if let Some(number) = self.number_of(atom) {
+            self.clear(number);
         }
     }
 }

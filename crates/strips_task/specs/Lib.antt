@@ -13,3 +13,4 @@ pub mod Types
 pub mod WellFormed
 pub mod Within
 pub mod Ranges
+pub mod Spelled

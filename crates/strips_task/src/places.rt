@@ -43,6 +43,17 @@ impl Places {
         }
     }
 
+    /// Removes all places. Keeps the room for those to come, of the size that they had.
+    #[tactic(auto, unfolding(crate::specs::Places::places_kept))]
+    pub(crate) fn clear(&mut self)
+        ensures { self.new ≡ [] }
+    {
+        match &mut self.kept {
+            Kept::Near(near) => near.clear(),
+            Kept::Far(far) => far.clear(),
+        }
+    }
+
     /// Adds a place at the end. Where memory runs out the list stays as it was.
     #[tactic(auto, unfolding(crate::specs::Places::places_kept))]
     pub(crate) fn push(&mut self, place: usize) -> Result<(), AllocError>

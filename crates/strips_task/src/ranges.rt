@@ -44,6 +44,17 @@ impl StepRanges {
         }
     }
 
+    /// Removes all ranges. Keeps the room for those to come, of the size that they had.
+    #[tactic(auto, unfolding(crate::specs::Ranges::ranges_kept), using(crate::proofs::JoinedRanges::joined_none))]
+    pub(crate) fn clear(&mut self)
+        ensures { self.new ≡ [] }
+    {
+        match &mut self.kept {
+            Kept::Joined(ends) => ends.clear(),
+            Kept::Apart(ranges) => ranges.clear(),
+        }
+    }
+
     /// Adds a range at the end. Where memory runs out the list stays as it was.
     #[tactic(auto, unfolding(crate::specs::Ranges::ranges_kept), using(crate::proofs::JoinedRanges::joined_push))]
     pub(crate) fn push(&mut self, range: StepRange) -> Result<(), AllocError>

@@ -160,6 +160,15 @@ impl OpenSteps {
         }
     }
 
+    /// Removes all steps and all words of the open one. Keeps the room, so that a row of steps that are read one by one takes memory once.
+    pub fn clear(&mut self)
+        ensures { self.new ≡ record { steps = []; words = [] } }
+    {
+        self.words.clear();
+        self.ranges.clear();
+        self.first = 0;
+    }
+
     /// Adds a word to the open step, in lower case. Where memory runs out nothing changes.
     pub fn push_word(&mut self, word: &[u8]) -> Result<(), AllocError>
         ensures ok { OnOk result (self.new ≡ record { steps = self.old.steps; words = self.old.words ++ folded word.now ∷ [] }) }
@@ -191,6 +200,15 @@ impl OpenSteps {
         ensures limit { length self.now.steps ≤ MOST_STEPS }
     {
         self.ranges.len()
+    }
+
+    /// A look at the complete step at a place, counted from 0.
+    pub fn get(&self, place: usize) -> StepView<'_>
+        requires { place < length self.now.steps }
+        ensures { slice_get self.now.steps place ≡ Some (step_shown result) }
+    {
+        let StepRange { first, end } = self.ranges.get(place);
+        StepView::new(&self.words, first, end)
     }
 
     /// The plan of the complete steps. Takes no memory and copies nothing.

@@ -40,6 +40,14 @@ impl WordList {
         }
     }
 
+    /// Removes all words and keeps the room.
+    pub fn clear(&mut self)
+        ensures { self.new ≡ [] }
+    {
+        self.bytes.clear();
+        self.ends.clear();
+    }
+
     /// Adds a word at the end, in lower case (PDDL 2.1, Fox and Long 2003: case is not significant). Where memory runs out the list stays as it was.
     pub fn push_folded(&mut self, word: &[u8]) -> Result<(), AllocError>
         ensures ok { OnOk result (self.new ≡ self.old ++ folded word.now ∷ []) }

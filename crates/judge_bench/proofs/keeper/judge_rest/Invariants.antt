@@ -7,6 +7,7 @@ use Rattle.judge_bench.proofs.keeper.judge_rest.Given as goal
 abbrev pub invariant-loop-ticket : goal.invariant-loop-ticket
 invariant-loop-ticket l = record {
   sits : SitsAt l.bench l.owner;
+  task : l.bench.setting.task.value ≡ l.judge;
   view : (more : List ℕ) × (l.owner.view ≡ with_more_finished l.initial.owner.view more);
 }
 

@@ -12,7 +12,7 @@ accept_all-requires-clause-kept g c =
     let task = setting.task.value in
     let ready = c.requires.ready in
     let later = c.start_all.new.owner.view in
-    let is = c.in_ok-start_all.ensures.view ∙ ap (λ v. with_all_out v c.args.workers) ready.view in
+    let is = c.in_ok-start_all.ensures.view ∙ ap (λ v. with_all_out v c.args.threads) ready.view in
     subst (KeptFindings task setting.planners later) (sym (ready.findings_are ∙ ap nothing_kept (sym ready.planners_are)))
     (unmoved task setting.planners (first_view setting) (nothing_kept setting.planners) (nothing_emitted task setting) later
     (ap (λ (v : View). v.jobs) is) (ap (λ (v : View). v.emitted) is) (ap (λ (v : View). length v.closed) is))

@@ -1,6 +1,5 @@
 use Rattle.std.proofs.Common.{◌≡◌, ◌<◌, ◌∷◌, ◌++◌, [], None, ap, sym, ◌∙◌, subst, length, arith, set}
 use Rattle.std.proofs.Math.Seq.{map-set_same}
-use Rattle.std.specs.Arc.{arc_value}
 use Rattle.intake_rules.specs.Jobs.{AcceptedPlan}
 use Rattle.intake_rules.specs.Intake.{with_job}
 use Rattle.intake_rules.specs.Rules.{submit_refusal}
@@ -23,7 +22,7 @@ invariant_of-self c =
     accepted _ _ _ (subst (λ desk. submit_refusal desk.places desk.intake c.args.planner ≡ None) (sym c.self.view_is) c.requires) in
     let within : c.args.planner < length c.self.inside.planners.items = omega (arith, free.known, length-closed c.self.inside.planners.items) in
     let number : c.len-number.result ≡ length (jobs_in c.self.inside.table.items) = c.len-number.ensures ∙ c.self.inside.table.ok.0 ∙ sym (length-jobs c.self.inside.table.items) in
-    let job : AcceptedPlan = record { number = c.len-number.result; planner = c.args.planner; plan = arc_value c.args.plan } in (
+    let job : AcceptedPlan = record { number = c.len-number.result; planner = c.args.planner; plan = c.args.plan } in (
       kept-as _ _ _ _ _ _ _ _ _ _ _ _
           (jobs-pushed _ _ _ c.add.ensures.rows _ c.link.ensures.jobs) (stages-pushed _ _ _ c.add.ensures.rows _ c.link.ensures.stages) (links-pushed _ _ _ c.add.ensures.rows _ c.link.ensures.links)
           (ap (set c.self.inside.planners.items c.args.planner) c.joined.ensures) c.insert.ensures
@@ -34,10 +33,10 @@ invariant_of-self c =
 pub returns-clause-state : goal.returns-clause-state
 returns-clause-state c =
     let number : c.len-number.result ≡ length (jobs_in c.self.inside.table.items) = c.len-number.ensures ∙ c.self.inside.table.ok.0 ∙ sym (length-jobs c.self.inside.table.items) in
-    state-changes c.self.inside.task.value c.self.inside.limit (intake_in c.self.inside.table.items c.self.inside.planners.items) _ c.args.self.now (λ intake. with_job intake c.args.planner (arc_value c.args.plan))
+    state-changes c.self.inside.task.value c.self.inside.limit (intake_in c.self.inside.table.items c.self.inside.planners.items) _ c.args.self.now (λ intake. with_job intake c.args.planner c.args.plan)
     (same-intake _ _
     (jobs-pushed _ _ _ c.add.ensures.rows _ c.link.ensures.jobs
-    ∙ ap (λ n. jobs_in c.self.inside.table.items ++ record { number = n; planner = c.args.planner; plan = arc_value c.args.plan } ∷ []) number)
+    ∙ ap (λ n. jobs_in c.self.inside.table.items ++ record { number = n; planner = c.args.planner; plan = c.args.plan } ∷ []) number)
     (stages-pushed _ _ _ c.add.ensures.rows _ c.link.ensures.stages)
     (map-set_same (λ row. row.closed) c.self.inside.planners.items c.args.planner _ c.index-row.result.now (ap (λ row. row.closed) c.joined.ensures ∙ ap (λ row. row.closed) c.index-row.ensures))
     (map-set_same (λ row. row.emitted) c.self.inside.planners.items c.args.planner _ c.index-row.result.now (ap (λ row. row.emitted) c.joined.ensures ∙ ap (λ row. row.emitted) c.index-row.ensures)))

@@ -10,15 +10,15 @@ use Rattle.judge_bench.proofs.keeper.Keeper.finish.Goals as goal
 pub loop-planner-init : goal.loop-planner-init
 loop-planner-init c =
     let view = c.args.self.owner.view in
-    let later = c.judge_rest.new.owner.view in
-    let is = c.judge_rest.ensures.view.1 in
+    let later = c.judge_left.new.owner.view in
+    let is = c.in_ok-judge_left.ensures.view.1 in
     let jobs = ap (λ (v : View). v.jobs) is in
     let kept = unmoved c.args.task.now c.args.planners view c.args.self.findings c.requires.kept later jobs (ap (λ (v : View). v.emitted) is) (ap (λ (v : View). length v.closed) is) in record {
-      sits = c.judge_rest.ensures.seat;
+      sits = c.judge_left.ensures.seat;
       kept = subst (λ task. KeptFindings task c.args.bench.now.setting.planners later c.args.self.findings) (sym c.requires.setting.0)
           (subst (λ planners. KeptFindings c.args.task.now planners later c.args.self.findings) (sym c.requires.setting.1) kept);
       jobs = jobs;
-      known = all_known later c.in_ok-judge_rest.ensures.none_waits (ap (λ (v : View). v.held) is ∙ c.requires.alone.1) (subst Numbered (sym jobs) c.requires.jobs);
+      known = all_known later c.in_ok-judge_left.ensures.none_waits (ap (λ (v : View). v.held) is ∙ c.requires.alone.1) (subst Numbered (sym jobs) c.requires.jobs);
       emitted = λ other h. absurd (omega arith);
     }
 

@@ -1,8 +1,16 @@
-use Rattle.strips_judge.proofs.NumberedLaws.{kept-initial}
+use Rattle.std.proofs.Common.{◌∙◌, arith, ap, ltb}
+use Rattle.strips_task.specs.Atom.{atom_eq}
+use Rattle.strips_task.specs.FirstPlaces.{first_places}
+use Rattle.strips_judge.proofs.Growth.{row_for_none}
+use Rattle.strips_judge.proofs.NumberedLaws.{initial_state}
 use Rattle.strips_judge.proofs.state.NumberedState.new.Goals as goal
-use Rattle.std.proofs.Common.{subst, sym, ◌<◌}
 
-pub returns : goal.returns
-returns c =
-    kept-initial c.args.initial.now c.with_hasher.result.keys c.in_ok-with_first.field-0 c.new.result c.with_hasher.ensures.empty
-    (λ k lt. c.in_ok-with_first.ensures k (subst (λ n. k < n) (sym c.distinct_len.ensures) lt))
+pub invariant_of-result : goal.invariant_of-result
+invariant_of-result c =
+    row_for_none (first_places atom_eq c.args.initial.now) c.with_hasher.result.keys c.distinct_len.result c.in_ok-with_first.field-0
+    c.with_hasher.ensures.empty c.distinct_len.ensures (omega arith) c.in_ok-with_first.ensures.first c.in_ok-with_first.ensures.room
+
+pub returns-clause-state : goal.returns-clause-state
+returns-clause-state c =
+    initial_state c.args.initial.now c.with_hasher.result.keys c.in_ok-with_first.field-0
+    (λ k. c.in_ok-with_first.ensures.first k ∙ ap (ltb k) c.distinct_len.ensures)

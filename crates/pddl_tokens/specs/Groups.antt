@@ -1,0 +1,28 @@
+-- Lists of words in parentheses, with a space between each two and nothing else.
+
+use Rattle.std.specs.Prelude.{ℕ, ◌+◌, Bool, false, ◌&&◌, List, [], ◌∷◌, ◌++◌, length, All, IsTrue}
+use Rattle.std.specs.List.{list_all}
+use Rattle.pddl_words.specs.SpacedWords.{words_of}
+use Rattle.pddl_tokens.specs.declared.spans.TokenKind.TheVariants.{Left, Right, Word}
+use Rattle.pddl_tokens.specs.Bytes.{is_word_byte}
+use Rattle.pddl_tokens.specs.Tokens.{Piece, token, span}
+
+-- a word: one byte of words or more
+abbrev pub is_word : List ℕ → Bool
+is_word [] = false
+is_word (b ∷ bytes) = is_word_byte b && list_all is_word_byte bytes
+
+-- a row of bytes is plain where its spaces part words, and nothing else stands there
+abbrev pub IsPlain : List ℕ → Type 0
+IsPlain row = All (λ word. IsTrue (is_word word)) (words_of row)
+
+-- the pieces of words that stand one behind the other from a place on, with one byte between each two
+unfoldable pub word_pieces : ℕ → List (List ℕ) → List Piece
+word_pieces at [] = []
+word_pieces at (word ∷ words) = token Word (span at (at + length word)) word ∷ word_pieces (at + length word + 1) words
+
+-- the pieces of a plain row in parentheses: `(` (40) stands at this place, and `)` (41) behind the row
+abbrev pub group_pieces : ℕ → List ℕ → List Piece
+group_pieces at row =
+    token Left (span at (at + 1)) (40 ∷ [])
+    ∷ (word_pieces (at + 1) (words_of row) ++ token Right (span (at + 1 + length row) (at + 1 + length row + 1)) (41 ∷ []) ∷ [])

@@ -1,0 +1,390 @@
+//! A walk over the steps of a plan text, none of which is kept.
+
+ghost use Rattle.std.specs.Prelude.{◌≡◌, ◌<◌, ◌≤◌, ◌^◌, [], ◌∷◌, ◌++◌, length, map, ℕ, List, MatchOption, IfSome, IfOk};
+ghost use Rattle.std.specs.List.{list_all};
+ghost use Rattle.pddl_words.specs.SpacedWords.{words_of};
+ghost use Rattle.pddl_words.specs.Words.{is_name, folded};
+ghost use Rattle.pddl_tokens.specs.declared.spans.Span.{Span};
+ghost use Rattle.pddl_tokens.specs.declared.spans.TokenKind.TheVariants.{Left};
+ghost use Rattle.pddl_tokens.specs.Tokens.{Piece, token};
+ghost use Rattle.pddl_tokens.specs.Places.{AreWithin};
+ghost use Rattle.strips_task.specs.declared.plans.Plan.TheVariants.{Unreadable};
+ghost use Rattle.strips_task.specs.Spelled.{IsSpelled, step_spelled};
+ghost use Rattle.strips_task.specs.Steps.{step_of};
+ghost use Rattle.plan_text.specs.PlanReading.{plan_of};
+ghost use Rattle.plan_text.specs.Walks.{HasPassed, GoesBehind, words_before, IsBetween};
+ghost use Rattle.plan_text.specs.WalkFinds.{ComesNext, IsFound, IsOpened, IsOpening, IsInside, IsEnding, ended};
+
+use crate::between::read_between;
+use crate::want::{Expected, Want};
+use pddl_tokens::{Cursor, Group, TextFault, TokenKind, WordKind, line_of, word_kind};
+use std::alloc::AllocError;
+use std::marker::Model;
+use strips_task::{MOST_STEPS, OpenSteps};
+
+/// A walk over the steps of a plan text. It keeps none of them, and takes no memory.
+#[derive(Debug, Drop)]
+pub struct PlanSteps<'a> {
+    text: &'a [u8],
+    cursor: Cursor<'a>,
+    expected: Expected,
+    count: usize,
+}
+
+impl<'a> Model for PlanSteps<'a> {
+    ghost use Rattle.std.specs.Prelude.{◌<◌, ◌≤◌, ◌^◌, length};
+    ghost use Rattle.pddl_tokens.specs.Places.{AreWithin};
+    ghost use Rattle.plan_text.specs.Walks.{Walk, IsBetween};
+
+    ghost Value = { Walk };
+
+    ghost view = { λ w. record {
+      text = w.text.now;
+      rest = w.cursor;
+      want = w.expected.want;
+      least = w.expected.least_stamp;
+      count = w.count;
+    } };
+
+    ghost invariant = { λ w.
+        (length w.text.now < 2 ^ 31) × AreWithin (length w.text.now) w.cursor × IsBetween w.expected.want × (w.count ≤ 1000000) };
+}
+
+/// What a walk finds next.
+#[derive(Debug, Drop)]
+pub enum TextStep<'a> {
+    /// A step, which was passed.
+    Step {
+        /// Its words.
+        words: StepWords<'a>,
+        /// The bytes between its parentheses, where they are the names of the step with a space between each two. Whoever keeps what the step
+        /// means may pass it by `PlanSteps::next_group` and `PlanSteps::skip` from now on.
+        key: Option<&'a [u8]>,
+    },
+    /// The end of the text, which is a plan text.
+    End,
+    /// A fault, so that the text is no plan text.
+    Unreadable {
+        /// The line of the first fault, counted from 1.
+        line: u32,
+    },
+}
+
+/// The words of a step as they stand in its text. Contracts see those that are still to come.
+#[derive(Debug, Drop)]
+pub struct StepWords<'a> {
+    cursor: Cursor<'a>,
+}
+
+impl<'a> Model for StepWords<'a> {
+    ghost use Rattle.std.specs.Prelude.{ℕ, List};
+    ghost use Rattle.plan_text.specs.Walks.{words_before};
+
+    ghost Value = { List (List ℕ) };
+
+    ghost view = { λ w. words_before w.cursor };
+}
+
+impl<'a> StepWords<'a> {
+    ghost use Rattle.std.specs.Option.{option_copied};
+    ghost use Rattle.plan_text.specs.WalkFinds.{TakesWord};
+
+    /// The next word, as it stands in the text, in upper or lower case.
+    pub fn next(&mut self) -> Option<&'a [u8]>
+        ensures { TakesWord (option_copied result) self.old self.new }
+    {
+        let mut cursor = self.cursor.fork();
+        match cursor.next() {
+            Ok(Some(token)) => match token.kind {
+                TokenKind::Word => {
+                    self.cursor = cursor;
+                    Some(token.text)
+                }
+                _ => None,
+            },
+            _ => None,
+        }
+    }
+
+    /// The same words once more.
+    pub fn fork(&self) -> Self
+        ensures { result ≡ self.now }
+    {
+        StepWords {
+            cursor: self.cursor.fork(),
+        }
+    }
+
+    /// Reads the words into a step that is fresh, in lower case, and closes it. The only error is that memory runs out.
+    pub fn push_to(&self, step: &mut OpenSteps) -> Result<(), AllocError>
+        requires fresh { step.old ≡ record { steps = []; words = [] } }
+        requires some { 0 < length self.now }
+        ensures { IfOk result (λ _. step.new ≡ record { steps = step_of (map folded self.now) ∷ []; words = [] }) }
+    {
+        push_words(self.fork(), step)?;
+        step.close_step()?;
+        Ok(())
+    }
+}
+
+/// Reads words into an open step, in lower case.
+fn push_words(mut words: StepWords<'_>, step: &mut OpenSteps) -> Result<(), AllocError>
+    ensures { IfOk result (λ _. step.new ≡ record { steps = step.old.steps; words = step.old.words ++ map folded words.entry }) }
+{
+    'words: while let Some(word) = words.next() {
+        step.push_word(word)?;
+    }
+    Ok(())
+}
+
+impl<'a> PlanSteps<'a> {
+    /// A walk at the start of a text. A text of 2^31 bytes or more, which is unreadable in line 1, has none.
+    pub fn new(text: &'a [u8]) -> Option<Self>
+        ensures { MatchOption result
+            ((2 ^ 31 ≤ length text.now) × (plan_of text.now ≡ Unreadable 1))
+            (λ walk. (walk.text ≡ text.now) × HasPassed walk []) }
+    {
+        match Cursor::new(text) {
+            Ok(cursor) => Some(PlanSteps {
+                text,
+                cursor,
+                expected: Expected {
+                    want: Want::Step,
+                    least_stamp: 0,
+                },
+                count: 0,
+            }),
+            Err(_) => None,
+        }
+    }
+
+    /// The text.
+    pub fn text(&self) -> &'a [u8]
+        ensures { result.now ≡ self.now.text }
+    {
+        self.text
+    }
+
+    /// How many steps were passed.
+    pub fn count(&self) -> usize
+        ensures { result ≡ self.now.count }
+    {
+        self.count
+    }
+
+    /// What stands between the parentheses that come next, where a step may come.
+    ///
+    /// Nobody has looked at those bytes. They are the next step only where they are known to spell one.
+    pub fn next_group(&self) -> Option<Group<'a>>
+        ensures { IfSome result (λ group. ComesNext self.now group) }
+    {
+        if self.count < MOST_STEPS {
+            self.cursor.group()
+        } else {
+            None
+        }
+    }
+
+    /// Passes the step that comes next, of which it is known that the key of its group spells it.
+    pub fn skip(&mut self, group: Group<'a>)
+        requires next { ComesNext self.old group }
+        requires spelled { IsSpelled group.key.now }
+        ensures { GoesBehind self.old self.new (step_spelled group.entry.key.now) }
+    {
+        self.cursor = group.rest;
+        self.expected = self.expected.then(Want::Number);
+        self.count += 1;
+    }
+
+    /// Reads on up to the end of the next step, with its stamp. At the end of the text and at a fault the walk stays where it is, so the same
+    /// comes at each further call.
+    pub fn next_step(&mut self) -> TextStep<'a>
+        ensures { IsFound result self.old self.new }
+    {
+        if let Some(group) = self.next_group() {
+            if are_names(group.key) {
+                return self.take_group(group);
+            }
+        }
+        self.read_step()
+    }
+
+    /// Passes the step that a group spells.
+    fn take_group(&mut self, group: Group<'a>) -> TextStep<'a>
+        requires next { ComesNext self.old group }
+        requires spelled { IsSpelled group.key.now }
+        ensures { IsFound result self.old self.new }
+    {
+        let words = words_inside(&self.cursor);
+        let key = group.key;
+        self.skip(group);
+        TextStep::Step {
+            words,
+            key: Some(key),
+        }
+    }
+
+    /// Reads on up to the end of the next step, token by token.
+    fn read_step(&mut self) -> TextStep<'a>
+        ensures { IsFound result self.old self.new }
+    {
+        let mut cursor = self.cursor.fork();
+        match open_step(self.text, &mut cursor, self.expected, self.count) {
+            Opening::End => TextStep::End,
+            Opening::Fault { place } => TextStep::Unreadable {
+                line: line_of(self.text, place),
+            },
+            Opening::Open { least_stamp } => self.close_step(cursor, least_stamp),
+        }
+    }
+
+    /// Reads on up to the end of the step whose `(` stands before this cursor.
+    fn close_step(&mut self, mut cursor: Cursor<'a>, least_stamp: u64) -> TextStep<'a>
+        requires { IsOpened self.old.text (record { want = self.old.want; least_stamp = self.old.least }) self.old.count least_stamp
+            self.old.rest cursor }
+        ensures { IsFound result self.old self.new }
+    {
+        let words = StepWords {
+            cursor: cursor.fork(),
+        };
+        match pass_words(self.text, &mut cursor) {
+            Ok(()) => {
+                self.cursor = cursor;
+                self.expected = Expected {
+                    want: Want::Number,
+                    least_stamp,
+                };
+                self.count += 1;
+                TextStep::Step { words, key: None }
+            }
+            Err(place) => TextStep::Unreadable {
+                line: line_of(self.text, place),
+            },
+        }
+    }
+}
+
+/// The words behind a `(` that comes next.
+fn words_inside<'a>(cursor: &Cursor<'a>) -> StepWords<'a>
+    ensures { (span : Span) (bytes : List ℕ) (rest : List Piece) → cursor.now ≡ token Left span bytes ∷ rest → result ≡ words_before rest }
+{
+    let mut inside = cursor.fork();
+    let _ = inside.next();
+    StepWords { cursor: inside }
+}
+
+/// Whether all words of a row are names.
+fn are_names(row: &[u8]) -> bool
+    ensures { result ≡ list_all is_name (words_of row.now) }
+{
+    row.split(|b| *b == b' ').all(|word| is_name(word))
+}
+
+/// Whether a word is a name.
+fn is_name(word: &[u8]) -> bool
+    ensures { result ≡ is_name word.now }
+{
+    matches!(word_kind(word), WordKind::Name)
+}
+
+/// What comes behind a step, or at the start of a text.
+#[derive(Clone, Copy)]
+enum Opening {
+    /// The end of the text.
+    End,
+    /// A fault at this place.
+    Fault { place: u32 },
+    /// The `(` of a step, behind which a stamp has at least this value.
+    Open { least_stamp: u64 },
+}
+
+/// Reads on behind so many steps, up to the `(` of the next one.
+fn open_step(text: &[u8], cursor: &mut Cursor<'_>, mut expected: Expected, steps: usize) -> Opening
+    requires short { length text.now < 2 ^ 31 }
+    requires within { AreWithin (length text.now) cursor.old }
+    requires between { IsBetween expected.want }
+    ensures { IsOpening result text.now expected steps cursor.old cursor.new }
+{
+    'tokens: loop {
+        match cursor.next() {
+            Ok(None) => return ended(expected.want, text),
+            Ok(Some(token)) => match read_between(steps, expected, token.kind, token.text) {
+                Some(next) => {
+                    if next.want.takes_name() {
+                        return Opening::Open {
+                            least_stamp: next.least_stamp,
+                        };
+                    }
+                    expected = next;
+                }
+                None => return Opening::Fault {
+                    place: token.span.start,
+                },
+            },
+            Err(TextFault::BadByte { at }) => return Opening::Fault { place: at },
+            Err(TextFault::TooLong) => unreachable!(),
+        }
+    }
+}
+
+/// What the end of a text is, where no step is open.
+fn ended(want: Want, text: &[u8]) -> Opening
+    requires { length text.now < 2 ^ 31 }
+    ensures { result ≡ ended want (length text.now) }
+{
+    match want {
+        Want::Opening => Opening::Fault {
+            place: text.len() as u32,
+        },
+        _ => Opening::End,
+    }
+}
+
+/// Passes the words of an open step and the `)` behind them, or says where the fault is.
+fn pass_words(text: &[u8], cursor: &mut Cursor<'_>) -> Result<(), u32>
+    requires short { length text.now < 2 ^ 31 }
+    requires within { AreWithin (length text.now) cursor.old }
+    ensures { IsEnding result text.now cursor.old cursor.new }
+{
+    let mut some = false;
+    'words: loop {
+        match cursor.next() {
+            Ok(None) => return Err(text.len() as u32),
+            Ok(Some(token)) => match taken_inside(some, token.kind, token.text) {
+                Inside::Name => some = true,
+                Inside::Close => return Ok(()),
+                Inside::Fault => return Err(token.span.start),
+            },
+            Err(TextFault::BadByte { at }) => return Err(at),
+            Err(TextFault::TooLong) => unreachable!(),
+        }
+    }
+}
+
+/// What a token is to an open step.
+#[derive(Clone, Copy)]
+enum Inside {
+    /// One more of its names.
+    Name,
+    /// Its end.
+    Close,
+    /// It may not stand there.
+    Fault,
+}
+
+/// What a token is to an open step, which has some word or none.
+fn taken_inside(some: bool, kind: TokenKind, text: &[u8]) -> Inside
+    ensures { IsInside result some kind text.now }
+{
+    match kind {
+        TokenKind::Left => Inside::Fault,
+        TokenKind::Right => { if some { Inside::Close } else { Inside::Fault } }
+        TokenKind::Word => {
+            if is_name(text) {
+                Inside::Name
+            } else {
+                Inside::Fault
+            }
+        }
+    }
+}

@@ -1,0 +1,262 @@
+//! A judge of many plans of one task, which takes their steps one by one and keeps what it learns of them.
+ghost use Rattle.std.specs.Prelude.{◌≡◌, ◌+◌, ◌<◌, ◌∷◌, [], ◌++◌, List, length, IsTrue, false, IfOk, OnOk, IfSome, IfNone};
+ghost use Rattle.strips_task.specs.declared.plans.Plan.TheVariants.{Steps};
+ghost use Rattle.strips_task.specs.declared.steps.StepText.{StepText};
+ghost use Rattle.strips_task.specs.declared.steps.TheConstants.{MOST_STEPS};
+ghost use Rattle.strips_task.specs.Spelled.{IsSpelled, step_spelled};
+ghost use Rattle.strips_task.specs.StepView.{step_shown};
+ghost use Rattle.strips_judge.specs.Numbered.{state_of};
+ghost use Rattle.strips_judge.specs.State.{is_in};
+ghost use Rattle.strips_judge.specs.declared.verdict.Verdict.TheVariants.{Fails};
+ghost use Rattle.plan_cost.specs.declared.costs.Cost.TheVariants.{NotCounted};
+ghost use Rattle.plan_cost.specs.Assessments.{assessment};
+ghost use Rattle.plan_cost.specs.CompactCosts.{IsCompact};
+ghost use Rattle.step_memo.specs.Judging.{HasTaken};
+
+use crate::amounts::{added, amount_of, cost_beside, initial_of};
+use crate::memo::Memo;
+use crate::steps::take_found;
+use crate::usage::Usage;
+use plan_cost::{Assessment, CostScratch, CostedTask};
+use std::alloc::{AllocError, Global};
+use std::marker::Model;
+use strips_judge::{
+    CodeBuffer, NumberedState, Scratch, Why, code_of_step, judge_goal, take_by_code, take_step,
+};
+use strips_task::StepView;
+
+/// With how many atoms beside the initial ones steps are still learned, and kept over plans.
+pub const MOST_LATER: usize = 32_768;
+
+/// A judge of plans of one task. Contracts see the task and what is kept of the plan that is being judged.
+///
+/// [`begin`](Judge::begin) a plan, take its steps one by one, and [`finish`](Judge::finish) it. Where a step is not applicable, or memory
+/// runs out, the plan is over, and another can begin.
+#[derive(Drop)]
+pub struct Judge<'t> {
+    task: &'t CostedTask,
+    state: NumberedState<'t>,
+    memo: Memo,
+    code: CodeBuffer,
+    scratch: Scratch,
+    cost_scratch: CostScratch,
+    cost: Option<u128>,
+    count: usize,
+    usage: Usage,
+}
+
+impl<'t> Model for Judge<'t> {
+    ghost use Rattle.step_memo.specs.Judging.{Judging};
+    ghost use Rattle.step_memo.specs.Learned.{IsJudge};
+
+    ghost Value = { Judging };
+
+    ghost view = { λ j. record { task = j.task.now; state = j.state; cost = j.cost; count = j.count } };
+
+    ghost invariant = { λ j. IsJudge j.task.now j.state j.memo j.cost j.count };
+}
+
+impl<'t> Judge<'t> {
+    /// A judge of a task that has seen no step, at the begin of a plan. Takes memory for one bit for each initial atom.
+    pub fn new(alloc: Global, task: &'t CostedTask) -> Result<Judge<'t>, AllocError>
+        ensures task { IfOk result (λ judge. judge.task ≡ task.now) }
+        ensures begun { IfOk result (λ judge. HasTaken judge []) }
+    {
+        let initial = task.task.initial_atoms();
+        let state = NumberedState::new(alloc, initial)?;
+        Ok(Judge {
+            task,
+            state,
+            memo: Memo::new(alloc, initial.seed()),
+            code: CodeBuffer::new(alloc),
+            scratch: Scratch::new(alloc),
+            cost_scratch: CostScratch::new(alloc),
+            cost: Some(u128::from(initial_of(alloc, task))),
+            count: 0,
+            usage: Usage::new(),
+        })
+    }
+
+    /// Begins a plan: the initial atoms are true and no others. Takes a pass over the words of the state's bits.
+    ///
+    /// Forgets all codes and numbers, and takes memory for another state, where more than [`MOST_LATER`] atoms beside the initial ones have
+    /// numbers.
+    pub fn begin(&mut self, alloc: Global) -> Result<(), AllocError>
+        ensures task { self.new.task ≡ self.old.task }
+        ensures begun { OnOk result (HasTaken self.new []) }
+    {
+        self.start_over(alloc)?;
+        self.usage.begin();
+        self.cost = Some(u128::from(initial_of(alloc, self.task)));
+        self.count = 0;
+        Ok(())
+    }
+
+    /// Makes the initial atoms true and no others.
+    fn start_over(&mut self, alloc: Global) -> Result<(), AllocError>
+        ensures task { self.new.task ≡ self.old.task }
+        ensures state { OnOk result (state_of self.new.state ≡ is_in self.new.task.task.init) }
+    {
+        if self.state.later_len() > MOST_LATER {
+            return self.forget(alloc);
+        }
+        self.state.reset();
+        Ok(())
+    }
+
+    /// Forgets all codes and numbers, and makes the initial atoms true.
+    fn forget(&mut self, alloc: Global) -> Result<(), AllocError>
+        ensures task { self.new.task ≡ self.old.task }
+        ensures state { OnOk result (state_of self.new.state ≡ is_in self.new.task.task.init) }
+    {
+        let state = NumberedState::new(alloc, self.task.task.initial_atoms())?;
+        self.memo.clear();
+        self.state = state;
+        Ok(())
+    }
+
+    /// How many steps of the plan were taken.
+    pub fn steps(&self) -> usize
+        ensures steps { (steps : List StepText) → HasTaken self.now steps → result ≡ length steps }
+        ensures count { result ≡ self.now.count }
+    {
+        self.count
+    }
+
+    /// Whether keys are looked at at all. Where steps hardly repeat they are not for a while, and callers need not find them.
+    pub fn asks(&self) -> bool {
+        self.usage.asks()
+    }
+
+    /// Takes the step that a key spells, if it is known and applicable, and else changes nothing. Whether it did.
+    ///
+    /// Takes one hash of the key and no memory. Any bytes may be asked for: no other than a step that [`take`](Judge::take) learned under the
+    /// same bytes is known.
+    pub fn take_known(&mut self, key: &[u8]) -> bool
+        requires { self.old.count < MOST_STEPS }
+        ensures task { self.new.task ≡ self.old.task }
+        ensures spelled { IsTrue result → IsSpelled key.now }
+        ensures taken { IsTrue result → (steps : List StepText) → HasTaken self.old steps → HasTaken self.new (steps ++ step_spelled key.now ∷ []) }
+        ensures not { result ≡ false → (steps : List StepText) → HasTaken self.old steps → HasTaken self.new steps }
+        ensures count { result ≡ false → self.new.count ≡ self.old.count }
+    {
+        if !self.usage.asks() {
+            return false;
+        }
+        let found = take_found(self.task, &self.memo, &mut self.state, key);
+        self.usage.note(found.is_some());
+        let Some(amount) = found else {
+            return false;
+        };
+        self.cost = added(self.cost, Some(u128::from(amount)));
+        self.count += 1;
+        true
+    }
+
+    /// Takes a step where it is applicable, or else answers why it is not.
+    ///
+    /// The key is the text that spells the step, if the caller has it: a step that has a code is learned under it while there is room. Takes
+    /// one hash for each word and each atom of the step, and memory for what is new. Where memory runs out the plan is over.
+    pub fn take(
+        &mut self,
+        alloc: Global,
+        step: StepView<'_>,
+        key: Option<&[u8]>,
+    ) -> Result<Option<Why>, AllocError>
+        requires room { self.old.count < MOST_STEPS }
+        requires key { IfSome key (λ key. IsSpelled key.now × (step_spelled key.now ≡ step_shown step)) }
+        ensures task { self.new.task ≡ self.old.task }
+        ensures taken { IfOk result (λ why. IfNone why ((steps : List StepText) → HasTaken self.old steps
+            → HasTaken self.new (steps ++ step_shown step.entry ∷ []))) }
+        ensures fails { IfOk result (λ why. IfSome why (λ why. (steps rest : List StepText) → HasTaken self.old steps
+            → assessment self.old.task (Steps (steps ++ step_shown step.entry ∷ rest)) ≡ record { verdict = Fails (length steps + 1) why; cost = NotCounted })) }
+    {
+        if let Some(key) = key {
+            if self.take_learned(alloc, step, key)? {
+                return Ok(None);
+            }
+        }
+        self.take_unlearned(alloc, step)
+    }
+
+    /// Learns a step that is not known under its key, if it has a code, and takes it by that if it is applicable. Whether it was taken. Where
+    /// there is no room the code is used once.
+    fn take_learned(
+        &mut self,
+        alloc: Global,
+        step: StepView<'_>,
+        key: &[u8],
+    ) -> Result<bool, AllocError>
+        requires room { self.old.count < MOST_STEPS }
+        requires key { IsSpelled key.now × (step_spelled key.now ≡ step_shown step) }
+        ensures task { self.new.task ≡ self.old.task }
+        ensures taken { IfOk result (λ taken. IsTrue taken → (steps : List StepText) → HasTaken self.old steps
+            → HasTaken self.new (steps ++ step_shown step.entry ∷ [])) }
+        ensures not { IfOk result (λ taken. taken ≡ false → (steps : List StepText) → HasTaken self.old steps → HasTaken self.new steps) }
+        ensures count { IfOk result (λ taken. taken ≡ false → self.new.count ≡ self.old.count) }
+    {
+        if !self.usage.asks() || self.state.later_len() > MOST_LATER {
+            return Ok(false);
+        }
+        if self.memo.find(key).is_some() {
+            return Ok(false);
+        }
+        let Some(amount) = amount_of(self.task, step, &mut self.cost_scratch)? else {
+            return Ok(false);
+        };
+        let Ok(short) = u64::try_from(amount) else {
+            return Ok(false);
+        };
+        if !code_of_step(
+            alloc,
+            &self.task.task,
+            step,
+            &mut self.state,
+            &mut self.scratch,
+            &mut self.code,
+        )? {
+            return Ok(false);
+        }
+        self.memo.add(key, self.code.code(), short)?;
+        if !take_by_code(&mut self.state, self.code.code()) {
+            return Ok(false);
+        }
+        self.cost = added(self.cost, Some(amount));
+        self.count += 1;
+        Ok(true)
+    }
+
+    /// Takes a step by its names, where it is applicable, or else answers why it is not.
+    fn take_unlearned(
+        &mut self,
+        alloc: Global,
+        step: StepView<'_>,
+    ) -> Result<Option<Why>, AllocError>
+        requires { self.old.count < MOST_STEPS }
+        ensures task { self.new.task ≡ self.old.task }
+        ensures taken { IfOk result (λ why. IfNone why ((steps : List StepText) → HasTaken self.old steps
+            → HasTaken self.new (steps ++ step_shown step.entry ∷ []))) }
+        ensures fails { IfOk result (λ why. IfSome why (λ why. (steps rest : List StepText) → HasTaken self.old steps
+            → assessment self.old.task (Steps (steps ++ step_shown step.entry ∷ rest)) ≡ record { verdict = Fails (length steps + 1) why; cost = NotCounted })) }
+    {
+        let task = &self.task.task;
+        if let Some(why) = take_step(alloc, task, step, &mut self.state, &mut self.scratch)? {
+            return Ok(Some(why));
+        }
+        let amount = amount_of(self.task, step, &mut self.cost_scratch)?;
+        self.cost = added(self.cost, amount);
+        self.count += 1;
+        Ok(None)
+    }
+
+    /// What is found about the plan of the steps that were taken: whether the goal holds after them, and what they cost. Takes memory for
+    /// the conditions of the goal that do not hold.
+    pub fn finish(&self, alloc: Global) -> Result<Assessment, AllocError>
+        ensures answer { IfOk result (λ answer. (steps : List StepText) → HasTaken self.now steps → answer ≡ assessment self.now.task (Steps steps)) }
+        ensures compact { IfOk result (λ answer. IsCompact answer.cost) }
+    {
+        let verdict = judge_goal(alloc, &self.task.task, &self.state, self.count as u32)?;
+        let cost = cost_beside(&self.task.costs, &verdict, self.cost);
+        Ok(Assessment { verdict, cost })
+    }
+}

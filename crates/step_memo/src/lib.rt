@@ -1,0 +1,34 @@
+//! A judge with a memory of steps.
+//!
+//! Many plans of one task are judged one after the other, and most of their steps come again and again. A [`Judge`] keeps what it learns of a
+//! step under the very bytes that spell it, the key: the numbers of the atoms that it needs, deletes and adds, and what it adds to the cost.
+//! A step whose key is known is then taken bit by bit: no name is folded, and no word and no atom is looked up. What a verdict is does not
+//! depend on what is known.
+//!
+//! ```text
+//! let mut judge = Judge::new(alloc, &task)?;
+//! judge.begin(alloc)?;                                    // for each plan
+//! if !judge.take_known(b"move a b") {                     // for each step: by its bytes
+//!     let why = judge.take(alloc, step, Some(key))?;      // or by its words, and learned
+//! }
+//! let assessment = judge.finish(alloc)?;
+//! ```
+//!
+//! A step that is known costs one hash of its key, a look at the table, and a test or a write for each number of its code. A step that is
+//! not costs a hash for each of its words and atoms, as without a memory. A step with a fault, an equality that does not hold, or an
+//! undefined amount has no code and is never known.
+//!
+//! Memory is taken as steps are learned, up to [`MOST_CODES`] steps, [`MOST_NUMBERS`] numbers of their codes and [`MOST_KEY_BYTES`] bytes of
+//! keys: about 1 MiB a judge, beside the atoms that have numbers. What has no room is judged as without a memory. Codes are forgotten, with
+//! the numbers that they speak of, at the begin of a plan once more than [`MOST_LATER`] atoms beside the initial ones have numbers. Where
+//! hardly any step is found the memory rests for some plans.
+#![tactic(auto)]
+
+mod amounts;
+mod judge;
+mod memo;
+mod steps;
+mod usage;
+
+pub use judge::{Judge, MOST_LATER};
+pub use memo::{MOST_CODES, MOST_KEY_BYTES, MOST_NUMBERS};

@@ -1,0 +1,310 @@
+//! The table of known steps.
+//!
+//! A step is found by the bytes that spell it: one hash with the task's secret seed, since planners choose the bytes, then one place of the
+//! table after the other up to an empty one. The bytes of all keys stand in one buffer and the numbers of all codes in another, so that a
+//! step that is learned takes no memory of its own. All of it grows as steps come, up to bounds.
+ghost use Rattle.std.specs.Prelude.{◌≡◌, ◌+◌, ◌<◌, ◌≤◌, ◌^◌, ◌∷◌, ◌++◌, [], ℕ, List, false, length, slice_get, slice_range, Some, All, IsTrue, IfSome, IfOk, OnErr, vec_capacity, vec_len};
+ghost use Rattle.strips_judge.specs.Codes.{code_shown};
+ghost use Rattle.step_memo.specs.Known.{known_at, IsEntry, IsEntryFor};
+
+use std::alloc::{AllocError, Global};
+use std::hash::{BuildHasher, Hasher};
+use std::marker::Model;
+use strips_judge::StepCode;
+use strips_task::Seed;
+
+/// How many steps are kept at most. Each takes 48 bytes beside its key and its code, and up to 8 for its place.
+pub const MOST_CODES: usize = 8_192;
+
+/// How many numbers all codes have at most, of four bytes each.
+pub const MOST_NUMBERS: usize = 64_000;
+
+/// How many bytes all keys have at most.
+pub const MOST_KEY_BYTES: usize = 393_216;
+
+/// With how many places a table begins.
+const FIRST_PLACES: usize = 64;
+
+/// What stands at a place where no step is found. It is the number of no step.
+const EMPTY: u32 = u32::MAX;
+
+/// Where a known step stands: its key among the bytes, and its code among the numbers, one list of the code behind the other.
+#[derive(Clone, Copy, Debug)]
+pub(crate) struct Entry {
+    pub hash: u64,
+    pub amount: u64,
+    pub key_start: u32,
+    pub key_end: u32,
+    pub start: u32,
+    pub needed_end: u32,
+    pub forbidden_end: u32,
+    pub deleted_end: u32,
+    pub end: u32,
+}
+
+/// What is known of a step.
+#[derive(Clone, Copy, Debug)]
+pub(crate) struct KnownStep<'m> {
+    pub code: StepCode<'m>,
+    pub amount: u64,
+}
+
+/// Known steps in the order in which they were learned. Contracts see the list of them.
+#[derive(Drop)]
+pub(crate) struct Memo {
+    seed: Seed,
+    /// All keys.
+    bytes: Vec<u8>,
+    /// All codes.
+    numbers: Vec<u32>,
+    entries: Vec<Entry>,
+    /// The table: at the place of a hash, or at the next one that is free, the number of an entry. Their count is a power of two.
+    places: Vec<u32>,
+}
+
+impl Model for Memo {
+    ghost use Rattle.std.specs.Prelude.{List, All, map, length};
+    ghost use Rattle.step_memo.specs.Known.{Known, known_at, IsEntry};
+
+    ghost Value = { List Known };
+
+    ghost view = { λ m. map (known_at m.bytes.items m.numbers.items) m.entries.items };
+
+    ghost invariant = { λ m. All (IsEntry (length m.bytes.items) (length m.numbers.items)) m.entries.items };
+}
+
+impl Memo {
+    /// No step is known. Takes no memory.
+    pub(crate) fn new(alloc: Global, seed: Seed) -> Self
+        ensures { result ≡ [] }
+    {
+        Memo {
+            seed,
+            bytes: Vec::new(alloc),
+            numbers: Vec::new(alloc),
+            entries: Vec::new(alloc),
+            places: Vec::new(alloc),
+        }
+    }
+
+    /// Forgets all steps and keeps the room.
+    pub(crate) fn clear(&mut self)
+        ensures { self.new ≡ [] }
+    {
+        self.entries.clear();
+        self.places.clear();
+        self.bytes.clear();
+        self.numbers.clear();
+    }
+
+    /// The known step that a key spells, with one hash.
+    pub(crate) fn find(&self, key: &[u8]) -> Option<KnownStep<'_>>
+        ensures { IfSome result (λ known. (number : ℕ)
+            × (slice_get self.now number ≡ Some (record { key = key.now; code = code_shown known.code; amount = known.amount }))) }
+    {
+        let hash = hash_of(self.seed, key);
+        match find_entry(hash, key, &self.places, &self.entries, &self.bytes) {
+            Some(number) => Some(known_step(&self.entries[number], &self.numbers)),
+            None => None,
+        }
+    }
+
+    /// Adds a step, unless there is no room for it. Whether it did.
+    pub(crate) fn add(
+        &mut self,
+        key: &[u8],
+        code: StepCode<'_>,
+        amount: u64,
+    ) -> Result<bool, AllocError>
+        ensures added { IfOk result (λ added. IsTrue added
+            → self.new ≡ self.old ++ (record { key = key.now; code = code_shown code.entry; amount = amount }) ∷ []) }
+        ensures not { IfOk result (λ added. added ≡ false → self.new ≡ self.old) }
+        ensures err { OnErr result (self.new ≡ self.old) }
+    {
+        let hash = hash_of(self.seed, key);
+        let Some(entry) = entry_for(
+            hash,
+            amount,
+            key,
+            code,
+            self.bytes.len(),
+            self.numbers.len(),
+        ) else {
+            return Ok(false);
+        };
+        if self.entries.len() >= MOST_CODES {
+            return Ok(false);
+        }
+        self.bytes.reserve(key.len())?;
+        self.numbers.reserve((entry.end - entry.start) as usize)?;
+        self.entries.reserve(1)?;
+        make_places(&mut self.places, &self.entries)?;
+        put(&mut self.places, hash, self.entries.len() as u32);
+        append(&mut self.bytes, key);
+        append_code(&mut self.numbers, code);
+        self.entries.push_reserved(entry);
+        Ok(true)
+    }
+}
+
+/// The hash of a key, by a secret seed.
+fn hash_of(seed: Seed, key: &[u8]) -> u64 {
+    let mut hasher = seed.build_hasher();
+    hasher.write(key);
+    hasher.finish()
+}
+
+/// The number of the entry with a key.
+fn find_entry(
+    hash: u64,
+    key: &[u8],
+    places: &[u32],
+    entries: &[Entry],
+    bytes: &[u8],
+) -> Option<usize>
+    requires { All (λ entry. (entry.key_start ≤ entry.key_end) × (entry.key_end ≤ length bytes.now)) entries.now }
+    ensures within { IfSome result (λ number. number < length entries.now) }
+    ensures key { IfSome result (λ number. (entry : Entry) → slice_get entries.now number ≡ Some entry
+        → slice_range bytes.now entry.key_start entry.key_end ≡ key.now) }
+{
+    let mask = places.len().wrapping_sub(1);
+    let mut place = hash as usize;
+    for _ in 0..places.len() {
+        let number = *places.get(place & mask)? as usize;
+        if number >= entries.len() {
+            return None;
+        }
+        let entry = &entries[number];
+        if entry.hash == hash && key_of(entry, bytes) == key {
+            return Some(number);
+        }
+        place = place.wrapping_add(1);
+    }
+    None
+}
+
+/// The key of an entry.
+fn key_of<'m>(entry: &Entry, bytes: &'m [u8]) -> &'m [u8]
+    requires { (entry.now.key_start ≤ entry.now.key_end) × (entry.now.key_end ≤ length bytes.now) }
+    ensures { result.now ≡ slice_range bytes.now entry.now.key_start entry.now.key_end }
+{
+    &bytes[entry.key_start as usize..entry.key_end as usize]
+}
+
+/// What is known of the step of an entry.
+fn known_step<'m>(entry: &Entry, numbers: &'m [u32]) -> KnownStep<'m>
+    requires { IsEntry entry.now.key_end (length numbers.now) entry.now }
+    ensures code { (bytes : List ℕ) → code_shown result.code ≡ (known_at bytes numbers.now entry.now).code }
+    ensures amount { result.amount ≡ entry.now.amount }
+{
+    let needed_end = entry.needed_end as usize;
+    let forbidden_end = entry.forbidden_end as usize;
+    let deleted_end = entry.deleted_end as usize;
+    KnownStep {
+        code: StepCode {
+            needed: &numbers[entry.start as usize..needed_end],
+            forbidden: &numbers[needed_end..forbidden_end],
+            deleted: &numbers[forbidden_end..deleted_end],
+            added: &numbers[deleted_end..entry.end as usize],
+        },
+        amount: entry.amount,
+    }
+}
+
+/// The entry of a step that is to stand behind so many bytes and numbers, unless that is too far.
+fn entry_for(
+    hash: u64,
+    amount: u64,
+    key: &[u8],
+    code: StepCode<'_>,
+    bytes: usize,
+    numbers: usize,
+) -> Option<Entry>
+    ensures { IfSome result (λ entry. IsEntryFor entry bytes numbers key.now (code_shown code.entry) amount) }
+{
+    let key_start = end_of(0, bytes, MOST_KEY_BYTES)?;
+    let start = end_of(0, numbers, MOST_NUMBERS)?;
+    let needed_end = end_of(start, code.needed.len(), MOST_NUMBERS)?;
+    let forbidden_end = end_of(needed_end, code.forbidden.len(), MOST_NUMBERS)?;
+    let deleted_end = end_of(forbidden_end, code.deleted.len(), MOST_NUMBERS)?;
+    Some(Entry {
+        hash,
+        amount,
+        key_start,
+        key_end: end_of(key_start, key.len(), MOST_KEY_BYTES)?,
+        start,
+        needed_end,
+        forbidden_end,
+        deleted_end,
+        end: end_of(deleted_end, code.added.len(), MOST_NUMBERS)?,
+    })
+}
+
+/// Where so many items end that start at a place, unless that is too far.
+fn end_of(start: u32, len: usize, most: usize) -> Option<u32>
+    requires { most < 2 ^ 32 }
+    ensures { IfSome result (λ end. end ≡ start + len) }
+{
+    let start = start as usize;
+    if start <= most && len <= most - start {
+        Some((start + len) as u32)
+    } else {
+        None
+    }
+}
+
+/// Makes the table of places at least twice as long as one that is to hold one entry more.
+fn make_places(places: &mut Vec<u32>, entries: &[Entry]) -> Result<(), AllocError>
+    requires { length entries.now < MOST_CODES }
+{
+    if places.len() / 2 > entries.len() {
+        return Ok(());
+    }
+    let count = places.len().saturating_mul(2).max(FIRST_PLACES);
+    places.clear();
+    places.resize(count, EMPTY)?;
+    for number in 0..entries.len() {
+        put(places, entries[number].hash, number as u32);
+    }
+    Ok(())
+}
+
+/// Puts the number of an entry at the first empty place from that of its hash on.
+fn put(places: &mut [u32], hash: u64, number: u32) {
+    let mask = places.len().wrapping_sub(1);
+    let mut place = hash as usize;
+    for _ in 0..places.len() {
+        let here = place & mask;
+        if here < places.len() && places[here] == EMPTY {
+            places[here] = number;
+            return;
+        }
+        place = place.wrapping_add(1);
+    }
+}
+
+/// Adds the numbers of a code to a list that has room for them.
+fn append_code(numbers: &mut Vec<u32>, code: StepCode<'_>)
+    requires { vec_len numbers.old + length (code_shown code).needed + length (code_shown code).forbidden
+        + length (code_shown code).deleted + length (code_shown code).added ≤ vec_capacity numbers.old }
+    ensures { numbers.new.items ≡ numbers.old.items ++ (code_shown code.entry).needed ++ (code_shown code.entry).forbidden
+        ++ (code_shown code.entry).deleted ++ (code_shown code.entry).added }
+{
+    append(numbers, code.needed);
+    append(numbers, code.forbidden);
+    append(numbers, code.deleted);
+    append(numbers, code.added);
+}
+
+/// Adds items to a list that has room for them.
+fn append<T: Copy>(list: &mut Vec<T>, more: &[T])
+    requires { vec_len list.old + length more.now ≤ vec_capacity list.old }
+    ensures items { list.new.items ≡ list.old.items ++ more.now }
+    ensures len { vec_len list.new ≡ vec_len list.old + length more.now }
+    ensures capacity { vec_capacity list.old ≤ vec_capacity list.new }
+{
+    match list.extend_from_slice(more) {
+        Ok(()) => {}
+        Err(_) => unreachable!(),
+    }
+}

@@ -1,0 +1,52 @@
+//! Whether a judge's known steps are of use.
+
+/// After how many look-ups it is decided whether they are.
+const TRIAL: u32 = 1_024;
+
+/// Of so many look-ups one has to find a step.
+const WORTH: u32 = 8;
+
+/// For how many plans nobody asks where they are not.
+const REST: u32 = 16;
+
+/// How often a step was looked up and found.
+#[derive(Clone, Copy, Debug)]
+pub(crate) struct Usage {
+    asked: u32,
+    found: u32,
+    rested: u32,
+}
+
+impl Usage {
+    pub(crate) fn new() -> Usage {
+        Usage {
+            asked: 0,
+            found: 0,
+            rested: 0,
+        }
+    }
+
+    /// Whether steps are to be looked up: not where hardly any was found so far.
+    pub(crate) fn asks(&self) -> bool {
+        self.asked < TRIAL || self.found >= self.asked / WORTH
+    }
+
+    /// Notes that a step was looked up, and whether it was found.
+    pub(crate) fn note(&mut self, is_found: bool) {
+        self.asked = self.asked.saturating_add(1);
+        if is_found {
+            self.found = self.found.saturating_add(1);
+        }
+    }
+
+    /// Notes that a plan begins. After some plans for which nobody asked, another trial begins.
+    pub(crate) fn begin(&mut self) {
+        if self.asks() {
+            self.rested = 0;
+        } else if self.rested < REST {
+            self.rested += 1;
+        } else {
+            *self = Usage::new();
+        }
+    }
+}

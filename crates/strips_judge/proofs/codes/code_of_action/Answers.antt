@@ -1,0 +1,42 @@
+use Rattle.std.proofs.Common.{List, map, subst, sym}
+use Rattle.strips_task.specs.declared.actions.Cond.{Cond}
+use Rattle.strips_task.specs.declared.actions.Pattern.{Pattern}
+use Rattle.strips_judge.specs.Codes.{Code, AreNumbers, AsksFor}
+use Rattle.strips_judge.specs.Grounding.{ground, ground_condition}
+use Rattle.strips_judge.proofs.CodeLaws.{numbers_kept, asks_kept, asks_whatever}
+use Rattle.strips_judge.proofs.Growth.{grows_twice}
+use Rattle.strips_judge.proofs.codes.code_of_action.Goals as goal
+
+pub returns-in_err-number_all-clause-grows : goal.returns-in_err-number_all-clause-grows
+returns-in_err-number_all-clause-grows c = grows_twice c.args.state.now c.ask_all.new.state c.number_all.new.state c.ask_all.ensures.grows c.number_all.ensures.grows
+
+pub returns-then-not-branch-2-clause-grows : goal.returns-then-not-branch-2-clause-grows
+returns-then-not-branch-2-clause-grows c = grows_twice c.args.state.now c.ask_all.new.state c.number_all.new.state c.ask_all.ensures.grows c.number_all.ensures.grows
+
+pub returns-clause-asks : goal.returns-clause-asks
+returns-clause-asks c = λ t.
+    let last = c.number_all-2.new.state in
+    let grown = grows_twice c.ask_all.new.state c.number_all.new.state last c.number_all.ensures.grows c.number_all-2.ensures.grows in
+    let asks = asks_kept c.ask_all.new.state.atoms last.atoms grown.numbers (map (ground_condition c.args.objects.now) c.as_slice.result.now) c.ask_all.new.code
+    (c.in_ok-ask_all.ensures.asks c.if-not-branch.false) in
+    subst (λ (conds : List Cond). AsksFor last.atoms (map (ground_condition c.args.objects.now) conds)
+    (record { needed = c.code.inside.needed.items; forbidden = c.code.inside.forbidden.items; deleted = c.number_all.new.numbers.items; added = c.number_all-2.new.numbers.items })) c.as_slice.ensures
+    (subst (λ (code : Code). AsksFor last.atoms (map (ground_condition c.args.objects.now) c.as_slice.result.now)
+    (record code { deleted = c.number_all.new.numbers.items; added = c.number_all-2.new.numbers.items })) (sym c.code.view_is)
+    (asks_whatever last.atoms (map (ground_condition c.args.objects.now) c.as_slice.result.now) c.ask_all.new.code c.number_all.new.numbers.items c.number_all-2.new.numbers.items asks))
+
+pub returns-clause-deleted : goal.returns-clause-deleted
+returns-clause-deleted c = λ t.
+    subst (λ (l : List Pattern). AreNumbers c.number_all-2.new.state.atoms (map (ground c.args.objects.now) l) c.number_all.new.numbers.items) c.as_slice-deletes.ensures
+    (numbers_kept c.number_all.new.state.atoms c.number_all-2.new.state.atoms c.number_all-2.ensures.grows.numbers (map (ground c.args.objects.now) c.as_slice-deletes.result.now)
+    c.number_all.new.numbers.items (c.in_ok-number_all.ensures.numbers c.if-not-branch-2.false))
+
+pub returns-in_err-found-clause-grows : goal.returns-in_err-found-clause-grows
+returns-in_err-found-clause-grows c =
+    grows_twice c.args.state.now c.ask_all.new.state c.number_all-2.new.state c.ask_all.ensures.grows
+    (grows_twice c.ask_all.new.state c.number_all.new.state c.number_all-2.new.state c.number_all.ensures.grows c.number_all-2.ensures.grows)
+
+pub returns-clause-grows : goal.returns-clause-grows
+returns-clause-grows c =
+    grows_twice c.args.state.now c.ask_all.new.state c.number_all-2.new.state c.ask_all.ensures.grows
+    (grows_twice c.ask_all.new.state c.number_all.new.state c.number_all-2.new.state c.number_all.ensures.grows c.number_all-2.ensures.grows)

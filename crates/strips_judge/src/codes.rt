@@ -1,0 +1,308 @@
+//! Codes of steps: what a step asks of the state and does to it, by the numbers of its atoms.
+//!
+//! The same steps come again in many plans of a task. A step whose code is known needs no word and no atom looked up: its code is tested
+//! and taken bit by bit. A code holds only what depends on the state. A step with a fault, or with an equality that does not hold, is
+//! hindered in every state, and has no code.
+ghost use Rattle.std.specs.Prelude.{◌≡◌, ◌<◌, ◌∷◌, [], ◌++◌, List, Some, None, true, false, Bool, map, length, All, IsTrue, IfOk, IfSome, OnOk, OnErr};
+ghost use Rattle.strips_task.specs.declared.atoms.Atom.{Atom};
+ghost use Rattle.strips_task.specs.declared.atoms.GroundCond.{GroundCond};
+ghost use Rattle.strips_task.specs.declared.steps.StepText.{StepText};
+ghost use Rattle.strips_task.specs.declared.tasks.TaskParts.{TaskParts};
+ghost use Rattle.strips_task.specs.StepView.{step_shown};
+ghost use Rattle.strips_task.specs.Within.{IsPatternWithin, IsFormulaWithin};
+ghost use Rattle.strips_judge.specs.Codes.{AreNumbers, AsksFor, IsCode, asking_more, code_shown};
+ghost use Rattle.strips_judge.specs.Grounding.{ground, ground_condition};
+ghost use Rattle.strips_judge.specs.Numbers.{number_in};
+ghost use Rattle.strips_judge.specs.Numbered.{Grows, state_of};
+ghost use Rattle.strips_judge.specs.State.{with_all, without};
+ghost use Rattle.strips_judge.specs.Step.{hindrance, after};
+
+use crate::arguments::bind;
+use crate::grounding::{ground, object_of};
+use crate::judging::Scratch;
+use crate::state::NumberedState;
+use std::alloc::{AllocError, Global};
+use std::marker::Model;
+use strips_task::{Action, Atom, Cond, Formula, Pattern, StepView, Task};
+
+/// What a step asks of the state and does to it, by the numbers of its atoms in a [`NumberedState`].
+#[derive(Clone, Copy, Debug)]
+pub struct StepCode<'c> {
+    /// The atoms that have to be true.
+    pub needed: &'c [u32],
+    /// The atoms that have to be false.
+    pub forbidden: &'c [u32],
+    /// The atoms that are false afterwards, but for those that are also added.
+    pub deleted: &'c [u32],
+    /// The atoms that are true afterwards.
+    pub added: &'c [u32],
+}
+
+/// Room for one code, which is used again for each step. Contracts see the code.
+#[derive(Debug, Drop)]
+pub struct CodeBuffer {
+    needed: Vec<u32>,
+    forbidden: Vec<u32>,
+    deleted: Vec<u32>,
+    added: Vec<u32>,
+}
+
+impl Model for CodeBuffer {
+    ghost use Rattle.strips_judge.specs.Codes.{Code};
+
+    ghost Value = { Code };
+
+    ghost view = { λ c. record { needed = c.needed.items; forbidden = c.forbidden.items; deleted = c.deleted.items; added = c.added.items } };
+}
+
+impl CodeBuffer {
+    /// Room for a code. Takes no memory.
+    pub fn new(alloc: Global) -> Self {
+        CodeBuffer {
+            needed: Vec::new(alloc),
+            forbidden: Vec::new(alloc),
+            deleted: Vec::new(alloc),
+            added: Vec::new(alloc),
+        }
+    }
+
+    /// The code that was put here last.
+    pub fn code(&self) -> StepCode<'_>
+        ensures { code_shown result ≡ self.now }
+    {
+        StepCode {
+            needed: self.needed.as_slice(),
+            forbidden: self.forbidden.as_slice(),
+            deleted: self.deleted.as_slice(),
+            added: self.added.as_slice(),
+        }
+    }
+
+    /// Makes the code one that asks for nothing.
+    fn ask_nothing(&mut self)
+        ensures { (self.new.needed ≡ []) × (self.new.forbidden ≡ []) }
+    {
+        self.needed.clear();
+        self.forbidden.clear();
+    }
+
+    /// Makes the code ask that one atom more be true, or be false.
+    fn ask(&mut self, truth: bool, number: u32) -> Result<(), AllocError>
+        ensures { OnOk result (self.new ≡ asking_more self.old truth number) }
+    {
+        if truth {
+            self.needed.push(number)?;
+        } else {
+            self.forbidden.push(number)?;
+        }
+        Ok(())
+    }
+}
+
+/// Takes a step by its code where all that it asks for holds, and else changes nothing. Whether it did. Takes no memory.
+pub fn take_by_code(state: &mut NumberedState<'_>, code: StepCode<'_>) -> bool
+    requires { All (λ number. number < length state.old.atoms) (code_shown code).added }
+    ensures taken { IsTrue result → (parts : TaskParts) (step : StepText) → IsCode parts state.old.atoms step (code_shown code.entry)
+        → (hindrance parts (state_of state.old) step ≡ None) × (state_of state.new ≡ after parts (state_of state.old) step) }
+    ensures not { result ≡ false → state_of state.new ≡ state_of state.old }
+    ensures atoms { state.new.atoms ≡ state.old.atoms }
+    ensures initial { state.new.initial ≡ state.old.initial }
+{
+    if !all_are(state, code.needed, true) {
+        return false;
+    }
+    if !all_are(state, code.forbidden, false) {
+        return false;
+    }
+    clear_all(state, code.deleted);
+    set_all(state, code.added);
+    true
+}
+
+/// Whether all atoms with these numbers are true, or all are false.
+fn all_are(state: &NumberedState<'_>, numbers: &[u32], truth: bool) -> bool
+    ensures { IsTrue result → (ground : List Atom) → AreNumbers state.now.atoms ground numbers.now → All (λ atom. state_of state.now atom ≡ truth) ground }
+{
+    for number in numbers {
+        if state.has(*number as usize) != truth {
+            return false;
+        }
+    }
+    true
+}
+
+fn clear_all(state: &mut NumberedState<'_>, numbers: &[u32])
+    ensures state { (ground : List Atom) → AreNumbers state.old.atoms ground numbers.now → state_of state.new ≡ without (state_of state.old) ground }
+    ensures atoms { state.new.atoms ≡ state.old.atoms }
+    ensures initial { state.new.initial ≡ state.old.initial }
+{
+    for number in numbers {
+        state.clear(*number as usize);
+    }
+}
+
+fn set_all(state: &mut NumberedState<'_>, numbers: &[u32])
+    requires { All (λ number. number < length state.old.atoms) numbers.now }
+    ensures state { (ground : List Atom) → AreNumbers state.old.atoms ground numbers.now → state_of state.new ≡ with_all (state_of state.old) ground }
+    ensures atoms { state.new.atoms ≡ state.old.atoms }
+    ensures initial { state.new.initial ≡ state.old.initial }
+{
+    for number in numbers {
+        state.set(*number as usize);
+    }
+}
+
+/// Puts the code of a step into a buffer. Whether the step has one. Its atoms get numbers where they have none, and stay true or false.
+///
+/// Takes one hash for each of the step's words and for each of its atoms. Where there is no code, or memory runs out, the buffer holds
+/// part of one.
+pub fn code_of_step(
+    alloc: Global,
+    task: &Task,
+    step: StepView<'_>,
+    state: &mut NumberedState<'_>,
+    scratch: &mut Scratch,
+    code: &mut CodeBuffer,
+) -> Result<bool, AllocError>
+    ensures code { IfOk result (λ found. IsTrue found → IsCode task.now state.new.atoms (step_shown step.entry) code.new) }
+    ensures state { state_of state.new ≡ state_of state.old }
+    ensures grows { Grows state.old state.new }
+{
+    let Some(number) = task.action_named(step.action()) else {
+        return Ok(false);
+    };
+    let action = task.action(number);
+    if bind(task, action, step, &mut scratch.objects)?.is_some() {
+        return Ok(false);
+    }
+    code_of_action(
+        alloc,
+        action,
+        scratch.objects.as_slice(),
+        state,
+        &mut scratch.atom,
+        code,
+    )
+}
+
+/// Puts the code of an action with these objects into a buffer, if it has one.
+fn code_of_action(
+    alloc: Global,
+    action: &Action,
+    objects: &[u16],
+    state: &mut NumberedState<'_>,
+    atom: &mut Atom,
+    code: &mut CodeBuffer,
+) -> Result<bool, AllocError>
+    requires pre { All (λ cond. IsFormulaWithin (length objects.now) cond.formula) action.now.pre }
+    requires del { All (IsPatternWithin (length objects.now)) action.now.del }
+    requires add { All (IsPatternWithin (length objects.now)) action.now.add }
+    ensures asks { IfOk result (λ found. IsTrue found → AsksFor state.new.atoms (map (ground_condition objects.now) action.now.pre) code.new) }
+    ensures deleted { IfOk result (λ found. IsTrue found → AreNumbers state.new.atoms (map (ground objects.now) action.now.del) code.new.deleted) }
+    ensures added { IfOk result (λ found. IsTrue found → AreNumbers state.new.atoms (map (ground objects.now) action.now.add) code.new.added) }
+    ensures state { state_of state.new ≡ state_of state.old }
+    ensures grows { Grows state.old state.new }
+{
+    if !ask_all(alloc, action.pre.as_slice(), objects, state, atom, code)? {
+        return Ok(false);
+    }
+    let deletes = action.del.as_slice();
+    if !number_all(alloc, deletes, objects, state, atom, &mut code.deleted)? {
+        return Ok(false);
+    }
+    let adds = action.add.as_slice();
+    let found = number_all(alloc, adds, objects, state, atom, &mut code.added)?;
+    Ok(found)
+}
+
+/// Makes a code ask for the conditions of an action with these objects, if equalities among them hold.
+fn ask_all(
+    alloc: Global,
+    conds: &[Cond],
+    objects: &[u16],
+    state: &mut NumberedState<'_>,
+    atom: &mut Atom,
+    code: &mut CodeBuffer,
+) -> Result<bool, AllocError>
+    requires { All (λ cond. IsFormulaWithin (length objects.now) cond.formula) conds.now }
+    ensures asks { IfOk result (λ found. IsTrue found → AsksFor state.new.atoms (map (ground_condition objects.now) conds.now) code.new) }
+    ensures state { state_of state.new ≡ state_of state.old }
+    ensures grows { Grows state.old state.new }
+{
+    code.ask_nothing();
+    for cond in conds {
+        if !ask_one(alloc, cond, objects, state, atom, code)? {
+            return Ok(false);
+        }
+    }
+    Ok(true)
+}
+
+/// Makes a code ask for one condition more, unless that is an equality that does not hold.
+fn ask_one(
+    alloc: Global,
+    cond: &Cond,
+    objects: &[u16],
+    state: &mut NumberedState<'_>,
+    atom: &mut Atom,
+    code: &mut CodeBuffer,
+) -> Result<bool, AllocError>
+    requires { IsFormulaWithin (length objects.now) cond.now.formula }
+    ensures asks { IfOk result (λ found. IsTrue found → (before : List GroundCond) → AsksFor state.old.atoms before code.old
+        → AsksFor state.new.atoms (before ++ ground_condition objects.now cond.now ∷ []) code.new) }
+    ensures state { state_of state.new ≡ state_of state.old }
+    ensures grows { Grows state.old state.new }
+{
+    match &cond.formula {
+        Formula::Atom(pattern) => {
+            ground(pattern, objects, atom)?;
+            let Some(number) = short_number(alloc, state, atom)? else {
+                return Ok(false);
+            };
+            code.ask(cond.positive, number)?;
+            Ok(true)
+        }
+        Formula::Equal(left, right) => {
+            let are_equal = object_of(*left, objects) == object_of(*right, objects);
+            Ok(are_equal == cond.positive)
+        }
+    }
+}
+
+/// Gathers the numbers of the atoms that patterns stand for, if 32 bits hold each.
+fn number_all(
+    alloc: Global,
+    patterns: &[Pattern],
+    objects: &[u16],
+    state: &mut NumberedState<'_>,
+    atom: &mut Atom,
+    numbers: &mut Vec<u32>,
+) -> Result<bool, AllocError>
+    requires { All (IsPatternWithin (length objects.now)) patterns.now }
+    ensures numbers { IfOk result (λ found. IsTrue found → AreNumbers state.new.atoms (map (ground objects.now) patterns.now) numbers.new.items) }
+    ensures state { state_of state.new ≡ state_of state.old }
+    ensures grows { Grows state.old state.new }
+{
+    numbers.clear();
+    for pattern in patterns {
+        ground(pattern, objects, atom)?;
+        match short_number(alloc, state, atom)? {
+            Some(number) => numbers.push(number)?,
+            None => return Ok(false),
+        }
+    }
+    Ok(true)
+}
+
+/// The number of an atom, which gets one where it has none, if 32 bits hold it.
+fn short_number(
+    alloc: Global,
+    state: &mut NumberedState<'_>,
+    atom: &Atom,
+) -> Result<Option<u32>, AllocError>
+    ensures number { IfOk result (λ number. IfSome number (λ number. number_in state.new.atoms atom.now ≡ Some number)) }
+    ensures state { state_of state.new ≡ state_of state.old }
+    ensures grows { Grows state.old state.new }
+{
+    Ok(u32::try_from(state.number(alloc, atom)?).ok())
+}

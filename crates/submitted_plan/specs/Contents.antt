@@ -1,0 +1,19 @@
+-- What is kept of a plan, as the plan that it is.
+
+use Rattle.std.specs.Arc.{arc_value}
+use Rattle.plan_text.specs.PlanReading.{plan_of}
+use Rattle.strips_task.specs.declared.plans.Plan.{Plan}
+use Rattle.submitted_plan.specs.declared.plan.Form.{Form}
+use Rattle.submitted_plan.specs.declared.plan.Form.TheVariants as shown
+use Rattle.submitted_plan.specs.declared.plan.Kept.{Kept}
+use Rattle.submitted_plan.specs.declared.plan.Kept.TheVariants as kept
+
+-- the plan that is kept: itself, or the plan of its text
+abbrev pub content : Kept → Plan
+content (kept.Read plan) = arc_value plan
+content (kept.Text text) = plan_of text
+
+-- the same of what is shown of it
+abbrev pub content_shown : Form → Plan
+content_shown (shown.Read plan) = plan.now
+content_shown (shown.Text text) = plan_of text.now

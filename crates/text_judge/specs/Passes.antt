@@ -1,0 +1,43 @@
+-- A pass over a plan text: a walk over its steps, and a judge that takes each.
+
+use Rattle.std.specs.Prelude.{◌≡◌, ℕ, ◌+◌, List, [], ◌∷◌, ◌++◌, length}
+use Rattle.strips_task.specs.declared.plans.Plan.TheVariants.{Steps, Unreadable}
+use Rattle.strips_task.specs.declared.steps.StepText.{StepText}
+use Rattle.strips_judge.specs.declared.verdict.Verdict.TheVariants as answer
+use Rattle.strips_judge.specs.declared.verdict.Why.{Why}
+use Rattle.plan_cost.specs.declared.assessments.Assessment.{Assessment}
+use Rattle.plan_cost.specs.declared.costs.Cost.TheVariants.{NotCounted}
+use Rattle.plan_cost.specs.declared.costs.CostedTask.{CostedTask}
+use Rattle.plan_cost.specs.Assessments.{assessment}
+use Rattle.plan_text.specs.PlanReading.{plan_of}
+use Rattle.plan_text.specs.Walks.{Walk, HasPassed}
+use Rattle.step_memo.specs.Judging.{Judging, HasTaken}
+use Rattle.text_judge.specs.declared.pass.Passed.{Passed}
+use Rattle.text_judge.specs.declared.pass.Passed.TheVariants.{All, Fails, Unreadable as Faulty}
+
+-- the judge has taken just the steps that the walk has passed
+abbrev pub AreTogether : Walk → Judging → Type 0
+AreTogether walk judging = (steps : List StepText) × HasPassed walk steps × HasTaken judging steps
+
+-- whatever follows, a plan that begins with these steps fails at the one behind them
+abbrev pub FailsNext : CostedTask → List StepText → StepText → Why → Type 0
+FailsNext task steps step why =
+    (rest : List StepText) → assessment task (Steps (steps ++ step ∷ rest)) ≡ record { verdict = answer.Fails (length steps + 1) why; cost = NotCounted }
+
+-- the walk has passed a step, with a number from 1 on, at which each plan fails that begins with the steps up to it
+pub record FailsAt (walk : Walk) (task : CostedTask) (number : ℕ) (why : Why) : Type 0 where
+  pub before : List StepText
+  pub step : StepText
+  pub passed : HasPassed walk (before ++ step ∷ [])
+  pub is : number ≡ length before + 1
+  pub fails : FailsNext task before step why
+
+-- how a pass ends: all steps of the text were taken; or a step of it fails; or the text is no plan text
+abbrev pub EndsPass : Passed → Walk → Judging → Type 0
+EndsPass All walk judging = (steps : List StepText) × HasTaken judging steps × (plan_of walk.text ≡ Steps steps)
+EndsPass (Fails number why) walk judging = FailsAt walk judging.task number why
+EndsPass (Faulty line) walk judging = plan_of walk.text ≡ Unreadable line
+
+-- what is found of a text with a fault in a line
+abbrev pub unreadable : ℕ → Assessment
+unreadable line = record { verdict = answer.Unreadable line; cost = NotCounted }

@@ -1,0 +1,126 @@
+//! One pass over a text: a walk over its steps, and a judge that takes each.
+ghost use Rattle.std.specs.Prelude.{◌≡◌, ◌<◌, ◌++◌, ◌∷◌, [], List, length, map, false, IsTrue, IfOk, IfNone, IfSome, MatchOption};
+ghost use Rattle.pddl_words.specs.Words.{folded};
+ghost use Rattle.strips_task.specs.declared.plans.Plan.TheVariants.{Steps, Unreadable};
+ghost use Rattle.strips_task.specs.declared.steps.StepText.{StepText};
+ghost use Rattle.strips_task.specs.declared.steps.TheConstants.{MOST_STEPS};
+ghost use Rattle.strips_task.specs.Spelled.{IsSpelled, step_spelled};
+ghost use Rattle.strips_task.specs.Steps.{step_of};
+ghost use Rattle.plan_text.specs.PlanReading.{plan_of};
+ghost use Rattle.plan_text.specs.Walks.{HasPassed};
+ghost use Rattle.step_memo.specs.Judging.{HasTaken};
+ghost use Rattle.text_judge.specs.Passes.{AreTogether, EndsPass, FailsNext};
+
+use plan_text::{PlanSteps, StepWords, TextStep};
+use std::alloc::{AllocError, Global};
+use step_memo::Judge;
+use strips_judge::Why;
+use strips_task::OpenSteps;
+
+/// How a pass over a text ended.
+#[derive(Drop)]
+pub(crate) enum Passed {
+    /// All steps were taken, and the text is at its end.
+    All,
+    /// A step can't be taken. What stands behind it was not looked at.
+    Fails {
+        /// The step, counted from 1.
+        step: u32,
+        /// What is wrong with it.
+        why: Why,
+    },
+    /// The text is no plan text.
+    Unreadable {
+        /// The line of its first fault, counted from 1.
+        line: u32,
+    },
+}
+
+/// Takes the steps of a text one after the other, up to one that can't be taken, a fault of the text, or its end.
+pub(crate) fn pass(
+    alloc: Global,
+    judge: &mut Judge<'_>,
+    step: &mut OpenSteps,
+    walk: &mut PlanSteps<'_>,
+) -> Result<Passed, AllocError>
+    requires { AreTogether walk.old judge.old }
+    ensures task { judge.new.task ≡ judge.old.task }
+    ensures text { walk.new.text ≡ walk.old.text }
+    ensures passed { IfOk result (λ passed. EndsPass passed walk.new judge.new) }
+{
+    'steps: loop {
+        if take_known(judge, walk) {
+            continue 'steps;
+        }
+        match walk.next_step() {
+            TextStep::End => return Ok(Passed::All),
+            TextStep::Unreadable { line } => return Ok(Passed::Unreadable { line }),
+            TextStep::Step { words, key } => {
+                if let Some(why) = take_words(alloc, judge, step, words, key)? {
+                    return Ok(Passed::Fails {
+                        step: walk.count() as u32,
+                        why,
+                    });
+                }
+            }
+        }
+    }
+}
+
+/// Takes the next step, if the judge knows what stands between its parentheses and its conditions hold; else nothing changes. None of its bytes
+/// is looked at but to find the `)` and the key.
+fn take_known(judge: &mut Judge<'_>, walk: &mut PlanSteps<'_>) -> bool
+    requires { AreTogether walk.old judge.old }
+    ensures task { judge.new.task ≡ judge.old.task }
+    ensures text { walk.new.text ≡ walk.old.text }
+    ensures together { AreTogether walk.new judge.new }
+    ensures taken { IsTrue result → length walk.new.rest < length walk.old.rest }
+    ensures not { result ≡ false → walk.new ≡ walk.old }
+{
+    if !judge.asks() {
+        return false;
+    }
+    let Some(group) = walk.next_group() else {
+        return false;
+    };
+    if !judge.take_known(group.key) {
+        return false;
+    }
+    walk.skip(group);
+    true
+}
+
+/// Takes a step of these words, or else answers why it is not applicable. Where a key spells it, the judge may learn it.
+fn take_words(
+    alloc: Global,
+    judge: &mut Judge<'_>,
+    step: &mut OpenSteps,
+    words: StepWords<'_>,
+    key: Option<&[u8]>,
+) -> Result<Option<Why>, AllocError>
+    requires some { 0 < length words }
+    requires room { judge.old.count < MOST_STEPS }
+    requires key { IfSome key (λ key. IsSpelled key.now × (step_spelled key.now ≡ step_of (map folded words))) }
+    ensures task { judge.new.task ≡ judge.old.task }
+    ensures taken { IfOk result (λ why. IfNone why ((steps : List StepText) → HasTaken judge.old steps → HasTaken judge.new (steps ++ step_of (map folded words.entry) ∷ []))) }
+    ensures fails { IfOk result (λ why. IfSome why (λ why. (steps : List StepText) → HasTaken judge.old steps
+        → FailsNext judge.old.task steps (step_of (map folded words.entry)) why)) }
+{
+    step.clear();
+    words.push_to(step)?;
+    judge.take(alloc, step.get(0), key)
+}
+
+/// Walks to the end of a text, and answers the line of its first fault, if it has one.
+pub(crate) fn fault_behind(walk: &mut PlanSteps<'_>) -> Option<u32>
+    ensures { (steps : List StepText) → HasPassed walk.old steps → MatchOption result
+        ((more : List StepText) × (plan_of walk.old.text ≡ Steps (steps ++ more))) (λ line. plan_of walk.old.text ≡ Unreadable line) }
+{
+    'steps: loop {
+        match walk.next_step() {
+            TextStep::Step { .. } => {}
+            TextStep::End => return None,
+            TextStep::Unreadable { line } => return Some(line),
+        }
+    }
+}

@@ -1,0 +1,10 @@
+(define (domain roads)
+  (:requirements :strips :typing :equality :action-costs)
+  (:types place)
+  (:constants depot - place)
+  (:predicates (at ?p - place))
+  (:functions (road ?a ?b - place) - number (total-cost) - number)
+  (:action drive
+    :parameters (?from ?to - place)
+    :precondition (and (at ?from) (not (= ?from ?to)))
+    :effect (and (not (at ?from)) (at ?to) (increase (total-cost) (road ?from ?to)))))

@@ -1,0 +1,6 @@
+(define (problem trip)
+  (:domain roads)
+  (:objects x y z - place)
+  (:init (at x) (= (road x y) 2) (= (road y x) 2) (= (road x z) 9) (= (road y z) 0.25) (= (total-cost) 0))
+  (:goal (at z))
+  (:metric minimize (total-cost)))
