@@ -10,6 +10,7 @@ pub mod KeptObjects
 pub mod MoreObjects
 pub mod ExtendedDomains
 pub mod TableSteps
+pub mod NamedEntries
 pub mod VariableMeaning
 pub mod TermSteps
 pub mod AtomSteps
@@ -24,5 +25,6 @@ pub mod WellFormedTasks
 pub mod DomainMeaning
 pub mod ProblemMeaning
 pub mod InitialSteps
+pub mod BatchSteps
 pub mod TextSteps
 pub mod DialectTexts

@@ -1,11 +1,14 @@
 //! The third layer: names are looked up, and the domain and the task are made.
 //!
-//! Tables are filled in text order, so that a name's number is its place among those declared. Each look-up is one hash.
+//! Tables are filled in text order, so that a name's number is its place among those declared. Each look-up is one hash;
+//! the names of initial literals, of which there are most, are guessed first.
 
 pub(crate) mod actions;
 pub(crate) mod atoms;
 pub(crate) mod domain;
 pub(crate) mod functions;
+pub(crate) mod guesses;
+pub(crate) mod hints;
 pub(crate) mod initial;
 pub(crate) mod literals;
 pub(crate) mod names;

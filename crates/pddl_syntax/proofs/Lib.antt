@@ -1,4 +1,6 @@
 pub mod Depths
+mod MarkTable
+pub mod MarkSteps
 pub mod LevelSteps
 pub mod ListSteps
 pub mod FormulaSteps

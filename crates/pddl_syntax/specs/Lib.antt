@@ -2,6 +2,7 @@ pub mod FaultKind
 pub mod ReadFault
 pub mod Trees
 pub mod Refusing
+pub mod Marks
 pub mod Levels
 pub mod Sizes
 pub mod Walking

@@ -15,6 +15,7 @@ mod dialect;
 mod fault;
 mod heads;
 pub mod laws;
+mod marks;
 mod syntax;
 mod text;
 mod walk;

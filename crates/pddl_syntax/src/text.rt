@@ -1,11 +1,12 @@
-//! The first layer: bad bytes and wrong parentheses, found in one pass over the tokens that takes no memory.
+//! The first layer: bad bytes and wrong parentheses, found in one pass over the bytes that takes no memory.
 
-ghost use Rattle.std.specs.Prelude.{◌≢◌, IfErr};
+ghost use Rattle.std.specs.Prelude.{◌≡◌, ◌≢◌, ◌+◌, ◌<◌, ◌^◌, length, IfErr};
+ghost use Rattle.pddl_syntax.specs.ReadFault.{fault};
 ghost use Rattle.pddl_syntax.specs.Refusing.{FirstFault};
 ghost use Rattle.pddl_syntax.specs.Trees.{text_fault};
 
 use crate::fault::{FaultKind, ReadFault};
-use pddl_tokens::{Cursor, TextFault, TokenKind};
+use crate::marks::{Mark, comment_end, mark_of, plain_end};
 
 /// How many lists may stand one inside the other.
 const DEEPEST: u32 = 64;
@@ -16,40 +17,53 @@ pub fn check_text(text: &[u8]) -> Result<(), ReadFault>
     ensures first { FirstFault result (text_fault text.now) }
     ensures kind { IfErr result (λ e. e.kind ≢ FaultKind.OutOfMemory) }
 {
-    let Ok(mut cursor) = Cursor::new(text) else {
+    if text.len() >= 1 << 31 {
         return Err(ReadFault::at(FaultKind::BadText, 0, 0));
-    };
-    let end = text.len() as u32;
+    }
+    check_short(text)
+}
+
+/// Finds the first fault of a short text's bytes and parentheses. Words and blanks are stepped over alike.
+fn check_short(text: &[u8]) -> Result<(), ReadFault>
+    requires { length text.now < 2 ^ 31 }
+    ensures first { FirstFault result (text_fault text.now) }
+    ensures kind { IfErr result (λ e. e.kind ≢ FaultKind.OutOfMemory) }
+{
+    let mut at = 0;
     let mut depth = 0;
-    'tokens: loop {
-        match cursor.next() {
-            Ok(Some(token)) => match token.kind {
-                TokenKind::Word => {}
-                TokenKind::Left => {
-                    if depth == DEEPEST {
-                        return Err(ReadFault::new(FaultKind::TooDeep, token.span));
-                    }
-                    depth += 1;
+    'bytes: while at < text.len() {
+        match mark_of(text[at]) {
+            Mark::Plain => at = plain_end(text, at),
+            Mark::Left => {
+                if depth == DEEPEST {
+                    return Err(fault_at(FaultKind::TooDeep, at));
                 }
-                TokenKind::Right => {
-                    if depth == 0 {
-                        return Err(ReadFault::new(FaultKind::Unbalanced, token.span));
-                    }
-                    depth -= 1;
-                }
-            },
-            Ok(None) => {
-                if depth == 0 {
-                    return Ok(());
-                }
-                return Err(ReadFault::at(FaultKind::Unbalanced, end, end));
+                depth += 1;
+                at += 1;
             }
-            Err(TextFault::BadByte { at }) => return Err(ReadFault::at(
-                FaultKind::BadText,
-                at,
-                at + 1,
-            )),
-            Err(TextFault::TooLong) => unreachable!(),
+            Mark::Right => {
+                if depth == 0 {
+                    return Err(fault_at(FaultKind::Unbalanced, at));
+                }
+                depth -= 1;
+                at += 1;
+            }
+            Mark::Semicolon => at = comment_end(text, at),
+            Mark::Bad => return Err(fault_at(FaultKind::BadText, at)),
         }
     }
+    if depth == 0 {
+        return Ok(());
+    }
+    let end = text.len() as u32;
+    Err(ReadFault::at(FaultKind::Unbalanced, end, end))
+}
+
+/// The fault at one byte.
+fn fault_at(kind: FaultKind, at: usize) -> ReadFault
+    requires { at < 2 ^ 31 }
+    ensures { result ≡ fault kind at (at + 1) }
+{
+    let start = at as u32;
+    ReadFault::at(kind, start, start + 1)
 }

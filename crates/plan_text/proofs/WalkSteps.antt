@@ -18,7 +18,7 @@ use Rattle.plan_text.specs.declared.walk.Inside.TheVariants as i
 use Rattle.plan_text.specs.PlanGrammar.{left, right, word, symbol_of}
 use Rattle.plan_text.specs.PlanReading.{plan_from, read_on, at_end, unreadable}
 use Rattle.plan_text.specs.PlanSteps.{IsReady, ReadsBetween}
-use Rattle.plan_text.specs.Walks.{Walk, IsBetween, GoesBehind, reading_behind, words_before}
+use Rattle.plan_text.specs.Walks.{Walk, RestsAt, GoesBehind, GoesOn, reading_behind, words_before}
 use Rattle.plan_text.specs.WalkFinds.{IsOpened, IsStuck, IsOpening, IsClosed, IsBroken, IsInside, ended, reading_inside}
 use Rattle.plan_text.specs.Wants.{takes_name}
 use Rattle.plan_text.proofs.Runs.{read_name}
@@ -38,24 +38,31 @@ pub record IsOnTheWay (text : List ℕ) (first now : Expected) (count : ℕ) (ol
       (steps : List StepText) → length steps ≡ count
       → plan_from text (reading_behind first.want first.least_stamp steps) old ≡ plan_from text (reading_behind now.want now.least_stamp steps) rest
 
-between_outside : (want : Want) → IsBetween want → takes_name want ≡ false
-between_outside Step between = refl
-between_outside Number between = refl
-between_outside Opening between = refl
-between_outside Action between = absurd between
-between_outside Argument between = absurd between
+rests_outside : (want : Want) (count : ℕ) → RestsAt want count → takes_name want ≡ false
+rests_outside Step count rests = refl
+rests_outside Number count rests = refl
+rests_outside Opening count rests = refl
+rests_outside Action count rests = absurd rests
+rests_outside Argument count rests = absurd rests
 
-between_ready : (want : Want) (steps : List StepText) → IsBetween want → IsReady want (plan_with steps)
-between_ready Step steps between = refl
-between_ready Number steps between = refl
-between_ready Opening steps between = absurd between
-between_ready Action steps between = absurd between
-between_ready Argument steps between = absurd between
+rests_ready : (want : Want) (count : ℕ) (steps : List StepText) → RestsAt want count → length steps ≡ count → IsReady want (plan_with steps)
+rests_ready Step count steps rests counted = refl
+rests_ready Number count steps rests counted = refl
+rests_ready Opening count steps rests counted = (refl, omega (arith, rests, counted))
+rests_ready Action count steps rests counted = absurd rests
+rests_ready Argument count steps rests counted = absurd rests
 
-pub way_starts : (text : List ℕ) (first : Expected) (count : ℕ) (old : List Piece) → AreWithin (length text) old → IsBetween first.want → IsOnTheWay text first first count old old
-way_starts text first count old within between = record {
-  outside = between_outside first.want between;
-  ready = λ steps counted. between_ready first.want steps between;
+ready_rests : (want : Want) (count : ℕ) (steps : List StepText) → takes_name want ≡ false → IsReady want (plan_with steps) → length steps ≡ count → RestsAt want count
+ready_rests Step count steps outside ready counted = tt
+ready_rests Number count steps outside ready counted = tt
+ready_rests Opening count steps outside ready counted = omega (arith, ready.1, counted)
+ready_rests Action count steps outside ready counted = absurd cc
+ready_rests Argument count steps outside ready counted = absurd cc
+
+pub way_starts : (text : List ℕ) (first : Expected) (count : ℕ) (old : List Piece) → AreWithin (length text) old → RestsAt first.want count → IsOnTheWay text first first count old old
+way_starts text first count old within rests = record {
+  outside = rests_outside first.want count rests;
+  ready = λ steps counted. rests_ready first.want count steps rests counted;
   within = within;
   shorter = omega arith;
   same = λ steps counted. refl;
@@ -235,7 +242,37 @@ passes_step old least open_rest rest opened closed = record {
   passed = λ steps before. record {
     counted = omega (arith, before.counted, length-append steps (step_of (map folded (words_before open_rest)) ∷ []));
     few = omega (arith, opened.room);
-    between = tt;
+    rests = tt;
     same = sym (closed.same least steps) ∙ sym (opened.same steps before.counted) ∙ before.same;
   };
 }
+
+-- a number or a stamp that was read on leaves the walk where it may rest
+pub number_rests : (now next : Expected) (count : ℕ) (kind : TokenKind) (bytes : List ℕ) → RestsAt now.want count → ReadsBetween (Some next) now count (symbol_of kind bytes) → takes_name next.want ≡ false → RestsAt next.want count
+number_rests now next count kind bytes rests reads outside =
+    let some : List StepText = replicate count (step_of []) in
+    let sized : length some ≡ count = length-replicate count (step_of []) in
+    ready_rests next.want count some outside (reads (plan_with some) sized (rests_ready now.want count some rests sized)).1 sized
+
+pub rest_within : (size : ℕ) (old rest : List Piece) (kind : TokenKind) (span : Span) (bytes : List ℕ) → old ≡ token kind span bytes ∷ rest → AreWithin size old → AreWithin size rest
+rest_within size old rest kind span bytes first within = (subst (AreWithin size) first within).1
+
+passes_token : (text : List ℕ) (now next : Expected) (count : ℕ) (old rest : List Piece) (kind : TokenKind) (span : Span) (bytes : List ℕ) → old ≡ token kind span bytes ∷ rest → RestsAt now.want count → ReadsBetween (Some next) now count (symbol_of kind bytes) → takes_name next.want ≡ false → GoesOn (record { text = text; rest = old; want = now.want; least = now.least_stamp; count = count }) (record { text = text; rest = rest; want = next.want; least = next.least_stamp; count = count })
+passes_token text now next count old rest kind span bytes first rests reads outside = record {
+  text = refl;
+  passed = λ steps before. record {
+    counted = before.counted;
+    few = before.few;
+    rests = number_rests now next count kind bytes rests reads outside;
+    same =
+        sym (ap (plan_from text (reading_behind now.want now.least_stamp steps)) first
+        ∙ plan_goes_on text (reading_behind now.want now.least_stamp steps) kind span bytes rest _ (reads (plan_with steps) before.counted (rests_ready now.want count steps rests before.counted)).0)
+        ∙ before.same;
+  };
+}
+
+-- no step is passed by it
+pub passes_number : (walk : Walk) (text : List ℕ) (now next : Expected) (count : ℕ) (old rest : List Piece) (kind : TokenKind) (span : Span) (bytes : List ℕ) → ◌≡◌ {A = Walk} (record { text = text; rest = old; want = now.want; least = now.least_stamp; count = count }) walk → old ≡ token kind span bytes ∷ rest → RestsAt now.want count → ReadsBetween (Some next) now count (symbol_of kind bytes) → takes_name next.want ≡ false → GoesOn walk (record { text = text; rest = rest; want = next.want; least = next.least_stamp; count = count })
+passes_number walk text now next count old rest kind span bytes is first rests reads outside =
+    subst (λ (w : Walk). GoesOn w (record { text = text; rest = rest; want = next.want; least = next.least_stamp; count = count })) is
+    (passes_token text now next count old rest kind span bytes first rests reads outside)

@@ -17,10 +17,11 @@ use Rattle.pddl_tokens.proofs.PlainRows.{row_has_words}
 use Rattle.strips_task.specs.declared.steps.StepText.{StepText}
 use Rattle.strips_task.specs.Spelled.{IsSpelled, step_spelled}
 use Rattle.plan_text.specs.declared.want.Want.{Want}
-use Rattle.plan_text.specs.declared.want.Want.TheVariants.{Number, Action, Argument}
+use Rattle.plan_text.specs.declared.want.Want.TheVariants.{Step, Number, Opening, Action, Argument}
 use Rattle.plan_text.specs.declared.want.Expected.{Expected}
+use Rattle.plan_text.specs.PlanGrammar.{left}
 use Rattle.plan_text.specs.PlanReading.{plan_from, read_on}
-use Rattle.plan_text.specs.Walks.{Walk, IsBetween, GoesBehind, reading_behind, words_before}
+use Rattle.plan_text.specs.Walks.{Walk, RestsAt, GoesBehind, reading_behind, words_before}
 use Rattle.plan_text.specs.WalkFinds.{ComesNext, IsStepFound}
 use Rattle.plan_text.proofs.Runs.{reading, read_name, read_left}
 use Rattle.plan_text.proofs.Steps.{plan_goes_on}
@@ -43,12 +44,21 @@ all_names text least steps (word ∷ words) at rest some names =
     plan_goes_on text (reading Action least steps []) Word (span at (at + length word)) word (word_pieces (at + length word + 1) words ++ rest) _ (read_name (reading Action least steps []) word first)
     ∙ other_names text least steps (folded word ∷ []) words (at + length word + 1) rest others
 
--- a whole step is read
-whole_step : (text : List ℕ) (want : Want) (least : ℕ) (steps : List StepText) (at : ℕ) (row : List ℕ) (rest : List Piece) → IsBetween want → length steps < 1000000 → IsSpelled row → plan_from text (reading_behind want least steps) (group_pieces at row ++ rest) ≡ plan_from text (reading_behind Number least (steps ++ step_spelled row ∷ [])) rest
+-- a `(` is read on wherever a walk rests
+left_comes : (want : Want) (least count : ℕ) (steps : List StepText) → RestsAt want count → length steps < 1000000 → read_on (reading want least steps []) left ≡ Some (reading Action least steps [])
 unfolding read_on
-whole_step text want least steps at row rest between few spelled =
+left_comes Step least count steps rests few = read_left Step least steps tt few
+left_comes Number least count steps rests few = read_left Number least steps tt few
+left_comes Opening least count steps rests few = refl
+left_comes Action least count steps rests few = absurd rests
+left_comes Argument least count steps rests few = absurd rests
+
+-- a whole step is read
+whole_step : (text : List ℕ) (want : Want) (least count : ℕ) (steps : List StepText) (at : ℕ) (row : List ℕ) (rest : List Piece) → RestsAt want count → length steps < 1000000 → IsSpelled row → plan_from text (reading_behind want least steps) (group_pieces at row ++ rest) ≡ plan_from text (reading_behind Number least (steps ++ step_spelled row ∷ [])) rest
+unfolding read_on
+whole_step text want least count steps at row rest rests few spelled =
     let close = token Right (span (at + 1 + length row) (at + 1 + length row + 1)) (41 ∷ []) in
-    plan_goes_on text (reading want least steps []) Left (span at (at + 1)) (40 ∷ []) ((word_pieces (at + 1) (words_of row) ++ close ∷ []) ++ rest) _ (read_left want least steps between few)
+    plan_goes_on text (reading want least steps []) Left (span at (at + 1)) (40 ∷ []) ((word_pieces (at + 1) (words_of row) ++ close ∷ []) ++ rest) _ (left_comes want least count steps rests few)
     ∙ ap (plan_from text (reading Action least steps [])) (append_assoc (word_pieces (at + 1) (words_of row)) (close ∷ []) rest)
     ∙ all_names text least steps (words_of row) (at + 1) (close ∷ rest) (row_has_words row) spelled
     ∙ plan_goes_on text (reading Argument least steps (map folded (words_of row))) Right (span (at + 1 + length row) (at + 1 + length row + 1)) (41 ∷ []) rest _ refl
@@ -62,12 +72,12 @@ behind_within size [] rest within = within
 behind_within size (piece ∷ front) rest within = behind_within size front rest within.1
 
 -- where a step may come, the next group does
-pub group_comes : (walk : Walk) (text : List ℕ) (rest : List Piece) (expected : Expected) (count : ℕ) (found : Option Group) → ◌≡◌ {A = Walk} (record { text = text; rest = rest; want = expected.want; least = expected.least_stamp; count = count }) walk → AreWithin (length text) rest → IsBetween expected.want → count < 1000000 → IfSome found (λ group. IsPlain group.key.now → rest ≡ group_pieces group.start group.key.now ++ group.rest) → IfSome found (λ group. ComesNext walk group)
-group_comes walk text rest expected count None is within between room first = tt
-group_comes walk text rest expected count (Some group) is within between room first =
+pub group_comes : (walk : Walk) (text : List ℕ) (rest : List Piece) (expected : Expected) (count : ℕ) (found : Option Group) → ◌≡◌ {A = Walk} (record { text = text; rest = rest; want = expected.want; least = expected.least_stamp; count = count }) walk → AreWithin (length text) rest → RestsAt expected.want count → count < 1000000 → IfSome found (λ group. IsPlain group.key.now → rest ≡ group_pieces group.start group.key.now ++ group.rest) → IfSome found (λ group. ComesNext walk group)
+group_comes walk text rest expected count None is within rests room first = tt
+group_comes walk text rest expected count (Some group) is within rests room first =
     subst (λ (w : Walk). ComesNext w group) is (record {
       room = room;
-      between = between;
+      rests = rests;
       first = first;
       within = λ plain. behind_within (length text) (group_pieces group.start group.key.now) group.rest (subst (AreWithin (length text)) (first plain) within);
     })
@@ -83,9 +93,9 @@ passes_group old group next spelled =
       passed = λ steps before. record {
         counted = omega (arith, before.counted, length-append steps (step_spelled key ∷ []));
         few = omega (arith, next.room);
-        between = tt;
+        rests = tt;
         same =
-            sym (whole_step old.text old.want old.least steps group.start key group.rest next.between (omega (arith, before.counted, next.room)) spelled)
+            sym (whole_step old.text old.want old.least old.count steps group.start key group.rest next.rests (omega (arith, before.counted, next.room)) spelled)
             ∙ ap (plan_from old.text (reading_behind old.want old.least steps)) (sym first) ∙ before.same;
       };
     }

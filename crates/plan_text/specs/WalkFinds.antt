@@ -24,12 +24,12 @@ use Rattle.plan_text.specs.declared.walk.TextStep.{TextStep}
 use Rattle.plan_text.specs.declared.walk.TextStep.TheVariants as t
 use Rattle.plan_text.specs.PlanGrammar.{symbol_of}
 use Rattle.plan_text.specs.PlanReading.{Reading, plan_from, plan_of, read_on, unreadable}
-use Rattle.plan_text.specs.Walks.{Walk, IsBetween, HasPassed, GoesBehind, reading_behind, words_before}
+use Rattle.plan_text.specs.Walks.{Walk, RestsAt, HasPassed, GoesBehind, reading_behind, words_before}
 
 -- a step may come next, and this group does where its key is plain
 pub record ComesNext (walk : Walk) (group : Group) : Type 0 where
   pub room : walk.count < 1000000
-  pub between : IsBetween walk.want
+  pub rests : RestsAt walk.want walk.count
   pub first : IsPlain group.key.now → walk.rest ≡ group_pieces group.start group.key.now ++ group.rest
   pub within : IsPlain group.key.now → AreWithin (length walk.text) group.rest
 

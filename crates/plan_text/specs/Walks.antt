@@ -25,6 +25,14 @@ IsBetween Opening = ⊥
 IsBetween Action = ⊥
 IsBetween Argument = ⊥
 
+-- a walk may rest here, behind so many steps: a step may begin, or the text end, or the step of a stamp that was read has to begin
+abbrev pub RestsAt : Want → ℕ → Type 0
+RestsAt Step count = Unit {0}
+RestsAt Number count = Unit {0}
+RestsAt Opening count = count < 1000000
+RestsAt Action count = ⊥
+RestsAt Argument count = ⊥
+
 -- what was read where these steps were passed
 abbrev pub reading_behind : Want → ℕ → List StepText → Reading
 reading_behind want least steps = record { want = want; least = least; steps = steps; words = [] }
@@ -33,7 +41,7 @@ reading_behind want least steps = record { want = want; least = least; steps = s
 pub record HasPassed (walk : Walk) (steps : List StepText) : Type 0 where
   pub counted : length steps ≡ walk.count
   pub few : walk.count ≤ 1000000
-  pub between : IsBetween walk.want
+  pub rests : RestsAt walk.want walk.count
   pub same : plan_from walk.text (reading_behind walk.want walk.least steps) walk.rest ≡ plan_of walk.text
 
 -- a walk goes on behind one more step of the same text, and less of it is still to come
@@ -41,6 +49,11 @@ pub record GoesBehind (old new : Walk) (step : StepText) : Type 0 where
   pub text : new.text ≡ old.text
   pub shorter : length new.rest < length old.rest
   pub passed : (steps : List StepText) → HasPassed old steps → HasPassed new (steps ++ step ∷ [])
+
+-- a walk goes on in the same text and passes no step
+pub record GoesOn (old new : Walk) : Type 0 where
+  pub text : new.text ≡ old.text
+  pub passed : (steps : List StepText) → HasPassed old steps → HasPassed new steps
 
 -- the words before the first piece that is none
 abbrev pub words_before : List Piece → List (List ℕ)

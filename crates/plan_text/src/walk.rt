@@ -1,6 +1,6 @@
 //! A walk over the steps of a plan text, none of which is kept.
 
-ghost use Rattle.std.specs.Prelude.{◌≡◌, ◌<◌, ◌≤◌, ◌^◌, [], ◌∷◌, ◌++◌, length, map, ℕ, List, MatchOption, IfSome, IfOk};
+ghost use Rattle.std.specs.Prelude.{◌≡◌, ◌<◌, ◌≤◌, ◌^◌, [], ◌∷◌, ◌++◌, length, map, ℕ, List, false, IsTrue, MatchOption, IfSome, IfOk};
 ghost use Rattle.std.specs.List.{list_all};
 ghost use Rattle.pddl_words.specs.SpacedWords.{words_of};
 ghost use Rattle.pddl_words.specs.Words.{is_name, folded};
@@ -12,7 +12,7 @@ ghost use Rattle.strips_task.specs.declared.plans.Plan.TheVariants.{Unreadable};
 ghost use Rattle.strips_task.specs.Spelled.{IsSpelled, step_spelled};
 ghost use Rattle.strips_task.specs.Steps.{step_of};
 ghost use Rattle.plan_text.specs.PlanReading.{plan_of};
-ghost use Rattle.plan_text.specs.Walks.{HasPassed, GoesBehind, words_before, IsBetween};
+ghost use Rattle.plan_text.specs.Walks.{HasPassed, GoesBehind, GoesOn, RestsAt, words_before};
 ghost use Rattle.plan_text.specs.WalkFinds.{ComesNext, IsFound, IsOpened, IsOpening, IsInside, IsEnding, ended};
 
 use crate::between::read_between;
@@ -34,7 +34,7 @@ pub struct PlanSteps<'a> {
 impl<'a> Model for PlanSteps<'a> {
     ghost use Rattle.std.specs.Prelude.{◌<◌, ◌≤◌, ◌^◌, length};
     ghost use Rattle.pddl_tokens.specs.Places.{AreWithin};
-    ghost use Rattle.plan_text.specs.Walks.{Walk, IsBetween};
+    ghost use Rattle.plan_text.specs.Walks.{Walk, RestsAt};
 
     ghost Value = { Walk };
 
@@ -47,7 +47,7 @@ impl<'a> Model for PlanSteps<'a> {
     } };
 
     ghost invariant = { λ w.
-        (length w.text.now < 2 ^ 31) × AreWithin (length w.text.now) w.cursor × IsBetween w.expected.want × (w.count ≤ 1000000) };
+        (length w.text.now < 2 ^ 31) × AreWithin (length w.text.now) w.cursor × RestsAt w.expected.want w.count × (w.count ≤ 1000000) };
 }
 
 /// What a walk finds next.
@@ -196,6 +196,27 @@ impl<'a> PlanSteps<'a> {
         self.count += 1;
     }
 
+    /// Reads the bracketed number or the stamp that comes next on, if one may come and does. Whether it did; else the walk stays where it is.
+    pub fn pass_number(&mut self) -> bool
+        ensures on { GoesOn self.old self.new }
+        ensures shorter { IsTrue result → length self.new.rest < length self.old.rest }
+        ensures stays { result ≡ false → self.new ≡ self.old }
+    {
+        let mut cursor = self.cursor.fork();
+        let Ok(Some(token)) = cursor.next() else {
+            return false;
+        };
+        let Some(next) = read_between(self.count, self.expected, token.kind, token.text) else {
+            return false;
+        };
+        if next.want.takes_name() {
+            return false;
+        }
+        self.cursor = cursor;
+        self.expected = next;
+        true
+    }
+
     /// Reads on up to the end of the next step, with its stamp. At the end of the text and at a fault the walk stays where it is, so the same
     /// comes at each further call.
     pub fn next_step(&mut self) -> TextStep<'a>
@@ -302,7 +323,7 @@ enum Opening {
 fn open_step(text: &[u8], cursor: &mut Cursor<'_>, mut expected: Expected, steps: usize) -> Opening
     requires short { length text.now < 2 ^ 31 }
     requires within { AreWithin (length text.now) cursor.old }
-    requires between { IsBetween expected.want }
+    requires rests { RestsAt expected.want steps }
     ensures { IsOpening result text.now expected steps cursor.old cursor.new }
 {
     'tokens: loop {

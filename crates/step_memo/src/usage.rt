@@ -1,7 +1,7 @@
 //! Whether a judge's known steps are of use.
 
 /// After how many look-ups it is decided whether they are.
-const TRIAL: u32 = 1_024;
+const TRIAL: u32 = 16_384;
 
 /// Of so many look-ups one has to find a step.
 const WORTH: u32 = 8;

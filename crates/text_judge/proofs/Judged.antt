@@ -15,7 +15,7 @@ use Rattle.plan_cost.specs.declared.costs.Costs.{Costs}
 use Rattle.plan_cost.specs.declared.costs.CostedTask.{CostedTask}
 use Rattle.plan_cost.specs.Assessments.{assessment, cost_beside}
 use Rattle.plan_text.specs.PlanReading.{plan_of}
-use Rattle.plan_text.specs.Walks.{Walk, HasPassed, GoesBehind}
+use Rattle.plan_text.specs.Walks.{Walk, HasPassed, GoesBehind, GoesOn}
 use Rattle.plan_text.specs.WalkFinds.{ComesNext}
 use Rattle.step_memo.specs.Judging.{Judging, HasTaken}
 use Rattle.text_judge.specs.Passes.{AreTogether, FailsNext, FailsAt, unreadable}
@@ -25,6 +25,10 @@ pub together_on : (walk later : Walk) (judging after : Judging) (step : StepText
     → ((steps : List StepText) → HasTaken judging steps → HasTaken after (steps ++ step ∷ [])) → AreTogether later after
 together_on walk later judging after step before behind taken =
     (before.0 ++ step ∷ [], behind.passed before.0 before.1, taken before.0 before.2)
+
+-- the walk passes no step
+pub together_past : (walk later : Walk) (judging : Judging) → AreTogether walk judging → GoesOn walk later → AreTogether later judging
+together_past walk later judging before on = (before.0, on.passed before.0 before.1, before.2)
 
 -- only the judge changes, and it has taken the same steps
 pub together_still : (walk : Walk) (judging after : Judging) → AreTogether walk judging

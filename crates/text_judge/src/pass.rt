@@ -49,7 +49,7 @@ pub(crate) fn pass(
     ensures passed { IfOk result (λ passed. EndsPass passed walk.new judge.new) }
 {
     'steps: loop {
-        if take_known(judge, walk) {
+        if go_on(judge, walk) {
             continue 'steps;
         }
         match walk.next_step() {
@@ -67,21 +67,22 @@ pub(crate) fn pass(
     }
 }
 
-/// Takes the next step, if the judge knows what stands between its parentheses and its conditions hold; else nothing changes. None of its bytes
-/// is looked at but to find the `)` and the key.
-fn take_known(judge: &mut Judge<'_>, walk: &mut PlanSteps<'_>) -> bool
+/// Takes the next step, if the judge knows what stands between its parentheses and its conditions hold: none of its bytes is looked at but to
+/// find the `)` and the key. Before a step, and behind one, it reads a stamp or a number on. Whether it did either; else the walk stays where
+/// it is.
+fn go_on(judge: &mut Judge<'_>, walk: &mut PlanSteps<'_>) -> bool
     requires { AreTogether walk.old judge.old }
     ensures task { judge.new.task ≡ judge.old.task }
     ensures text { walk.new.text ≡ walk.old.text }
     ensures together { AreTogether walk.new judge.new }
-    ensures taken { IsTrue result → length walk.new.rest < length walk.old.rest }
-    ensures not { result ≡ false → walk.new ≡ walk.old }
+    ensures shorter { IsTrue result → length walk.new.rest < length walk.old.rest }
+    ensures stays { result ≡ false → walk.new ≡ walk.old }
 {
     if !judge.asks() {
         return false;
     }
     let Some(group) = walk.next_group() else {
-        return false;
+        return walk.pass_number();
     };
     if !judge.take_known(group.key) {
         return false;

@@ -7,6 +7,7 @@ ghost use Rattle.pddl_syntax.specs.Forms.{atom_form};
 ghost use Rattle.pddl_syntax.specs.Reading.{Gives};
 ghost use Rattle.pddl_reader.specs.Resolved.{known_form, parameters_form};
 
+use crate::resolution::guesses::{Guess, NO_GUESS};
 use crate::resolution::names::predicate_number;
 use crate::resolution::tables::Declared;
 use crate::resolution::terms::{objects_in_places, terms_in_places};
@@ -29,8 +30,29 @@ fn places_of(
     predicates.get(usize::from(number)).1.as_slice()
 }
 
-/// The ground atom that an atom of a problem stands for.
+/// The ground atom that an atom of a problem stands for. Its names may be guessed.
 #[tactic(auto, using(crate::proofs::AtomSteps::ground_steps))]
+pub(crate) fn guessed_atom(
+    alloc: Global,
+    known: &Declared<'_>,
+    guess: &Guess,
+    syntax: &AtomSyntax<'_>,
+) -> Result<Atom, ReadFault>
+    ensures { Gives (λ atom. atom) result (ground_of (known_form known.now) (atom_form syntax.now)) }
+{
+    let pred = predicate_number(alloc, known.predicates, guess.predicate, syntax)?;
+    let places = places_of(known.predicates, pred, syntax.terms.len());
+    let args = objects_in_places(
+        alloc,
+        known,
+        places,
+        &guess.objects,
+        syntax.terms.as_slice(),
+    )?;
+    Ok(Atom { pred, args })
+}
+
+/// The ground atom that an atom of a problem stands for.
 pub(crate) fn ground_atom(
     alloc: Global,
     known: &Declared<'_>,
@@ -38,10 +60,7 @@ pub(crate) fn ground_atom(
 ) -> Result<Atom, ReadFault>
     ensures { Gives (λ atom. atom) result (ground_of (known_form known.now) (atom_form syntax.now)) }
 {
-    let pred = predicate_number(alloc, known.predicates, syntax)?;
-    let places = places_of(known.predicates, pred, syntax.terms.len());
-    let args = objects_in_places(alloc, known, places, syntax.terms.as_slice())?;
-    Ok(Atom { pred, args })
+    guessed_atom(alloc, known, &Guess::none(), syntax)
 }
 
 /// The pattern that an atom of an action stands for.
@@ -55,7 +74,7 @@ pub(crate) fn pattern(
     requires { length parameters.now.names.items ≤ 32 }
     ensures { Gives (λ pattern. pattern) result (pattern_of (known_form known.now) (parameters_form parameters.now) (atom_form syntax.now)) }
 {
-    let pred = predicate_number(alloc, known.predicates, syntax)?;
+    let pred = predicate_number(alloc, known.predicates, NO_GUESS, syntax)?;
     let places = places_of(known.predicates, pred, syntax.terms.len());
     let terms = terms_in_places(alloc, known, parameters, places, syntax.terms.as_slice())?;
     Ok(Pattern { pred, terms })

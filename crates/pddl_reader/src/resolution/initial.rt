@@ -1,14 +1,18 @@
 //! What a problem gives initially: its atoms, and the values of functions.
 
-ghost use Rattle.std.specs.Prelude.{◌≡◌};
+ghost use Rattle.std.specs.Prelude.{◌≡◌, ◌≤◌, ◌∷◌, ◌++◌, length, MatchResult};
 ghost use Rattle.pddl_syntax.specs.Forms.{atom_form, literal_form, value_form};
+ghost use Rattle.pddl_syntax.specs.Optional.{through};
+ghost use Rattle.pddl_syntax.specs.ReadFault.{out_of_memory};
 ghost use Rattle.pddl_syntax.specs.Reading.{Gives, Puts};
 ghost use Rattle.pddl_reader.specs.Declarations.{ground_of};
 ghost use Rattle.pddl_reader.specs.Functions.{with_value_of};
-ghost use Rattle.pddl_reader.specs.Problem.{initial_of, with_atom, with_initial};
+ghost use Rattle.pddl_reader.specs.Problem.{initial_of, literal_forms, with_atom, with_initial};
 ghost use Rattle.pddl_reader.specs.Resolved.{known_form, vocabulary_form};
 
-use crate::resolution::atoms::ground_atom;
+use crate::resolution::atoms::{ground_atom, guessed_atom};
+use crate::resolution::guesses::{Guess, guess_of, guesses};
+use crate::resolution::hints::Hints;
 use crate::resolution::literals::unsupported;
 use crate::resolution::tables::Declared;
 use crate::resolution::vocabulary::Vocabulary;
@@ -16,6 +20,9 @@ use pddl_syntax::{AtomSyntax, FaultKind, LiteralSyntax, Literals, ReadFault, Val
 use plan_cost::{FunctionValues, Given};
 use std::alloc::Global;
 use strips_task::InitialAtoms;
+
+/// How many literals are read before their names are looked up.
+const BATCH: usize = 32;
 
 /// The initial atoms, and the values of functions.
 #[derive(Drop)]
@@ -31,11 +38,12 @@ fn put_atom(
     known: &Declared<'_>,
     atoms: &mut InitialAtoms,
     positive: bool,
+    guess: &Guess,
     atom: &AtomSyntax<'_>,
 ) -> Result<(), ReadFault>
     ensures { Puts result (with_atom atoms.old positive (ground_of (known_form known.now) (atom_form atom.now))) atoms.new }
 {
-    let atom = ground_atom(alloc, known, atom)?;
+    let atom = guessed_atom(alloc, known, guess, atom)?;
     if positive {
         atoms.push(atom)?;
     }
@@ -66,6 +74,7 @@ fn put_initial(
     alloc: Global,
     vocabulary: &Vocabulary<'_>,
     state: &mut InitialState,
+    guess: &Guess,
     literal: &LiteralSyntax<'_>,
 ) -> Result<(), ReadFault>
     ensures { Puts result (with_initial (vocabulary_form vocabulary.now) state.old (literal_form literal.now)) state.new }
@@ -76,6 +85,7 @@ fn put_initial(
             &vocabulary.atoms,
             &mut state.atoms,
             *positive,
+            guess,
             atom,
         ),
         LiteralSyntax::Equality { equality, .. } => Err(unsupported(equality.left.span)),
@@ -86,8 +96,61 @@ fn put_initial(
     }
 }
 
+/// Puts what initial literals give to the rest, in their order.
+#[tactic(auto, using(crate::proofs::Through::through_steps, crate::proofs::BatchSteps::form_steps))]
+fn put_guessed(
+    alloc: Global,
+    vocabulary: &Vocabulary<'_>,
+    state: &mut InitialState,
+    guesses: &[Guess],
+    literals: &[LiteralSyntax<'_>],
+) -> Result<(), ReadFault>
+    ensures { Puts result (through (with_initial (vocabulary_form vocabulary.now)) state.old (literal_forms literals.now)) state.new }
+{
+    'literals: for index in 0..literals.len() {
+        let guess = guess_of(guesses, index);
+        put_initial(alloc, vocabulary, state, &guess, &literals[index])?;
+    }
+    Ok(())
+}
+
+/// Puts what initial literals give to the rest, once their names are guessed.
+fn put_batch(
+    alloc: Global,
+    vocabulary: &Vocabulary<'_>,
+    hints: &Hints,
+    state: &mut InitialState,
+    literals: &[LiteralSyntax<'_>],
+) -> Result<(), ReadFault>
+    ensures { Puts result (through (with_initial (vocabulary_form vocabulary.now)) state.old (literal_forms literals.now)) state.new }
+{
+    let guesses = guesses(alloc, &vocabulary.atoms, hints, literals)?;
+    put_guessed(alloc, vocabulary, state, guesses.as_slice(), literals)
+}
+
+/// A literal with those that come behind it, up to a batch.
+#[tactic(auto, using(crate::proofs::BatchSteps::batch_steps))]
+fn batch_from<'a>(
+    alloc: Global,
+    first: LiteralSyntax<'a>,
+    literals: &mut Literals<'a>,
+) -> Result<Vec<LiteralSyntax<'a>>, ReadFault>
+    ensures fewer { length literals.new ≤ length literals.old }
+    ensures taken { MatchResult result (λ batch. literal_form first.entry ∷ literals.old ≡ literal_forms batch.items ++ literals.new) (λ e. e ≡ out_of_memory) }
+{
+    let mut batch = Vec::with_capacity(alloc, BATCH)?;
+    batch.push(first)?;
+    'literals: for _ in 1..BATCH {
+        match literals.next(alloc)? {
+            Some(literal) => batch.push(literal)?,
+            None => return Ok(batch),
+        }
+    }
+    Ok(batch)
+}
+
 /// What the initial literals of a problem give.
-#[tactic(auto, using(crate::proofs::Through::through_steps, crate::proofs::InitialSteps::initial_steps))]
+#[tactic(auto, using(crate::proofs::Through::through_steps, crate::proofs::InitialSteps::initial_steps, crate::proofs::BatchSteps::through_append))]
 pub(crate) fn initial(
     alloc: Global,
     vocabulary: &Vocabulary<'_>,
@@ -95,13 +158,15 @@ pub(crate) fn initial(
 ) -> Result<InitialState, ReadFault>
     ensures { Gives (λ state. state) result (initial_of (vocabulary_form vocabulary.now) literals.entry) }
 {
+    let hints = Hints::new(alloc, vocabulary.atoms.objects)?;
     let seed = vocabulary.atoms.objects.seed();
     let mut state = InitialState {
         atoms: InitialAtoms::new(alloc, seed),
         values: FunctionValues::new(alloc, seed),
     };
-    'literals: while let Some(literal) = literals.next(alloc)? {
-        put_initial(alloc, vocabulary, &mut state, &literal)?;
+    'literals: while let Some(first) = literals.next(alloc)? {
+        let batch = batch_from(alloc, first, &mut literals)?;
+        put_batch(alloc, vocabulary, &hints, &mut state, batch.as_slice())?;
     }
     Ok(state)
 }

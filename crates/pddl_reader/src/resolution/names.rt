@@ -1,6 +1,6 @@
 //! Names are declared in tables, and found there.
 
-ghost use Rattle.std.specs.Prelude.{◌≡◌, ◌<◌, ◌≤◌, length, IfOk, IfSome};
+ghost use Rattle.std.specs.Prelude.{◌≡◌, ◌<◌, ◌≤◌, length, IsTrue, IfOk, IfSome, Some};
 ghost use Rattle.std.specs.Str.{bytes_eq};
 ghost use Rattle.pddl_words.specs.Words.{folded};
 ghost use Rattle.strips_task.specs.Names.{number_named};
@@ -41,6 +41,34 @@ pub(crate) fn number_of<V>(
     Ok(table.number_of(folded.as_slice()))
 }
 
+/// Whether the entry with a number, if there is one, has a word for its name, which stands in lower case.
+#[tactic(auto, using(crate::proofs::NamedEntries::named_steps))]
+pub(crate) fn is_named<V>(table: &NameTable<V>, number: usize, word: &[u8]) -> bool
+    ensures named { IsTrue result → number_named table.now (folded word.now) ≡ Some number }
+    ensures within { IsTrue result → number < length table.now }
+{
+    if number >= table.len() {
+        return false;
+    }
+    table.get(number).0.as_bytes() == word
+}
+
+/// The number of the entry that a word names, as by `number_of`. Where the guess is right it takes one comparison and no hash.
+pub(crate) fn number_near<V>(
+    alloc: Global,
+    table: &NameTable<V>,
+    guess: usize,
+    word: &[u8],
+) -> Result<Option<usize>, ReadFault>
+    ensures number { GivesOption result (number_named table.now (folded word.now)) }
+    ensures within { IfOk result (λ found. IfSome found (λ number. number < length table.now)) }
+{
+    if is_named(table, guess, word) {
+        return Ok(Some(guess));
+    }
+    number_of(alloc, table, word)
+}
+
 /// Whether two names are the same.
 pub(crate) fn is_same_name(one: &Name, other: &Name) -> bool
     ensures { result ≡ bytes_eq one.now other.now }
@@ -75,18 +103,19 @@ fn takes_terms(predicates: &NameTable<Seq<Alternatives>>, number: usize, count: 
     predicates.get(number).1.len() == count
 }
 
-/// The number of the predicate of an atom, which takes as many terms as the atom has.
+/// The number of the predicate of an atom, which takes as many terms as the atom has. It may be guessed.
 #[tactic(auto, using(crate::proofs::TableSteps::number_steps))]
 pub(crate) fn predicate_number(
     alloc: Global,
     predicates: &NameTable<Seq<Alternatives>>,
+    guess: usize,
     atom: &AtomSyntax<'_>,
 ) -> Result<u16, ReadFault>
     requires { length predicates.now ≤ 4096 }
     ensures { Gives (λ number. number) result (predicate_number predicates.now (atom_form atom.now)) }
 {
     let word = atom.predicate;
-    let Some(number) = number_of(alloc, predicates, word.text)? else {
+    let Some(number) = number_near(alloc, predicates, guess, word.text)? else {
         return Err(ReadFault::new(FaultKind::UnknownName, word.span));
     };
     if !takes_terms(predicates, number, atom.terms.len()) {

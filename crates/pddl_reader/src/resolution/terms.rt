@@ -7,7 +7,8 @@ ghost use Rattle.pddl_syntax.specs.Forms.{word_forms};
 ghost use Rattle.pddl_syntax.specs.Reading.{Gives, GivesOption};
 ghost use Rattle.pddl_reader.specs.Resolved.{known_form, parameters_form};
 
-use crate::resolution::names::number_of;
+use crate::resolution::guesses::{NO_GUESS, guess_at};
+use crate::resolution::names::number_near;
 use crate::resolution::tables::Declared;
 use crate::resolution::variables::{ActionParameters, parameter_number};
 use pddl_syntax::{FaultKind, ReadFault, Word, is_variable};
@@ -31,56 +32,71 @@ fn term_fits(known: &Declared<'_>, params: &[Alternatives], term: Term, place: &
     }
 }
 
-/// The number of the object that a word names.
+/// The number of the object that a word names, which may be guessed.
 #[tactic(auto, using(crate::proofs::TermSteps::object_steps))]
 fn object_number(
     alloc: Global,
     objects: &NameTable<u16>,
+    guess: usize,
     word: Word<'_>,
 ) -> Result<Option<u16>, ReadFault>
     requires { length objects.now ≤ 65535 }
     ensures { GivesOption result (object_number objects.now word.entry.text.now) }
 {
-    match number_of(alloc, objects, word.text)? {
+    match number_near(alloc, objects, guess, word.text)? {
         Some(number) => Ok(Some(number as u16)),
         None => Ok(None),
     }
 }
 
-/// The object that a word names, of whatever type.
+/// The object that a word names, of whatever type. It may be guessed.
 #[tactic(auto, using(crate::proofs::TermSteps::object_steps))]
-pub(crate) fn object(alloc: Global, known: &Declared<'_>, word: Word<'_>) -> Result<u16, ReadFault>
+fn object_near(
+    alloc: Global,
+    known: &Declared<'_>,
+    guess: usize,
+    word: Word<'_>,
+) -> Result<u16, ReadFault>
     ensures { Gives (λ number. number) result (object_number known.now.objects.now word.entry.text.now) }
 {
-    match object_number(alloc, known.objects, word)? {
+    match object_number(alloc, known.objects, guess, word)? {
         Some(number) => Ok(number),
         None => Err(ReadFault::new(FaultKind::UnknownName, word.span)),
     }
 }
 
-/// The object that a word names, where it fits its place.
+/// The object that a word names, of whatever type.
+pub(crate) fn object(alloc: Global, known: &Declared<'_>, word: Word<'_>) -> Result<u16, ReadFault>
+    ensures { Gives (λ number. number) result (object_number known.now.objects.now word.entry.text.now) }
+{
+    object_near(alloc, known, NO_GUESS, word)
+}
+
+/// The object that a word names, where it fits its place. It may be guessed.
 #[tactic(auto, using(crate::proofs::TermSteps::object_place_steps))]
 fn object_in_place(
     alloc: Global,
     known: &Declared<'_>,
     place: &[u16],
+    guess: usize,
     word: Word<'_>,
 ) -> Result<u16, ReadFault>
     ensures { Gives (λ number. number) result (object_in_place (known_form known.now) place.now word.entry.text.now) }
 {
-    let number = object(alloc, known, word)?;
+    let number = object_near(alloc, known, guess, word)?;
     if !term_fits(known, &[], Term::Object(number), place) {
         return Err(ReadFault::new(FaultKind::WrongType, word.span));
     }
     Ok(number)
 }
 
-/// The objects that words name, where each fits its place.
+/// The objects that words name, where each fits its place. The first of them may be guessed.
 #[tactic(auto, using(crate::proofs::TermSteps::fitted_steps))]
 pub(crate) fn objects_in_places(
     alloc: Global,
     known: &Declared<'_>,
     places: &[Alternatives],
+    guesses: &[usize],
     words: &[Word<'_>],
 ) -> Result<ShortSeq<u16>, ReadFault>
     requires { length places.now ≡ length words.now }
@@ -88,7 +104,8 @@ pub(crate) fn objects_in_places(
 {
     let mut objects = ShortSeq::new(alloc);
     'places: for index in 0..places.len() {
-        let number = object_in_place(alloc, known, places[index].as_slice(), words[index])?;
+        let guess = guess_at(guesses, index);
+        let number = object_in_place(alloc, known, places[index].as_slice(), guess, words[index])?;
         objects.push(number)?;
     }
     Ok(objects)

@@ -4,7 +4,7 @@ use Rattle.plan_text.proofs.WalkSteps.{way_starts, way_goes_on, way_opens, way_r
 use Rattle.plan_text.proofs.walk.open_step.Goals as goal
 
 pub tokens-init : goal.tokens-init
-tokens-init c = way_starts c.args.text.now c.args.expected c.args.steps c.args.cursor.now c.requires.within c.requires.between
+tokens-init c = way_starts c.args.text.now c.args.expected c.args.steps c.args.cursor.now c.requires.within c.requires.rests
 
 pub returns-in-Ok-None : goal.returns-in-Ok-None
 returns-in-Ok-None c =

@@ -17,7 +17,7 @@ returns-in-Ok c =
       record {
         counted = refl;
         few = omega arith;
-        between = tt;
+        rests = tt;
         same = ap (plan_from c.args.text.now nothing_read) start ∙ plan_short c.args.text.now short;
       },
     )

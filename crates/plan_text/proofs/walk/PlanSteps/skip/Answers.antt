@@ -1,7 +1,7 @@
-use Rattle.std.proofs.Common.{◌<◌, List, ℕ, length, sym, ap, subst, arith}
+use Rattle.std.proofs.Common.{◌+◌, ◌<◌, List, ℕ, length, sym, ap, subst, arith}
 use Rattle.pddl_tokens.specs.Places.{AreWithin}
 use Rattle.pddl_tokens.proofs.NamesArePlain.{names_are_plain}
-use Rattle.plan_text.specs.Walks.{IsBetween}
+use Rattle.plan_text.specs.Walks.{RestsAt}
 use Rattle.plan_text.specs.declared.want.Expected.{Expected}
 use Rattle.plan_text.proofs.WholeSteps.{skips_group}
 use Rattle.plan_text.proofs.walk.PlanSteps.skip.Goals as goal
@@ -11,7 +11,7 @@ invariant_of-self c =
     let room : c.self.inside.count < 1000000 = subst (λ (count : ℕ). count < 1000000) (sym (ap (λ w. w.count) c.self.view_is)) c.requires.next.room in (
       c.self.invariant.0,
       subst (λ (text : List ℕ). AreWithin (length text) c.args.group.rest) (sym (ap (λ w. w.text) c.self.view_is)) (c.requires.next.within (names_are_plain c.args.group.key.now c.requires.spelled)),
-      subst (λ (e : Expected). IsBetween e.want) (sym c.then-self-inside.ensures) tt,
+      subst (λ (e : Expected). RestsAt e.want (c.self.inside.count + 1)) (sym c.then-self-inside.ensures) tt,
       omega (arith, room),
     )
 

@@ -1,0 +1,66 @@
+-- The number of a name that is known to stand at a place of a table.
+
+use Rattle.std.proofs.Common.{◌≡◌, ℕ, ◌+◌, zero, suc, Bool, true, false, not, ◌||◌, ◌&&◌, cond, List, [], ◌∷◌, Some, refl, ap, sym, ◌∙◌, arith, true≢false}
+use Rattle.std.proofs.lemmas.Slice.Eq.{bytes_eq-Decides}
+use Rattle.std.specs.List.{list_any, position_from, slice_get}
+use Rattle.std.specs.Map.{keys_of}
+use Rattle.std.specs.Str.{bytes_eq}
+use Rattle.pddl_words.specs.Words.{folded}
+use Rattle.strips_task.specs.Names.{number_named, are_distinct}
+
+-- a test that a name at some place passes is passed by one
+any_at : {V : Type 0} (p : List ℕ → Bool) (entries : List (List ℕ × V)) (place : ℕ) (name : List ℕ) (value : V) →
+    slice_get entries place ≡ Some (name, value) → p name ≡ true → list_any p (keys_of entries) ≡ true
+any_at p [] place name value h t = cc
+any_at {V} p ((key, v) ∷ entries) zero name value h t =
+    let same : ◌≡◌ {A = List ℕ × V} (key, v) (name, value) = cc in
+    ap (λ b. b || list_any p (keys_of entries)) (ap p (ap (λ (e : List ℕ × V). e.0) same) ∙ t)
+any_at p ((key, v) ∷ entries) (suc place) name value h t = by (p key) (any_at p entries place name value h t)
+  where
+    by : (b : Bool) → list_any p (keys_of entries) ≡ true → (b || list_any p (keys_of entries)) ≡ true
+    by true e = refl
+    by false e = e
+
+-- both parts of a test hold
+first_holds : (a b : Bool) → (not a && b) ≡ true → a ≡ false
+first_holds true b h = absurd (true≢false (sym h))
+first_holds false b h = refl
+
+second_holds : (a b : Bool) → (not a && b) ≡ true → b ≡ true
+second_holds true b h = absurd (true≢false (sym h))
+second_holds false b h = h
+
+-- the first entry with the name is the one at its place
+entry_numbered : {V : Type 0} (at : ℕ) (entries : List (List ℕ × V)) (place : ℕ) (name : List ℕ) (value : V) →
+    are_distinct (keys_of entries) ≡ true → slice_get entries place ≡ Some (name, value) →
+    position_from (bytes_eq name) at (keys_of entries) ≡ Some (at + place)
+unfolding are_distinct
+entry_numbered at [] place name value d h = cc
+entry_numbered {V} at ((key, v) ∷ entries) zero name value d h =
+    let same : ◌≡◌ {A = List ℕ × V} (key, v) (name, value) = cc in
+    let named : name ≡ key = sym (ap (λ (e : List ℕ × V). e.0) same) in
+    let here : at ≡ at + 0 = omega arith in
+    ap (λ b. cond b (Some at) (position_from (bytes_eq name) (at + 1) (keys_of entries))) ((bytes_eq-Decides name key).1 named) ∙ ap Some here
+entry_numbered {V} at ((key, v) ∷ entries) (suc place) name value d h =
+    let there : at + 1 + place ≡ at + suc place = omega arith in
+    let others : are_distinct (keys_of entries) ≡ true = second_holds (list_any (bytes_eq key) (keys_of entries)) (are_distinct (keys_of entries)) d in
+    by (bytes_eq name key) refl (entry_numbered (at + 1) entries place name value others h ∙ ap Some there)
+  where
+    apart : list_any (bytes_eq key) (keys_of entries) ≡ false
+    apart = first_holds (list_any (bytes_eq key) (keys_of entries)) (are_distinct (keys_of entries)) d
+
+    by : (b : Bool) → bytes_eq name key ≡ b → position_from (bytes_eq name) (at + 1) (keys_of entries) ≡ Some (at + suc place) →
+        cond (bytes_eq name key) (Some at) (position_from (bytes_eq name) (at + 1) (keys_of entries)) ≡ Some (at + suc place)
+    by true e rest =
+        let again : bytes_eq key name ≡ true = (bytes_eq-Decides key name).1 (sym ((bytes_eq-Decides name key).0 e)) in
+        absurd (true≢false (sym (any_at (bytes_eq key) entries place name value h again) ∙ apart))
+    by false e rest = ap (λ b. cond b (Some at) (position_from (bytes_eq name) (at + 1) (keys_of entries))) e ∙ rest
+
+-- distinct names have the numbers of their places
+pub number_at : {V : Type 0} (table : List (List ℕ × V)) (number : ℕ) (name word : List ℕ) (value : V) → are_distinct (keys_of table) ≡ true →
+    slice_get table number ≡ Some (name, value) → folded name ≡ name → name ≡ word → number_named table (folded word) ≡ Some number
+unfolding number_named
+number_at table number name word value d h lower same =
+    ap (λ n. position_from (bytes_eq n) 0 (keys_of table)) (ap folded (sym same) ∙ lower) ∙ entry_numbered 0 table number name value d h ∙ ap Some (omega arith)
+
+pub ruleset named_steps = (number_at)

@@ -1,0 +1,71 @@
+//! Hints at which object has a name, by a hash of the name.
+//!
+//! The table of objects finds a name by two looks at memory, of which the second waits for the first, and compares it. A hint is one look at
+//! a table that is a tenth of that size, and compares nothing: of names whose hashes end alike, only the last has its hint. So hints of
+//! many names can be taken at once, and then the objects be looked at, all at once too.
+
+use crate::resolution::guesses::NO_GUESS;
+use std::alloc::{AllocError, Global};
+use std::hash::{BuildHasher, Hasher};
+use strips_task::{NameTable, Seed};
+
+/// Hints at objects.
+#[derive(Drop)]
+pub(crate) struct Hints {
+    seed: Seed,
+    /// One less than the number of hints, which is a power of two.
+    mask: usize,
+    numbers: Vec<u16>,
+}
+
+/// How many hints there are for so many objects: several for each, so that few names share one.
+fn hints_for(objects: usize) -> usize {
+    if objects <= 1_000 {
+        4_096
+    } else if objects <= 16_000 {
+        65_536
+    } else {
+        262_144
+    }
+}
+
+impl Hints {
+    /// Hints at these objects.
+    pub(crate) fn new(alloc: Global, objects: &NameTable<u16>) -> Result<Self, AllocError> {
+        let count = hints_for(objects.len());
+        let mut hints = Hints {
+            seed: objects.seed(),
+            mask: count.saturating_sub(1),
+            numbers: Vec::from_elem(alloc, 0, count)?,
+        };
+        'objects: for number in 0..objects.len() {
+            hints.set(objects.get(number).0.as_bytes(), number);
+        }
+        Ok(hints)
+    }
+
+    /// The place of the hint for a word.
+    fn place(&self, word: &[u8]) -> usize {
+        let mut hasher = self.seed.build_hasher();
+        hasher.write(word);
+        hasher.finish() as usize & self.mask
+    }
+
+    /// Lets a word hint at an object.
+    fn set(&mut self, word: &[u8], object: usize) {
+        let place = self.place(word);
+        if let Ok(number) = u16::try_from(object) {
+            if let Some(hint) = self.numbers.as_mut_slice().get_mut(place) {
+                *hint = number;
+            }
+        }
+    }
+
+    /// The object that a word hints at.
+    pub(crate) fn guess(&self, word: &[u8]) -> usize {
+        match self.numbers.as_slice().get(self.place(word)) {
+            Some(number) => usize::from(*number),
+            None => NO_GUESS,
+        }
+    }
+}

@@ -1,0 +1,113 @@
+//! What single bytes mean to the check of parentheses.
+
+ghost use Rattle.std.specs.Prelude.{◌≡◌, ◌+◌, ◌<◌, ◌≤◌, ℕ, true, length, slice_index};
+ghost use Rattle.std.specs.List.{prefix_len};
+ghost use Rattle.pddl_tokens.specs.Bytes.{is_comment_byte};
+ghost use Rattle.pddl_tokens.specs.Front.{pieces_at};
+ghost use Rattle.pddl_syntax.specs.Marks.{mark_of};
+ghost use Rattle.pddl_syntax.specs.Trees.{fault_from};
+
+/// What a byte outside comments means to the check of parentheses.
+#[derive(Clone, Copy, Debug, PartialEq, Eq)]
+pub(crate) enum Mark {
+    /// A blank, or a byte of a word.
+    Plain,
+    Left,
+    Right,
+    Semicolon,
+    Bad,
+}
+
+// The marks by one letter each, for the table.
+const P: Mark = Mark::Plain;
+
+const L: Mark = Mark::Left;
+
+const R: Mark = Mark::Right;
+
+const S: Mark = Mark::Semicolon;
+
+const X: Mark = Mark::Bad;
+
+/// The mark of each byte, sixteen bytes to a row.
+#[rattlefmt::skip]
+static MARKS: [Mark; 256] = [
+    X, X, X, X, X, X, X, X, X, P, P, P, P, P, X, X,
+    X, X, X, X, X, X, X, X, X, X, X, X, X, X, X, X,
+    P, P, P, P, P, P, P, P, L, R, P, P, P, P, P, P,
+    P, P, P, P, P, P, P, P, P, P, P, S, P, P, P, P,
+    P, P, P, P, P, P, P, P, P, P, P, P, P, P, P, P,
+    P, P, P, P, P, P, P, P, P, P, P, P, P, P, P, P,
+    P, P, P, P, P, P, P, P, P, P, P, P, P, P, P, P,
+    P, P, P, P, P, P, P, P, P, P, P, P, P, P, P, X,
+    X, X, X, X, X, X, X, X, X, X, X, X, X, X, X, X,
+    X, X, X, X, X, X, X, X, X, X, X, X, X, X, X, X,
+    X, X, X, X, X, X, X, X, X, X, X, X, X, X, X, X,
+    X, X, X, X, X, X, X, X, X, X, X, X, X, X, X, X,
+    X, X, X, X, X, X, X, X, X, X, X, X, X, X, X, X,
+    X, X, X, X, X, X, X, X, X, X, X, X, X, X, X, X,
+    X, X, X, X, X, X, X, X, X, X, X, X, X, X, X, X,
+    X, X, X, X, X, X, X, X, X, X, X, X, X, X, X, X,
+];
+
+/// The mark of a byte.
+pub(crate) fn mark_of(b: u8) -> Mark
+    ensures { result ≡ mark_of b }
+{
+    MARKS[b as usize]
+}
+
+/// Whether a byte is plain.
+fn is_plain(b: u8) -> bool
+    ensures { result ≡ true → mark_of b ≡ Mark.Plain }
+{
+    match mark_of(b) {
+        Mark::Plain => true,
+        _ => false,
+    }
+}
+
+/// The place behind the plain bytes that begin at one. They change no fault.
+pub(crate) fn plain_end(text: &[u8], at: usize) -> usize
+    requires within { at < length text.now }
+    requires begins { mark_of (slice_index text.now at) ≡ Mark.Plain }
+    ensures same { (last depth : ℕ) → fault_from last depth (pieces_at text.now result) ≡ fault_from last depth (pieces_at text.now at) }
+    ensures further { at < result }
+    ensures within { result ≤ length text.now }
+{
+    let mut end = at + 1;
+    'plain: while end < text.len() {
+        if !is_plain(text[end]) {
+            return end;
+        }
+        end += 1;
+    }
+    end
+}
+
+/// Whether a comment goes on with this byte.
+#[tactic(auto, using(crate::proofs::MarkSteps::comment_byte_is))]
+fn is_comment_byte(b: u8) -> bool
+    ensures { result ≡ is_comment_byte b }
+{
+    b != b'\n'
+}
+
+/// How many bytes at the front stand before the first LF.
+fn comment_run(bytes: &[u8]) -> usize
+    ensures run { result ≡ prefix_len is_comment_byte bytes.now }
+    ensures within { result ≤ length bytes.now }
+{
+    bytes.iter().take_while(|b| is_comment_byte(**b)).count()
+}
+
+/// The place behind the comment that begins at a `;`.
+pub(crate) fn comment_end(text: &[u8], at: usize) -> usize
+    requires within { at < length text.now }
+    requires begins { mark_of (slice_index text.now at) ≡ Mark.Semicolon }
+    ensures same { pieces_at text.now result ≡ pieces_at text.now at }
+    ensures further { at < result }
+    ensures within { result ≤ length text.now }
+{
+    at + comment_run(&text[at..])
+}

@@ -1,0 +1,5 @@
+(define (problem doors-1)
+  (:domain doors)
+  (:objects front back)
+  (:init (shut front) (shut back))
+  (:goal (open front)))
