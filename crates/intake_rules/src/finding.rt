@@ -9,7 +9,7 @@ use plan_cost::{Assessment, CompactCost, CostedTask, assess};
 use std::alloc::{AllocError, Global};
 use strips_judge::Verdict;
 use submitted_plan::{Form, SubmittedPlan};
-use text_judge::TextJudge;
+use text_judge::{MOST_JUDGES, TextJudge};
 
 /// What was found of a job.
 #[derive(Drop)]
@@ -29,7 +29,7 @@ impl Finding {
         ensures right { IfOk result (λ finding. IsRight task.now finding) }
         ensures job { IfOk result (λ finding. finding.job ≡ job.now) }
     {
-        let mut judge = TextJudge::new(alloc, task)?;
+        let mut judge = TextJudge::new(alloc, task, MOST_JUDGES)?;
         Finding::judge_by(alloc, &mut judge, job)
     }
 

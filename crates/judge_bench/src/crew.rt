@@ -5,7 +5,8 @@ ghost use Rattle.judge_bench.specs.Keeping.{with_all_joined, with_all_out, with_
 ghost use Rattle.judge_bench.specs.Seats.{SitsAt};
 ghost use Rattle.judge_bench.specs.Workers.{AllWorkAt, CameBack, first_held};
 
-use crate::{Bench, Ended, Gate, Owner, WorkFault, WorkerSeat, work};
+use crate::working::work_among;
+use crate::{Bench, Ended, Gate, Owner, WorkFault, WorkerSeat};
 use plan_cost::CostedTask;
 use std::alloc::Global;
 use std::snapshot::Snapshot;
@@ -59,6 +60,7 @@ pub(crate) fn start_all<'s, E, G: Gate + Sync>(
     ensures count { OnOk result (length crew.new.items ≡ workers) }
     ensures view { OnOk result (owner.new.view ≡ with_all_out owner.old.view workers) }
 {
+    let judges = workers + 1;
     for _ in 0..workers {
         let seat = owner.seat(bench);
         let promise = WorksAt {
@@ -67,7 +69,7 @@ pub(crate) fn start_all<'s, E, G: Gate + Sync>(
         };
         let Ok(child) = scope.spawn_with(
             promise,
-            move || whole_work(alloc, bench, seat, task, gate),
+            move || whole_work(alloc, bench, seat, task, gate, judges),
         ) else {
             return Err(NoThread);
         };
@@ -76,22 +78,23 @@ pub(crate) fn start_all<'s, E, G: Gate + Sync>(
     Ok(())
 }
 
-/// A worker's turn at a bench from its first job on.
+/// A worker's turn at a bench from its first job on, as one of so many that judge.
 fn whole_work<G: Gate>(
     alloc: Global,
     bench: &Bench,
     seat: WorkerSeat,
     task: &CostedTask,
     gate: &G,
+    judges: u32,
 ) -> Ended
     requires seat { SitsAt bench.now seat × (seat.view ≡ worker_view (Some bench.now.setting)) }
     requires task { bench.now.setting.task.value ≡ task.now }
     ensures { CameBack bench.now (G.may_hold gate.now) result }
 {
-    work(alloc, bench, seat, task, gate, IDLE_ROUNDS)
+    work_among(alloc, bench, seat, task, gate, IDLE_ROUNDS, judges)
 }
 
-/// The owner's thread works as the others do, with a seat of its own, until it finds no job that waits and the bench is shut. Answers the job for which it
+/// The owner's thread works as the others do, one of so many, with a seat of its own, until it finds no job that waits and the bench is shut. Answers the job for which it
 /// ended, if the gate held one.
 pub(crate) fn take_part<G: Gate>(
     alloc: Global,
@@ -99,6 +102,7 @@ pub(crate) fn take_part<G: Gate>(
     owner: &mut Owner,
     task: &CostedTask,
     gate: &G,
+    judges: u32,
 ) -> Option<u32>
     requires seat { SitsAt bench.now owner.old }
     requires few { owner.old.view.seats_out < 1024 }
@@ -108,7 +112,7 @@ pub(crate) fn take_part<G: Gate>(
     ensures held { IfSome result (G.may_hold gate.now) }
 {
     let seat = owner.seat(bench);
-    let Ended { seat, refused } = whole_work(alloc, bench, seat, task, gate);
+    let Ended { seat, refused } = whole_work(alloc, bench, seat, task, gate, judges);
     owner.hand_in(bench, seat);
     first_held(None, refused)
 }

@@ -12,7 +12,7 @@ use crate::{Bench, Findings, Intake, Owner, Submission, Ticket};
 use intake_rules::Finding;
 use plan_cost::CostedTask;
 use std::alloc::{AllocError, Global};
-use text_judge::TextJudge;
+use text_judge::{MOST_JUDGES, TextJudge};
 
 /// The owner of a bench, and the findings that it emitted.
 #[derive(Drop)]
@@ -149,7 +149,7 @@ fn judge_left(
     ensures view { OnOk result ((more : List ℕ) × (owner.new.view ≡ with_more_finished owner.old.view more)) }
     ensures none_waits { OnOk result (NoneWaits owner.new.view) }
 {
-    let mut judge = TextJudge::new(alloc, task)?;
+    let mut judge = TextJudge::new(alloc, task, MOST_JUDGES)?;
     judge_rest(alloc, bench, owner, &mut judge)
 }
 

@@ -180,7 +180,8 @@ fn see_through<R: Threads, G: Gate + Sync>(
     ensures held { IfErr result (λ fault. (job : ℕ) → fault ≡ Held job → G.may_hold gate.now job) }
 {
     keeper.owner.shut(bench);
-    let own = take_part(alloc, bench, &mut keeper.owner, task, gate);
+    let judges = crew.len() as u32 + 1;
+    let own = take_part(alloc, bench, &mut keeper.owner, task, gate, judges);
     let others = join_all(rt, crew, bench, &mut keeper.owner, gate);
     match others.or(own) {
         Some(job) => Err(RunFault::Held(job)),

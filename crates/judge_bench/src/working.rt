@@ -10,7 +10,7 @@ use intake_rules::Finding;
 use plan_cost::CostedTask;
 use std::alloc::{AllocError, Global};
 use std::{hint, thread};
-use text_judge::TextJudge;
+use text_judge::{MOST_JUDGES, TextJudge};
 
 /// How often a worker yields at most before it looks for a job again: together some tens of microseconds on a machine that has nothing else to do.
 const MOST_YIELDS: u32 = 32;
@@ -53,7 +53,26 @@ pub fn work<G: Gate>(
     ensures seat { SitsAt bench.now result.seat }
     ensures worked { Worked (G.may_hold gate.now) bench.now.setting.slots idle seat.view result.seat.view result.refused }
 {
-    match TextJudge::new(alloc, task) {
+    work_among(alloc, bench, seat, task, gate, idle, MOST_JUDGES)
+}
+
+/// Works as [`work`] says, with a judge of its own that is one of so many.
+pub(crate) fn work_among<G: Gate>(
+    alloc: Global,
+    bench: &Bench,
+    seat: WorkerSeat,
+    task: &CostedTask,
+    gate: &G,
+    idle: u32,
+    judges: u32,
+) -> Ended
+    requires seat { SitsAt bench.now seat }
+    requires task { bench.now.setting.task.value ≡ task.now }
+    requires idle { 1 ≤ idle }
+    ensures seat { SitsAt bench.now result.seat }
+    ensures worked { Worked (G.may_hold gate.now) bench.now.setting.slots idle seat.view result.seat.view result.refused }
+{
+    match TextJudge::new(alloc, task, judges) {
         Ok(mut judge) => work_by(alloc, bench, seat, &mut judge, gate, idle),
         Err(AllocError) => Ended {
             seat,

@@ -9,13 +9,13 @@ use Rattle.strips_task.specs.declared.atoms.GroundFormula.{GroundFormula}
 use Rattle.strips_task.specs.declared.atoms.GroundFormula.TheVariants as asked
 use Rattle.strips_task.specs.declared.atoms.GroundCond.{GroundCond}
 use Rattle.strips_task.specs.declared.plans.Plan.{Plan}
-use Rattle.strips_task.specs.declared.plans.Plan.TheVariants.{Steps, Unreadable}
 use Rattle.strips_task.specs.declared.steps.StepText.{StepText}
 use Rattle.strips_task.specs.declared.tasks.TaskParts.{TaskParts}
 use Rattle.strips_judge.specs.declared.verdict.Verdict.{Verdict}
 use Rattle.strips_judge.specs.declared.verdict.Verdict.TheVariants.{Valid, Fails, Goal, Unreadable as Unread}
 use Rattle.strips_judge.specs.declared.verdict.Why.{Why}
 use Rattle.strips_judge.specs.declared.verdict.Why.TheVariants.{UnknownAction, WrongCount, UnknownObject, WrongType, Missing}
+use Rattle.plan_text.specs.StepAt.{step_at}
 use Rattle.plan_cost.specs.declared.costs.Cost.{Cost}
 use Rattle.plan_cost.specs.declared.costs.Cost.TheVariants.{NotCounted, Undefined, Billionths}
 use Rattle.plan_cost.specs.declared.costs.CostedTask.{CostedTask}
@@ -63,11 +63,6 @@ why_text task step (UnknownObject arg) = codes "unknown object " ++ name_at step
 why_text task step (WrongType arg) = name_at step.args (arg - 1) ++ codes " has the wrong type"
 why_text task step (Missing conds) = codes "missing" ++ conditions_text task conds
 
--- the steps of a plan
-abbrev pub steps_of : Plan → List StepText
-steps_of (Steps steps) = steps
-steps_of (Unreadable line) = []
-
 -- a failing step and what is wrong with it
 abbrev pub failure_text : TaskParts → Option StepText → Why → List ℕ
 failure_text task None why = []
@@ -77,7 +72,7 @@ failure_text task (Some step) why = codes " " ++ step_text step ++ codes ": " ++
 abbrev pub verdict_text : TaskParts → Plan → Verdict → List ℕ
 verdict_text task plan (Valid steps) = codes "valid " ++ decimal steps
 verdict_text task plan (Fails number why) =
-    codes "fails at " ++ decimal number ++ failure_text task (slice_get (steps_of plan) (number - 1)) why
+    codes "fails at " ++ decimal number ++ failure_text task (step_at plan (number - 1)) why
 verdict_text task plan (Goal conds) = codes "goal missing" ++ conditions_text task conds
 verdict_text task plan (Unread line) = codes "unreadable line " ++ decimal line
 

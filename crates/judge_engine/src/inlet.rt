@@ -110,7 +110,25 @@ pub fn read_file<I: Inlet>(alloc: Global, inlet: &mut I) -> Result<Vec<u8>, InFa
     ensures given { IfOk result (λ bytes. Consumes (I.left inlet.old) (I.left inlet.new) bytes.items) }
     ensures ended { IfOk result (λ bytes. length bytes.items ≤ FILE_LIMIT → IsAtEnd (I.left inlet.new)) }
 {
-    let mut bytes = Vec::new(alloc);
+    read_expected(alloc, inlet, 0)
+}
+
+/// The same, where so many bytes are expected: memory for them is taken at once. More or fewer may come.
+fn read_expected<I: Inlet>(
+    alloc: Global,
+    inlet: &mut I,
+    expected: usize,
+) -> Result<Vec<u8>, InFault>
+    requires { I.failed inlet.old ≡ false }
+    ensures limit { IfOk result (λ bytes. length bytes.items ≤ FILE_LIMIT + 1) }
+    ensures text { IfOk result (λ bytes. IfSome (I.left inlet.old) (λ all. bytes.items ≡ take (FILE_LIMIT + 1) all)) }
+    ensures failure { (result ≡ Err InFault.Unreadable) ↔ (I.failed inlet.new ≡ true) }
+    ensures given { IfOk result (λ bytes. Consumes (I.left inlet.old) (I.left inlet.new) bytes.items) }
+    ensures ended { IfOk result (λ bytes. length bytes.items ≤ FILE_LIMIT → IsAtEnd (I.left inlet.new)) }
+{
+    let Ok(mut bytes) = Vec::with_capacity(alloc, expected.min(FILE_LIMIT + 1)) else {
+        return Err(InFault::OutOfMemory);
+    };
     let mut piece = [0u8; PIECE];
     'pieces: while bytes.len() <= FILE_LIMIT {
         let room = (FILE_LIMIT + 1 - bytes.len()).min(PIECE);
@@ -148,6 +166,10 @@ impl<R: std::rt::Files + AllocGlobal> Sources for Files<'_, R> {
         let Ok(file) = fs::open(self.runtime, name) else {
             return Err(InFault::Unreadable);
         };
-        read_file(self.runtime.alloc(), &mut Feed::new(file))
+        let expected = match fs::metadata(self.runtime, name) {
+            Ok(metadata) => usize::try_from(metadata.len()).unwrap_or(0),
+            Err(_) => 0,
+        };
+        read_expected(self.runtime.alloc(), &mut Feed::new(file), expected)
     }
 }

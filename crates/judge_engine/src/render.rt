@@ -1,19 +1,21 @@
 //! The text of atoms, steps, verdicts and findings, as reports show them.
 //!
 //! Each function adds its piece behind the text that is there. Names come from the task, by number.
-ghost use Rattle.std.specs.Prelude.{◌≡◌, ◌++◌, ◌∷◌, ℕ, List, ◌-◌, OnOk, map, slice_get};
+ghost use Rattle.std.specs.Prelude.{◌≡◌, ◌++◌, ◌∷◌, ℕ, List, ◌-◌, OnOk, Some, map};
+ghost use Rattle.plan_text.specs.PlanReading.{plan_of};
+ghost use Rattle.plan_text.specs.StepAt.{step_at};
 ghost use Rattle.std.specs.Map.{keys_of};
-ghost use Rattle.judge_engine.specs.Report.{name_at, spaced, atom_text, formula_text, condition_text, conditions_text, step_text, why_text, failure_text, steps_of, verdict_text, judged_text};
+ghost use Rattle.judge_engine.specs.Report.{name_at, spaced, atom_text, formula_text, condition_text, conditions_text, step_text, why_text, failure_text, verdict_text, judged_text};
 ghost use Rattle.judge_engine.specs.Plans.{as_judged};
 ghost use Rattle.strips_task.specs.StepView.{step_shown};
 
 use crate::costs::push_cost;
 use crate::text::Text;
 use intake_rules::Finding;
-use plan_text::read_plan;
+use plan_text::read_step_at;
 use std::alloc::AllocError;
 use strips_judge::{Verdict, Why};
-use strips_task::{Atom, GroundCond, GroundFormula, Plan, StepList, StepView, Task};
+use strips_task::{Atom, GroundCond, GroundFormula, OpenSteps, Plan, StepView, Task};
 use submitted_plan::{Form, SubmittedPlan};
 
 /// Adds the name of the object with a number; a number that no object has adds nothing.
@@ -152,29 +154,18 @@ fn push_why(text: &mut Text, task: &Task, step: &StepView, why: &Why) -> Result<
     }
 }
 
-/// Adds the failing step with a number, counted from 1, and what is wrong with it; a number that no step has adds nothing.
-fn push_failure(
-    text: &mut Text,
-    task: &Task,
-    steps: &StepList,
-    number: u32,
-    why: &Why,
-) -> Result<(), AllocError>
-    ensures { OnOk result (text.new ≡ text.old ++ failure_text task.now (slice_get steps.now (number - 1)) why.now) }
+/// Adds a failing step, and what is wrong with it.
+fn push_failure(text: &mut Text, task: &Task, step: &StepView, why: &Why) -> Result<(), AllocError>
+    ensures { OnOk result (text.new ≡ text.old ++ failure_text task.now (Some (step_shown step.now)) why.now) }
 {
-    let place = number.saturating_sub(1) as usize;
-    if place >= steps.len() {
-        return Ok(());
-    }
-    let step = steps.get(place);
     text.push(b" ")?;
-    push_step(text, &step)?;
+    push_step(text, step)?;
     text.push(b": ")?;
-    push_why(text, task, &step, why)?;
+    push_why(text, task, step, why)?;
     Ok(())
 }
 
-/// Adds the failing step of a plan with a number, as above. A plan that is kept as its text is read again: only plans that fail are.
+/// Adds the failing step of a plan with a number, counted from 1, and what is wrong with it; a number that no step has adds nothing.
 fn push_failing_step(
     text: &mut Text,
     task: &Task,
@@ -182,31 +173,48 @@ fn push_failing_step(
     number: u32,
     why: &Why,
 ) -> Result<(), AllocError>
-    ensures { OnOk result (text.new ≡ text.old ++ failure_text task.now (slice_get (steps_of plan.now) (number - 1)) why.now) }
+    ensures { OnOk result (text.new ≡ text.old ++ failure_text task.now (step_at plan.now (number - 1)) why.now) }
 {
+    let place = number.saturating_sub(1) as usize;
     match plan.form() {
-        Form::Read(plan) => push_failing_step_of(text, task, plan, number, why),
-        Form::Text(bytes) => {
-            let plan = read_plan(text.alloc(), bytes)?;
-            push_failing_step_of(text, task, &plan, number, why)
-        }
+        Form::Read(plan) => push_failure_of_plan(text, task, plan, place, why),
+        Form::Text(bytes) => push_failure_of_text(text, task, bytes, place, why),
     }
 }
 
-/// The same of a plan that is read.
-fn push_failing_step_of(
+/// Adds the failing step at a place of a plan that is read, as above.
+fn push_failure_of_plan(
     text: &mut Text,
     task: &Task,
     plan: &Plan,
-    number: u32,
+    place: usize,
     why: &Why,
 ) -> Result<(), AllocError>
-    ensures { OnOk result (text.new ≡ text.old ++ failure_text task.now (slice_get (steps_of plan.now) (number - 1)) why.now) }
+    ensures { OnOk result (text.new ≡ text.old ++ failure_text task.now (step_at plan.now place) why.now) }
 {
     match plan {
-        Plan::Steps(steps) => push_failure(text, task, steps, number, why),
-        Plan::Unreadable { line: _ } => Ok(()),
+        Plan::Steps(steps) if place < steps.len() => {
+            push_failure(text, task, &steps.get(place), why)
+        }
+        _ => Ok(()),
     }
+}
+
+/// Adds the failing step at a place of a plan that is kept as its text, as above. The text is read once more, which only happens to plans that fail.
+fn push_failure_of_text(
+    text: &mut Text,
+    task: &Task,
+    bytes: &[u8],
+    place: usize,
+    why: &Why,
+) -> Result<(), AllocError>
+    ensures { OnOk result (text.new ≡ text.old ++ failure_text task.now (step_at (plan_of bytes.now) place) why.now) }
+{
+    let mut step = OpenSteps::new(text.alloc());
+    if read_step_at(bytes, place, &mut step)? {
+        push_failure(text, task, &step.get(0), why)?;
+    }
+    Ok(())
 }
 
 /// Adds what is found about a plan: its verdict, and its cost if it is valid and costs are counted.

@@ -11,5 +11,6 @@ mod PlanLaws
 mod OnlyPlan
 mod WholeSteps
 mod WalkSteps
+mod StepFinds
 mod Extensions
 mod Comparisons

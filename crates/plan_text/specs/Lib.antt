@@ -8,4 +8,5 @@ pub mod MarkedNumbers
 pub mod Wants
 pub mod Walks
 pub mod WalkFinds
+pub mod StepAt
 pub mod Faults

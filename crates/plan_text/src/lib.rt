@@ -39,6 +39,7 @@ pub mod laws;
 mod marked;
 mod parts;
 mod read;
+mod step_at;
 mod walk;
 mod want;
 
@@ -46,4 +47,5 @@ pub use compare::{is_plan_of, same_plans};
 pub use parts::{PartPlace, Parts, part_from};
 pub use pddl_tokens::Group;
 pub use read::read_plan;
+pub use step_at::read_step_at;
 pub use walk::{PlanSteps, StepWords, TextStep};

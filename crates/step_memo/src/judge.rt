@@ -15,6 +15,7 @@ ghost use Rattle.step_memo.specs.Judging.{HasTaken};
 
 use crate::amounts::{added, amount_of, cost_beside, initial_of};
 use crate::memo::Memo;
+use crate::room::Room;
 use crate::steps::take_found;
 use crate::usage::Usage;
 use plan_cost::{Assessment, CostScratch, CostedTask};
@@ -57,8 +58,9 @@ impl<'t> Model for Judge<'t> {
 }
 
 impl<'t> Judge<'t> {
-    /// A judge of a task that has seen no step, at the begin of a plan. Takes memory for one bit for each initial atom.
-    pub fn new(alloc: Global, task: &'t CostedTask) -> Result<Judge<'t>, AllocError>
+    /// A judge of a task that has seen no step, at the begin of a plan: one of so many that share the room for known steps. Takes memory for one
+    /// bit for each initial atom.
+    pub fn new(alloc: Global, task: &'t CostedTask, judges: u32) -> Result<Judge<'t>, AllocError>
         ensures task { IfOk result (λ judge. judge.task ≡ task.now) }
         ensures begun { IfOk result (λ judge. HasTaken judge []) }
     {
@@ -67,7 +69,7 @@ impl<'t> Judge<'t> {
         Ok(Judge {
             task,
             state,
-            memo: Memo::new(alloc, initial.seed()),
+            memo: Memo::new(alloc, initial.seed(), Room::of_each(judges)),
             code: CodeBuffer::new(alloc),
             scratch: Scratch::new(alloc),
             cost_scratch: CostScratch::new(alloc),

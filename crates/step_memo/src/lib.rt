@@ -6,7 +6,7 @@
 //! depend on what is known.
 //!
 //! ```text
-//! let mut judge = Judge::new(alloc, &task)?;
+//! let mut judge = Judge::new(alloc, &task, judges)?;       // one of so many
 //! judge.begin(alloc)?;                                    // for each plan
 //! if !judge.take_known(b"move a b") {                     // for each step: by its bytes
 //!     let why = judge.take(alloc, step, Some(key))?;      // or by its words, and learned
@@ -18,8 +18,9 @@
 //! not costs a hash for each of its words and atoms, as without a memory. A step with a fault, an equality that does not hold, or an
 //! undefined amount has no code and is never known.
 //!
-//! Memory is taken as steps are learned, up to [`MOST_CODES`] steps, [`MOST_NUMBERS`] numbers of their codes and [`MOST_KEY_BYTES`] bytes of
-//! keys: about 1 MiB a judge, beside the atoms that have numbers. What has no room is judged as without a memory. Codes are forgotten, with
+//! Memory is taken as steps are learned. All judges of a run share a room of [`ALL_CODES`] steps, [`ALL_NUMBERS`] numbers of their codes and
+//! [`ALL_KEY_BYTES`] bytes of keys: each may take an equal part, of 13 MiB at most and of less than 2 MiB where there are 32 judges, beside the
+//! atoms that have numbers. What has no room is judged as without a memory. Codes are forgotten, with
 //! the numbers that they speak of, at the begin of a plan once more than [`MOST_LATER`] atoms beside the initial ones have numbers. Where
 //! hardly any step is found the memory rests for some plans.
 #![tactic(auto)]
@@ -27,8 +28,9 @@
 mod amounts;
 mod judge;
 mod memo;
+mod room;
 mod steps;
 mod usage;
 
 pub use judge::{Judge, MOST_LATER};
-pub use memo::{MOST_CODES, MOST_KEY_BYTES, MOST_NUMBERS};
+pub use room::{ALL_CODES, ALL_KEY_BYTES, ALL_NUMBERS, MOST_JUDGES};

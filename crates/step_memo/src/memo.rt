@@ -7,20 +7,12 @@ ghost use Rattle.std.specs.Prelude.{◌≡◌, ◌+◌, ◌<◌, ◌≤◌, ◌^
 ghost use Rattle.strips_judge.specs.Codes.{code_shown};
 ghost use Rattle.step_memo.specs.Known.{known_at, IsEntry, IsEntryFor};
 
+use crate::room::Room;
 use std::alloc::{AllocError, Global};
 use std::hash::{BuildHasher, Hasher};
 use std::marker::Model;
 use strips_judge::StepCode;
 use strips_task::Seed;
-
-/// How many steps are kept at most. Each takes 48 bytes beside its key and its code, and up to 8 for its place.
-pub const MOST_CODES: usize = 8_192;
-
-/// How many numbers all codes have at most, of four bytes each.
-pub const MOST_NUMBERS: usize = 64_000;
-
-/// How many bytes all keys have at most.
-pub const MOST_KEY_BYTES: usize = 393_216;
 
 /// With how many places a table begins.
 const FIRST_PLACES: usize = 64;
@@ -53,6 +45,7 @@ pub(crate) struct KnownStep<'m> {
 #[derive(Drop)]
 pub(crate) struct Memo {
     seed: Seed,
+    room: Room,
     /// All keys.
     bytes: Vec<u8>,
     /// All codes.
@@ -75,11 +68,12 @@ impl Model for Memo {
 
 impl Memo {
     /// No step is known. Takes no memory.
-    pub(crate) fn new(alloc: Global, seed: Seed) -> Self
+    pub(crate) fn new(alloc: Global, seed: Seed, room: Room) -> Self
         ensures { result ≡ [] }
     {
         Memo {
             seed,
+            room,
             bytes: Vec::new(alloc),
             numbers: Vec::new(alloc),
             entries: Vec::new(alloc),
@@ -129,10 +123,11 @@ impl Memo {
             code,
             self.bytes.len(),
             self.numbers.len(),
+            self.room,
         ) else {
             return Ok(false);
         };
-        if self.entries.len() >= MOST_CODES {
+        if self.entries.len() >= self.room.codes {
             return Ok(false);
         }
         self.bytes.reserve(key.len())?;
@@ -219,24 +214,25 @@ fn entry_for(
     code: StepCode<'_>,
     bytes: usize,
     numbers: usize,
+    room: Room,
 ) -> Option<Entry>
     ensures { IfSome result (λ entry. IsEntryFor entry bytes numbers key.now (code_shown code.entry) amount) }
 {
-    let key_start = end_of(0, bytes, MOST_KEY_BYTES)?;
-    let start = end_of(0, numbers, MOST_NUMBERS)?;
-    let needed_end = end_of(start, code.needed.len(), MOST_NUMBERS)?;
-    let forbidden_end = end_of(needed_end, code.forbidden.len(), MOST_NUMBERS)?;
-    let deleted_end = end_of(forbidden_end, code.deleted.len(), MOST_NUMBERS)?;
+    let key_start = end_of(0, bytes, room.key_bytes)?;
+    let start = end_of(0, numbers, room.numbers)?;
+    let needed_end = end_of(start, code.needed.len(), room.numbers)?;
+    let forbidden_end = end_of(needed_end, code.forbidden.len(), room.numbers)?;
+    let deleted_end = end_of(forbidden_end, code.deleted.len(), room.numbers)?;
     Some(Entry {
         hash,
         amount,
         key_start,
-        key_end: end_of(key_start, key.len(), MOST_KEY_BYTES)?,
+        key_end: end_of(key_start, key.len(), room.key_bytes)?,
         start,
         needed_end,
         forbidden_end,
         deleted_end,
-        end: end_of(deleted_end, code.added.len(), MOST_NUMBERS)?,
+        end: end_of(deleted_end, code.added.len(), room.numbers)?,
     })
 }
 
@@ -255,7 +251,7 @@ fn end_of(start: u32, len: usize, most: usize) -> Option<u32>
 
 /// Makes the table of places at least twice as long as one that is to hold one entry more.
 fn make_places(places: &mut Vec<u32>, entries: &[Entry]) -> Result<(), AllocError>
-    requires { length entries.now < MOST_CODES }
+    requires { length entries.now < 2 ^ 32 }
 {
     if places.len() / 2 > entries.len() {
         return Ok(());

@@ -4,7 +4,7 @@
 const TRIAL: u32 = 16_384;
 
 /// Of so many look-ups one has to find a step.
-const WORTH: u32 = 8;
+const WORTH: u32 = 4;
 
 /// For how many plans nobody asks where they are not.
 const REST: u32 = 16;

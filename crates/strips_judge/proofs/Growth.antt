@@ -1,12 +1,15 @@
 -- The numbering grows: atoms that have numbers keep them, and a new one comes behind all others.
 
 use Rattle.std.proofs.Common.{◌≡◌, ◌≤◌, ◌<◌, ◌^◌, ◌*◌, ◌+◌, ltb, ℕ, List, [], ◌∷◌, ◌++◌, Some, None, refl, ap, sym, ◌∙◌, length, arith, append-nil, append_assoc, length-append}
+use Rattle.std.specs.Prelude.{All}
 use Rattle.std.proofs.lemmas.Bool.{le-ltb}
 use Rattle.bit_rows.specs.Rows.{row_has}
 use Rattle.indexmap.specs.IndexSet.{insert_key}
 use Rattle.strips_task.specs.Atom.{atom_eq}
 use Rattle.strips_task.specs.declared.atoms.Atom.{Atom}
 use Rattle.strips_judge.specs.Numbers.{number_in}
+use Rattle.strips_judge.specs.declared.recent.Slot.{Slot}
+use Rattle.strips_judge.specs.Recent.{IsRecent}
 use Rattle.strips_judge.specs.Numbered.{Numbered, KeepsNumbers, Grows, IsRowFor}
 use Rattle.strips_judge.proofs.Numbering.{number_in-first, number_in-none_later, number_in-lt, insert_key-new}
 
@@ -60,4 +63,21 @@ row_for_first first later count old bits kept is long of_bits =
       room = omega (arith, kept.room, long);
       clear = λ k le. of_bits k ∙ le-ltb k count (omega (arith, all, le, is));
       countable = kept.countable;
+    }
+
+-- what was looked up of late has the same number still
+pub recent_kept : (old new : List Atom) (slots : List Slot) → KeepsNumbers old new → All (IsRecent old) slots → All (IsRecent new) slots
+recent_kept old new slots keeps recent = λ k d lt few. keeps _ _ (recent k d lt few)
+
+-- the row of a state with one atom more, which is false
+pub row_for_more : (first later new : List Atom) (copy : Atom) (count len : ℕ) (old bits : List ℕ) → IsRowFor (first ++ later) old → first ++ new ≡ (first ++ later) ++ copy ∷ []
+    → count ≡ length first → len ≡ length later → count + len + 1 ≤ 64 * length bits → count + len + 1 < 2 ^ 64
+    → ((k : ℕ) → row_has bits k ≡ row_has old k) → IsRowFor (first ++ new) bits
+row_for_more first later new copy count len old bits kept all is are room small same =
+    let one_more : length (first ++ new) ≡ length (first ++ later) + 1 = ap length all ∙ length-append (first ++ later) (copy ∷ []) in
+    let both : length (first ++ later) ≡ length first + length later = length-append first later in
+    record {
+      room = omega (arith, one_more, both, is, are, room);
+      clear = λ k le. same k ∙ kept.clear k (omega (arith, le, one_more));
+      countable = omega (arith, one_more, both, is, are, small);
     }

@@ -3,6 +3,7 @@ pub mod Grounding
 pub mod Numbered
 pub mod Numbers
 pub mod State
+pub mod Recent
 pub mod Step
 pub mod Verdict
 pub mod Validity

@@ -21,13 +21,14 @@ use strips_task::{Atom, Cond, CondList, Formula, GroundCond, GroundFormula, Seed
 /// The conditions of an action that do not hold, in order, each at its first place only.
 pub(crate) fn missing(
     alloc: Global,
-    state: &NumberedState<'_>,
+    state: &mut NumberedState<'_>,
     conds: &[Cond],
     objects: &[u16],
     atom: &mut Atom,
 ) -> Result<CondList, AllocError>
     requires { All (λ cond. IsFormulaWithin (length objects.now) cond.formula) conds.now }
-    ensures { IfOk result (λ found. found ≡ missing (state_of state.now) (map (ground_condition objects.now) conds.now)) }
+    ensures missing { IfOk result (λ found. found ≡ missing (state_of state.old) (map (ground_condition objects.now) conds.now)) }
+    ensures same { state.new ≡ state.old }
 {
     let mut found = IndexSet::with_hasher(alloc, state.seed());
     for cond in conds {
@@ -58,18 +59,19 @@ pub(crate) fn missing_ground(
 
 /// Whether a condition of an action holds when the parameters are bound to these objects. Its atom is grounded in place.
 fn holds(
-    state: &NumberedState<'_>,
+    state: &mut NumberedState<'_>,
     cond: &Cond,
     objects: &[u16],
     atom: &mut Atom,
 ) -> Result<bool, AllocError>
     requires { IsFormulaWithin (length objects.now) cond.now.formula }
-    ensures { IfOk result (λ answer. answer ≡ holds (state_of state.now) (ground_condition objects.now cond.now)) }
+    ensures answer { IfOk result (λ answer. answer ≡ holds (state_of state.old) (ground_condition objects.now cond.now)) }
+    ensures same { state.new ≡ state.old }
 {
     let is_true = match &cond.formula {
         Formula::Atom(pattern) => {
             ground(pattern, objects, atom)?;
-            state.contains(atom)
+            state.is_true(atom)?
         }
         Formula::Equal(left, right) => object_of(*left, objects) == object_of(*right, objects),
     };

@@ -14,6 +14,7 @@ mod grounding;
 mod judging;
 pub mod laws;
 mod numbers;
+mod recent;
 mod state;
 mod verdict;
 

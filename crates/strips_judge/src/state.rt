@@ -3,13 +3,14 @@
 //! Each atom that was ever true or asked for by number has a number and a bit. The initial atoms have the task's numbers, so a plan starts
 //! with a row of ones and hashes none of them. Atoms that come up later get the numbers behind, and numbers never change: a state that is
 //! reset for another plan keeps them. Steps change the bits in place. An atom without a number is false.
-ghost use Rattle.std.specs.Prelude.{◌≡◌, ◌∷◌, [], ◌<◌, ℕ, Some, IfOk, OnOk, length};
+ghost use Rattle.std.specs.Prelude.{◌≡◌, ◌∷◌, [], ◌<◌, ℕ, None, Some, IfOk, OnOk, length};
 ghost use Rattle.strips_task.specs.declared.atoms.Atom.{Atom};
 ghost use Rattle.strips_judge.specs.Numbered.{Grows, state_of};
 ghost use Rattle.strips_judge.specs.Numbers.{number_in};
 ghost use Rattle.strips_judge.specs.State.{is_in, without, with_all};
 
 use crate::numbers::{copy_of, number_in};
+use crate::recent::RecentAtoms;
 use bit_rows::Row;
 use indexmap::IndexSet;
 use std::alloc::{AllocError, Global};
@@ -22,19 +23,22 @@ pub struct NumberedState<'t> {
     initial: &'t InitialAtoms,
     later: IndexSet<Atom, Seed>,
     bits: Row,
+    recent: RecentAtoms,
 }
 
 impl<'t> Model for NumberedState<'t> {
-    ghost use Rattle.std.specs.Prelude.{◌++◌};
+    ghost use Rattle.std.specs.Prelude.{◌++◌, All};
     ghost use Rattle.strips_task.specs.Atom.{atom_eq};
     ghost use Rattle.strips_task.specs.FirstPlaces.{first_places};
     ghost use Rattle.strips_judge.specs.Numbered.{Numbered, IsRowFor};
+    ghost use Rattle.strips_judge.specs.Recent.{IsRecent};
 
     ghost Value = { Numbered };
 
     ghost view = { λ s. record { initial = s.initial.now; atoms = first_places atom_eq s.initial.now ++ s.later.keys; bits = s.bits } };
 
-    ghost invariant = { λ s. IsRowFor (first_places atom_eq s.initial.now ++ s.later.keys) s.bits };
+    ghost invariant = { λ s. IsRowFor (first_places atom_eq s.initial.now ++ s.later.keys) s.bits
+        × All (IsRecent (first_places atom_eq s.initial.now ++ s.later.keys)) s.recent };
 }
 
 impl NumberedState<'_> {
@@ -47,6 +51,7 @@ impl NumberedState<'_> {
             initial,
             later: IndexSet::with_hasher(alloc, initial.seed()),
             bits: Row::with_first(alloc, initial.distinct_len())?,
+            recent: RecentAtoms::new(alloc),
         })
     }
 
@@ -69,8 +74,34 @@ impl NumberedState<'_> {
         self.initial.seed()
     }
 
-    /// The number of an atom, if it has one. Takes one hash, and another for an atom that is no initial one.
+    /// The number of an atom, if it has one. Takes one look where it was looked up of late; else one hash, and another for an atom that is no
+    /// initial one.
     pub(crate) fn number_of(&self, atom: &Atom) -> Option<usize>
+        ensures { result ≡ number_in self.now.atoms atom.now }
+    {
+        match self.recent.find(atom) {
+            Some(number) => Some(number),
+            None => self.number_in_tables(atom),
+        }
+    }
+
+    /// The same, and the next time one look is enough. Takes memory for that once in a long while.
+    pub(crate) fn look_up(&mut self, atom: &Atom) -> Result<Option<usize>, AllocError>
+        ensures number { IfOk result (λ number. number ≡ number_in self.old.atoms atom.now) }
+        ensures same { self.new ≡ self.old }
+    {
+        if let Some(number) = self.recent.find(atom) {
+            return Ok(Some(number));
+        }
+        let Some(number) = self.number_in_tables(atom) else {
+            return Ok(None);
+        };
+        self.recent.keep(atom, number)?;
+        Ok(Some(number))
+    }
+
+    /// The number of an atom, if it has one, by the tables of all atoms.
+    fn number_in_tables(&self, atom: &Atom) -> Option<usize>
         ensures { result ≡ number_in self.now.atoms atom.now }
     {
         if let Some(number) = self.initial.number_of(atom) {
@@ -88,9 +119,19 @@ impl NumberedState<'_> {
         ensures state { state_of self.new ≡ state_of self.old }
         ensures grows { Grows self.old self.new }
     {
-        if let Some(number) = self.number_of(atom) {
-            return Ok(number);
+        match self.look_up(atom)? {
+            Some(number) => Ok(number),
+            None => self.add(alloc, atom),
         }
+    }
+
+    /// Gives an atom without a number the next one, which is the result. It is false.
+    fn add(&mut self, alloc: Global, atom: &Atom) -> Result<usize, AllocError>
+        requires { number_in self.old.atoms atom.now ≡ None }
+        ensures number { IfOk result (λ number. number_in self.new.atoms atom.now ≡ Some number) }
+        ensures state { state_of self.new ≡ state_of self.old }
+        ensures grows { Grows self.old self.new }
+    {
         let number = self.initial.distinct_len() + self.later.len();
         if number == usize::MAX {
             return Err(AllocError);
@@ -124,6 +165,17 @@ impl NumberedState<'_> {
         ensures initial { self.new.initial ≡ self.old.initial }
     {
         self.bits.clear(number);
+    }
+
+    /// Whether an atom is true, as by `contains`; the next time one look is enough.
+    pub(crate) fn is_true(&mut self, atom: &Atom) -> Result<bool, AllocError>
+        ensures answer { IfOk result (λ answer. answer ≡ state_of self.old atom.now) }
+        ensures same { self.new ≡ self.old }
+    {
+        match self.look_up(atom)? {
+            Some(number) => Ok(self.bits.has(number)),
+            None => Ok(false),
+        }
     }
 
     /// Whether an atom is true.

@@ -37,13 +37,17 @@ impl<'t> Model for TextJudge<'t> {
 }
 
 impl<'t> TextJudge<'t> {
-    /// A judge that has seen no step. Takes memory for a bit for each initial atom.
-    pub fn new(alloc: Global, task: &'t CostedTask) -> Result<TextJudge<'t>, AllocError>
+    /// A judge that has seen no step: one of so many that share the room for known steps. Takes memory for a bit for each initial atom.
+    pub fn new(
+        alloc: Global,
+        task: &'t CostedTask,
+        judges: u32,
+    ) -> Result<TextJudge<'t>, AllocError>
         ensures { IfOk result (λ judge. judge ≡ task.now) }
     {
         Ok(TextJudge {
             task,
-            judge: Judge::new(alloc, task)?,
+            judge: Judge::new(alloc, task, judges)?,
             step: OpenSteps::new(alloc),
         })
     }

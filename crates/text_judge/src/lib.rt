@@ -1,7 +1,7 @@
 //! A judge of plan texts: it reads and judges a text in one pass, and keeps no plan.
 //!
 //! ```text
-//! let mut judge = TextJudge::new(alloc, &task)?;      // one for each thread that judges
+//! let mut judge = TextJudge::new(alloc, &task, threads)?;     // one for each thread that judges
 //! let answer = judge.assess(alloc, text)?;            // the verdict of the plan of the text, and its cost
 //! ```
 //!
@@ -18,3 +18,4 @@ mod judge;
 mod pass;
 
 pub use judge::TextJudge;
+pub use step_memo::MOST_JUDGES;

@@ -5,4 +5,7 @@ use Rattle.strips_judge.specs.Step.{missing}
 use Rattle.strips_judge.proofs.conditions.missing.Given as goal
 
 abbrev pub invariant-loop-cond : goal.invariant-loop-cond
-invariant-loop-cond l = l.found.keys ≡ missing (state_of l.state) (map (ground_condition l.objects) (take l.cond-index l.conds))
+invariant-loop-cond l = record {
+  found : l.found.keys ≡ missing (state_of l.fn.state) (map (ground_condition l.objects) (take l.cond-index l.conds));
+  same : l.state ≡ l.fn.state;
+}

@@ -6,9 +6,11 @@ use Rattle.strips_judge.proofs.NumberedLaws.{initial_state}
 use Rattle.strips_judge.proofs.state.NumberedState.new.Goals as goal
 
 pub invariant_of-result : goal.invariant_of-result
-invariant_of-result c =
-    row_for_none (first_places atom_eq c.args.initial.now) c.with_hasher.result.keys c.distinct_len.result c.in_ok-with_first.field-0
-    c.with_hasher.ensures.empty c.distinct_len.ensures (omega arith) c.in_ok-with_first.ensures.first c.in_ok-with_first.ensures.room
+invariant_of-result c = (
+  row_for_none (first_places atom_eq c.args.initial.now) c.with_hasher.result.keys c.distinct_len.result c.in_ok-with_first.field-0
+      c.with_hasher.ensures.empty c.distinct_len.ensures (omega arith) c.in_ok-with_first.ensures.first c.in_ok-with_first.ensures.room,
+  c.new.ensures _,
+)
 
 pub returns-clause-state : goal.returns-clause-state
 returns-clause-state c =

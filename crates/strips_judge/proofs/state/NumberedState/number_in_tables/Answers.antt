@@ -5,7 +5,7 @@ use Rattle.strips_judge.specs.Numbers.{number_in}
 use Rattle.strips_judge.specs.Numbered.{Numbered}
 use Rattle.strips_judge.proofs.Growth.{later_lt}
 use Rattle.strips_judge.proofs.Numbering.{number_in-first, number_in-later}
-use Rattle.strips_judge.proofs.state.NumberedState.number_of.Goals as goal
+use Rattle.strips_judge.proofs.state.NumberedState.number_in_tables.Goals as goal
 
 pub returns-in-Some : goal.returns-in-Some
 returns-in-Some c =
@@ -27,6 +27,6 @@ returns-in-None c =
 
 pub overflow_add-result : goal.overflow_add-result
 overflow_add-result c =
-    let lt = later_lt (first_places atom_eq c.self.inside.initial.now) c.self.inside.later.keys c.args.atom.now c.in-Some-number_in.number (2 ^ 64) (sym c.in-Some-number_in.ensures) c.self.invariant.countable in
+    let lt = later_lt (first_places atom_eq c.self.inside.initial.now) c.self.inside.later.keys c.args.atom.now c.in-Some-number_in.number (2 ^ 64) (sym c.in-Some-number_in.ensures) c.self.invariant.0.countable in
     let is = c.distinct_len.ensures in
     omega (arith, lt, is)

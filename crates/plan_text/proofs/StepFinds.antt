@@ -1,0 +1,58 @@
+-- A walk that keeps the step at one place.
+
+use Rattle.std.proofs.Common.{◌≡◌, ◌≢◌, ℕ, ◌+◌, ◌<◌, ◌≤◌, Bool, true, false, ltb, List, [], ◌∷◌, ◌++◌, length, slice_get, get_or, Option, Some, None, refl, sym, ap, ◌∙◌, subst, ◌⊎◌, inl, inr, arith, length-append}
+use Rattle.std.proofs.lemmas.Bool.{lt-ltb, le-ltb, ltb-true, ltb-false}
+use Rattle.std.proofs.lemmas.Option.{none-some, slice_get_past, slice_get_within, slice_get-get_or}
+use Rattle.std.proofs.Math.Seq.{get_or-append_seam}
+use Rattle.strips_task.proofs.Numbered.{slice_get-more}
+use Rattle.strips_task.specs.declared.plans.Plan.{Plan}
+use Rattle.strips_task.specs.declared.plans.Plan.TheVariants.{Steps, Unreadable}
+use Rattle.strips_task.specs.declared.steps.StepText.{StepText}
+use Rattle.strips_task.specs.OpenPlan.{OpenPlan}
+use Rattle.strips_task.specs.Steps.{step_of}
+use Rattle.plan_text.specs.StepAt.{step_at, IsStepAt}
+
+-- only the step that is there is kept
+abbrev pub Keeps : Option StepText → OpenPlan → Type 0
+Keeps None plan = plan ≡ record { steps = []; words = [] }
+Keeps (Some step) plan = plan ≡ record { steps = step ∷ []; words = [] }
+
+-- the step behind all others is the one that is looked for
+pub keeps_here : (steps : List StepText) (step : StepText) (place : ℕ) (plan : OpenPlan) → length steps ≡ place → plan ≡ record { steps = step ∷ []; words = [] } → Keeps (slice_get (steps ++ step ∷ []) place) plan
+keeps_here steps step place plan at is =
+    let lt : place < length (steps ++ step ∷ []) = omega (arith, at, length-append steps (step ∷ [])) in
+    let here : get_or (steps ++ step ∷ []) place step ≡ step = ap (λ (n : ℕ). get_or (steps ++ step ∷ []) n step) (sym at) ∙ get_or-append_seam steps step [] step in
+    subst (λ (found : Option StepText). Keeps found plan) (sym (slice_get-get_or (steps ++ step ∷ []) place step lt ∙ ap Some here)) is
+
+-- one number is smaller than another or it is not
+below_or_not : (m n : ℕ) (test : Bool) → ltb m n ≡ test → (m < n) ⊎ (n ≤ m)
+below_or_not m n true is = inl (ltb-true m n is)
+below_or_not m n false is = inr (ltb-false m n is)
+
+before_or_past : (steps : List StepText) (step : StepText) (place : ℕ) → length steps ≢ place → (place < length steps) ⊎ (length steps ≤ place) → slice_get (steps ++ step ∷ []) place ≡ slice_get steps place
+before_or_past steps step place other (inl lt) = slice_get-more steps (step ∷ []) place lt
+before_or_past steps step place other (inr le) =
+    slice_get_past (steps ++ step ∷ []) place (omega (arith, le, other, length-append steps (step ∷ []))) ∙ sym (slice_get_past steps place le)
+
+-- a step elsewhere changes nothing
+pub keeps_other : (steps : List StepText) (step : StepText) (place : ℕ) (plan : OpenPlan) → length steps ≢ place → Keeps (slice_get steps place) plan → Keeps (slice_get (steps ++ step ∷ []) place) plan
+keeps_other steps step place plan other kept =
+    subst (λ (found : Option StepText). Keeps found plan) (sym (before_or_past steps step place other (below_or_not place (length steps) _ refl))) kept
+
+none_past : (steps : List StepText) (place : ℕ) → slice_get steps place ≡ None → (place < length steps) ⊎ (length steps ≤ place) → length steps ≤ place
+none_past steps place none (inl lt) = absurd (none-some _ (sym none ∙ slice_get-get_or steps place (step_of []) lt))
+none_past steps place none (inr le) = le
+
+found_by : (steps : List StepText) (place : ℕ) (found : Option StepText) (plan : OpenPlan) → slice_get steps place ≡ found → Keeps found plan → IsStepAt (ltb place (length steps)) found plan
+found_by steps place None plan is kept = le-ltb place (length steps) (none_past steps place is (below_or_not place (length steps) _ refl))
+found_by steps place (Some step) plan is kept = (lt-ltb place (length steps) (slice_get_within steps place step is), kept)
+
+-- at the end of the text it is known whether the plan has the step
+pub found_at_end : (plan : Plan) (steps : List StepText) (place count : ℕ) (kept : OpenPlan) → plan ≡ Steps steps → length steps ≡ count → Keeps (slice_get steps place) kept → IsStepAt (ltb place count) (step_at plan place) kept
+found_at_end plan steps place count kept is counted keeps =
+    subst (λ (p : Plan). IsStepAt (ltb place count) (step_at p place) kept) (sym is)
+    (subst (λ (n : ℕ). IsStepAt (ltb place n) (slice_get steps place) kept) counted (found_by steps place (slice_get steps place) kept refl keeps))
+
+-- an unreadable plan has no step
+pub found_none : (plan : Plan) (line place : ℕ) (kept : OpenPlan) → plan ≡ Unreadable line → IsStepAt false (step_at plan place) kept
+found_none plan line place kept is = subst (λ (p : Plan). IsStepAt false (step_at p place) kept) (sym is) refl

@@ -1,0 +1,17 @@
+-- One step of a plan text.
+
+use Rattle.std.specs.Prelude.{◌≡◌, ℕ, Bool, true, false, [], ◌∷◌, slice_get, Option, Some, None}
+use Rattle.strips_task.specs.declared.plans.Plan.{Plan}
+use Rattle.strips_task.specs.declared.plans.Plan.TheVariants.{Steps, Unreadable}
+use Rattle.strips_task.specs.declared.steps.StepText.{StepText}
+use Rattle.strips_task.specs.OpenPlan.{OpenPlan}
+
+-- the step at a place of a plan, counted from 0, if it is there; an unreadable plan has no step
+abbrev pub step_at : Plan → ℕ → Option StepText
+step_at (Steps steps) place = slice_get steps place
+step_at (Unreadable line) place = None
+
+-- whether there is a step, which then is the only one of an open plan
+abbrev pub IsStepAt : Bool → Option StepText → OpenPlan → Type 0
+IsStepAt found None plan = found ≡ false
+IsStepAt found (Some step) plan = (found ≡ true) × (plan ≡ record { steps = step ∷ []; words = [] })

@@ -1,0 +1,33 @@
+//! One step of a plan text.
+
+ghost use Rattle.std.specs.Prelude.{◌≡◌, [], IfOk};
+ghost use Rattle.plan_text.specs.PlanReading.{plan_of};
+ghost use Rattle.plan_text.specs.StepAt.{step_at, IsStepAt};
+
+use crate::walk::{PlanSteps, TextStep};
+use std::alloc::AllocError;
+use strips_task::OpenSteps;
+
+/// Reads the step at a place of a plan text, counted from 0, into a step that is fresh. Whether the plan has it: an unreadable plan has no step.
+///
+/// The text is read to its end, and no other step is kept. The only error is that memory runs out.
+pub fn read_step_at(text: &[u8], place: usize, step: &mut OpenSteps) -> Result<bool, AllocError>
+    requires fresh { step.old ≡ record { steps = []; words = [] } }
+    ensures { IfOk result (λ found. IsStepAt found (step_at (plan_of text.now) place) step.new) }
+{
+    let Some(mut walk) = PlanSteps::new(text) else {
+        return Ok(false);
+    };
+    'steps: loop {
+        let is_here = walk.count() == place;
+        match walk.next_step() {
+            TextStep::Step { words, key: _ } => {
+                if is_here {
+                    words.push_to(step)?;
+                }
+            }
+            TextStep::End => return Ok(place < walk.count()),
+            TextStep::Unreadable { line: _ } => return Ok(false),
+        }
+    }
+}

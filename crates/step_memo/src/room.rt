@@ -1,0 +1,43 @@
+//! How much judges may keep of the steps that they know.
+ghost use Rattle.std.specs.Prelude.{◌<◌, ◌≤◌, ◌^◌};
+
+/// Among so many judges the room is shared at most. Where there are more, each has as much as one of these.
+pub const MOST_JUDGES: u32 = 32;
+
+/// Among so many judges the room is shared at least, so that one judge alone does not take all of it.
+const FEWEST_JUDGES: u32 = 4;
+
+/// How many steps all judges keep. Each takes 48 bytes beside its key and its code, and up to 16 for its place: 16 MiB.
+pub const ALL_CODES: usize = 262_144;
+
+/// How many numbers the codes of all judges have, of four bytes each: 16 MiB.
+pub const ALL_NUMBERS: usize = 4_194_304;
+
+/// How many bytes the keys of all judges have: 20 MiB.
+pub const ALL_KEY_BYTES: usize = 20_971_520;
+
+/// How much one judge may keep.
+#[derive(Clone, Copy, Debug)]
+pub(crate) struct Room {
+    /// How many steps.
+    pub(crate) codes: usize,
+    /// How many numbers in all codes.
+    pub(crate) numbers: usize,
+    /// How many bytes in all keys.
+    pub(crate) key_bytes: usize,
+    ghost few_codes: { codes < 2 ^ 32 },
+    ghost few_numbers: { numbers < 2 ^ 32 },
+    ghost few_bytes: { key_bytes < 2 ^ 32 },
+}
+
+impl Room {
+    /// What each of so many judges may keep.
+    pub(crate) fn of_each(judges: u32) -> Room {
+        let judges = judges.clamp(FEWEST_JUDGES, MOST_JUDGES) as usize;
+        Room {
+            codes: ALL_CODES / judges,
+            numbers: ALL_NUMBERS / judges,
+            key_bytes: ALL_KEY_BYTES / judges,
+        }
+    }
+}
