@@ -4,7 +4,10 @@
 //! such value. The list of objects and the ground function are used again for every step, so that steps take no memory of their own.
 ghost use Rattle.std.specs.Prelude.{◌≡◌, ◌<◌, ◌≤◌, ◌*◌, ◌^◌, length, map, IfOk, IfSome, OnOk};
 ghost use Rattle.strips_task.specs.StepView.{step_shown};
+ghost use Rattle.strips_task.specs.declared.steps.StepText.{StepText};
+ghost use Rattle.strips_task.specs.declared.tasks.TaskParts.{TaskParts};
 ghost use Rattle.strips_judge.specs.Step.{objects_named};
+ghost use Rattle.strips_judge.specs.StepNumbers.{IsNumbered};
 ghost use Rattle.plan_cost.specs.CompactCosts.{IsCompact};
 ghost use Rattle.plan_cost.specs.Costs.{amount_of, increases_of, step_amounts, initial_cost, sum_of, steps_cost, cost_answer, cost_of};
 
@@ -85,6 +88,29 @@ pub fn step_cost(
     find_objects_for(amounts, task, step, &mut scratch.objects)?;
     let objects = scratch.objects.as_slice();
     sum_of(amounts, &costs.values, objects, &mut scratch.function)
+}
+
+/// What the step with these numbers adds to the total cost, or nothing where that is undefined: the number of its action, and those of its objects.
+/// Takes no memory but for functions of many arguments.
+pub fn numbered_cost(
+    costs: &Costs,
+    numbers: &[u16],
+    scratch: &mut CostScratch,
+) -> Result<Option<u128>, AllocError>
+    ensures cost { IfOk result (λ cost. (parts : TaskParts) (step : StepText) → IsNumbered parts step numbers.now
+        → cost ≡ sum_of (step_amounts parts costs.now step)) }
+    ensures small { IfOk result (λ cost. IfSome cost (λ sum. sum ≤ MOST_INCREASES * 2 ^ 64)) }
+{
+    let [action, objects @ ..] = numbers else {
+        return Ok(None);
+    };
+    let sum = sum_of(
+        costs.increases_of(*action),
+        &costs.values,
+        objects,
+        &mut scratch.function,
+    )?;
+    Ok(sum)
 }
 
 /// The increases of the action that a word names.

@@ -19,5 +19,5 @@ pub use amounts::{Amount, Increases, MOST_INCREASES};
 pub use assessments::{Assessment, assess};
 pub use compact::CompactCost;
 pub use costs::{Cost, CostedTask, Costs};
-pub use counting::{CostScratch, plan_cost, step_cost};
+pub use counting::{CostScratch, numbered_cost, plan_cost, step_cost};
 pub use values::{FunctionValues, Given};

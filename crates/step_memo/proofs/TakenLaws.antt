@@ -60,6 +60,23 @@ learned_as task atoms key step code o amount short spelled same is adds some fit
           (subst (λ (a : Option ℕ). IsAmount task.task task.costs step a) (some ∙ ap Some fits) adds);
     }
 
+-- what was learned stays so where the numbering grows
+pub learned_grown : (task : CostedTask) (old new : Numbered) (memo : List Known) → Grows old new → All (IsLearned task old.atoms) memo → All (IsLearned task new.atoms) memo
+learned_grown task old new memo grows all = λ k d lt.
+    let known = get_or memo k d in
+    let one = all k d lt in
+    record {
+      spelled = one.spelled;
+      code = code_kept task.task old.atoms new.atoms grows.numbers (step_spelled known.key) known.code one.code;
+      amount = one.amount;
+    }
+
+-- one step more may be learned
+pub learned_more : (task : CostedTask) (atoms : List Atom) (memo new : List Known) (known : Known) (b : Bool) → (IsTrue b → new ≡ memo ++ known ∷ []) → (b ≡ false → new ≡ memo)
+    → All (IsLearned task atoms) memo → IsLearned task atoms known → All (IsLearned task atoms) new
+learned_more task atoms memo new known true more stays all one = subst (λ (l : List Known). All (IsLearned task atoms) l) (sym (more refl)) (All-push (IsLearned task atoms) memo known all one)
+learned_more task atoms memo new known false more stays all one = subst (λ (l : List Known). All (IsLearned task atoms) l) (sym (stays refl)) all
+
 module _ (parts : TaskParts) where
   -- one step more at the end of a run
   lead_on : (start middle end : State) (steps : List StepText) (step : StepText) → LeadTo parts start steps middle → IsApplicable parts middle step
@@ -174,22 +191,14 @@ module _ (task : CostedTask) (state : Numbered) where
         λ j. record { verdict = same j; cost = cost_same j }
 
     module _ (memo : List Known) (is : IsJudge task state memo cost count) where
-      -- a judge whose numbering has grown
+      -- a judge with another state and other known steps
+      pub judge_with : (new : Numbered) (known : List Known) → new.initial ≡ state.initial → All (IsLearned task new.atoms) known → IsJudge task new known cost count
+      judge_with new known initial learned =
+          record { initial = initial ∙ is.initial; learned = learned; count_within = is.count_within; cost_within = is.cost_within }
+
+      -- one whose numbering has grown
       pub judge_grown : (new : Numbered) → Grows state new → IsJudge task new memo cost count
-      judge_grown new grows =
-          record {
-            initial = grows.initial ∙ is.initial;
-            learned = λ k d lt.
-                let known = get_or memo k d in
-                let one = is.learned k d lt in
-                record {
-                  spelled = one.spelled;
-                  code = code_kept task.task state.atoms new.atoms grows.numbers (step_spelled known.key) known.code one.code;
-                  amount = one.amount;
-                };
-            count_within = is.count_within;
-            cost_within = is.cost_within;
-          }
+      judge_grown new grows = judge_with new memo grows.initial (learned_grown task state new memo grows is.learned)
 
       -- one that has the same numbering
       pub judge_still : (new : Numbered) → new.initial ≡ state.initial → new.atoms ≡ state.atoms → IsJudge task new memo cost count
@@ -205,13 +214,3 @@ module _ (task : CostedTask) (state : Numbered) where
             count_within = omega (arith, lt);
             cost_within = omega (arith, is.cost_within, sum, small);
           }
-
-      -- one that may have learned a step
-      pub judge_learned : (new : List Known) (known : Known) (b : Bool) → (IsTrue b → new ≡ memo ++ known ∷ []) → (b ≡ false → new ≡ memo) → IsLearned task state.atoms known
-          → IsJudge task state new cost count
-      judge_learned new known b grown same one =
-          record { initial = is.initial; learned = by b grown same; count_within = is.count_within; cost_within = is.cost_within }
-        where
-          by : (b : Bool) → (IsTrue b → new ≡ memo ++ known ∷ []) → (b ≡ false → new ≡ memo) → All (IsLearned task state.atoms) new
-          by true more stays = subst (λ (l : List Known). All (IsLearned task state.atoms) l) (sym (more refl)) (All-push (IsLearned task state.atoms) memo known is.learned one)
-          by false more stays = subst (λ (l : List Known). All (IsLearned task state.atoms) l) (sym (stays refl)) is.learned

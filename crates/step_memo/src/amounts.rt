@@ -1,12 +1,14 @@
 //! What steps add to the cost of a plan.
 ghost use Rattle.std.specs.Prelude.{◌≡◌, ◌+◌, ◌*◌, ◌^◌, ◌<◌, ◌≤◌, [], Some, IfOk, unwrap_or};
+ghost use Rattle.strips_task.specs.declared.steps.StepText.{StepText};
 ghost use Rattle.strips_task.specs.StepView.{step_shown};
+ghost use Rattle.strips_judge.specs.StepNumbers.{IsNumbered};
 ghost use Rattle.plan_cost.specs.CompactCosts.{IsCompact};
 ghost use Rattle.plan_cost.specs.Costs.{added};
 ghost use Rattle.step_memo.specs.Judging.{IsCostSoFar, cost_by};
 ghost use Rattle.step_memo.specs.Learned.{IsAmount};
 
-use plan_cost::{Cost, CostScratch, CostedTask, Costs, step_cost};
+use plan_cost::{Cost, CostScratch, CostedTask, Costs, numbered_cost, step_cost};
 use std::alloc::{AllocError, Global};
 use strips_judge::Verdict;
 use strips_task::StepView;
@@ -32,6 +34,22 @@ pub(crate) fn amount_of(
 {
     match &task.costs {
         Some(costs) => step_cost(&task.task, costs, step, scratch),
+        None => Ok(Some(0)),
+    }
+}
+
+/// What the step with these numbers adds, or nothing where that is undefined: 0 if the task counts no costs.
+pub(crate) fn numbered_amount(
+    task: &CostedTask,
+    numbers: &[u16],
+    scratch: &mut CostScratch,
+) -> Result<Option<u128>, AllocError>
+    ensures amount { IfOk result (λ amount. (step : StepText) → IsNumbered task.now.task step numbers.now
+        → IsAmount task.now.task task.now.costs step amount) }
+    ensures small { IfOk result (λ amount. unwrap_or amount 0 ≤ 32 * 2 ^ 64) }
+{
+    match &task.costs {
+        Some(costs) => numbered_cost(costs, numbers, scratch),
         None => Ok(Some(0)),
     }
 }

@@ -13,17 +13,15 @@ ghost use Rattle.plan_cost.specs.Assessments.{assessment};
 ghost use Rattle.plan_cost.specs.CompactCosts.{IsCompact};
 ghost use Rattle.step_memo.specs.Judging.{HasTaken};
 
-use crate::amounts::{added, amount_of, cost_beside, initial_of};
+use crate::amounts::{added, amount_of, cost_beside, initial_of, numbered_amount};
 use crate::memo::Memo;
 use crate::room::Room;
-use crate::steps::take_found;
+use crate::steps::{NewStep, take_found, take_new};
 use crate::usage::Usage;
 use plan_cost::{Assessment, CostScratch, CostedTask};
 use std::alloc::{AllocError, Global};
 use std::marker::Model;
-use strips_judge::{
-    CodeBuffer, NumberedState, Scratch, Why, code_of_step, judge_goal, take_by_code, take_step,
-};
+use strips_judge::{CodeBuffer, NumberedState, Scratch, StepNames, Why, judge_goal, take_step};
 use strips_task::StepView;
 
 /// With how many atoms beside the initial ones steps are still learned, and kept over plans.
@@ -38,6 +36,9 @@ pub struct Judge<'t> {
     task: &'t CostedTask,
     state: NumberedState<'t>,
     memo: Memo,
+    names: StepNames<'t>,
+    /// The numbers of the step that is being taken.
+    numbers: Vec<u16>,
     code: CodeBuffer,
     scratch: Scratch,
     cost_scratch: CostScratch,
@@ -47,6 +48,7 @@ pub struct Judge<'t> {
 }
 
 impl<'t> Model for Judge<'t> {
+    ghost use Rattle.std.specs.Prelude.{◌≡◌};
     ghost use Rattle.step_memo.specs.Judging.{Judging};
     ghost use Rattle.step_memo.specs.Learned.{IsJudge};
 
@@ -54,7 +56,7 @@ impl<'t> Model for Judge<'t> {
 
     ghost view = { λ j. record { task = j.task.now; state = j.state; cost = j.cost; count = j.count } };
 
-    ghost invariant = { λ j. IsJudge j.task.now j.state j.memo j.cost j.count };
+    ghost invariant = { λ j. IsJudge j.task.now j.state j.memo j.cost j.count × (j.names ≡ j.task.now.task) };
 }
 
 impl<'t> Judge<'t> {
@@ -70,6 +72,8 @@ impl<'t> Judge<'t> {
             task,
             state,
             memo: Memo::new(alloc, initial.seed(), Room::of_each(judges)),
+            names: StepNames::new(alloc, &task.task),
+            numbers: Vec::new(alloc),
             code: CodeBuffer::new(alloc),
             scratch: Scratch::new(alloc),
             cost_scratch: CostScratch::new(alloc),
@@ -125,11 +129,6 @@ impl<'t> Judge<'t> {
         self.count
     }
 
-    /// Whether keys are looked at at all. Where steps hardly repeat they are not for a while, and callers need not find them.
-    pub fn asks(&self) -> bool {
-        self.usage.asks()
-    }
-
     /// Takes the step that a key spells, if it is known and applicable, and else changes nothing. Whether it did.
     ///
     /// Takes one hash of the key and no memory. Any bytes may be asked for: no other than a step that [`take`](Judge::take) learned under the
@@ -155,85 +154,58 @@ impl<'t> Judge<'t> {
         true
     }
 
-    /// Takes a step where it is applicable, or else answers why it is not.
+    /// Takes the step that a row spells, if its names are known and it is applicable, and else changes no atom. Whether it did. Learns a step that has
+    /// a code while there is room.
     ///
-    /// The key is the text that spells the step, if the caller has it: a step that has a code is learned under it while there is room. Takes
-    /// one hash for each word and each atom of the step, and memory for what is new. Where memory runs out the plan is over.
-    pub fn take(
-        &mut self,
-        alloc: Global,
-        step: StepView<'_>,
-        key: Option<&[u8]>,
-    ) -> Result<Option<Why>, AllocError>
-        requires room { self.old.count < MOST_STEPS }
-        requires key { IfSome key (λ key. IsSpelled key.now × (step_spelled key.now ≡ step_shown step)) }
+    /// Takes a hash and a look at memory for each name and each atom that came up of late, more for others, and memory for what is new. Where memory
+    /// runs out the plan is over.
+    pub fn take_row(&mut self, alloc: Global, row: &[u8]) -> Result<bool, AllocError>
+        requires { self.old.count < MOST_STEPS }
         ensures task { self.new.task ≡ self.old.task }
-        ensures taken { IfOk result (λ why. IfNone why ((steps : List StepText) → HasTaken self.old steps
-            → HasTaken self.new (steps ++ step_shown step.entry ∷ []))) }
-        ensures fails { IfOk result (λ why. IfSome why (λ why. (steps rest : List StepText) → HasTaken self.old steps
-            → assessment self.old.task (Steps (steps ++ step_shown step.entry ∷ rest)) ≡ record { verdict = Fails (length steps + 1) why; cost = NotCounted })) }
-    {
-        if let Some(key) = key {
-            if self.take_learned(alloc, step, key)? {
-                return Ok(None);
-            }
-        }
-        self.take_unlearned(alloc, step)
-    }
-
-    /// Learns a step that is not known under its key, if it has a code, and takes it by that if it is applicable. Whether it was taken. Where
-    /// there is no room the code is used once.
-    fn take_learned(
-        &mut self,
-        alloc: Global,
-        step: StepView<'_>,
-        key: &[u8],
-    ) -> Result<bool, AllocError>
-        requires room { self.old.count < MOST_STEPS }
-        requires key { IsSpelled key.now × (step_spelled key.now ≡ step_shown step) }
-        ensures task { self.new.task ≡ self.old.task }
+        ensures spelled { IfOk result (λ taken. IsTrue taken → IsSpelled row.now) }
         ensures taken { IfOk result (λ taken. IsTrue taken → (steps : List StepText) → HasTaken self.old steps
-            → HasTaken self.new (steps ++ step_shown step.entry ∷ [])) }
+            → HasTaken self.new (steps ++ step_spelled row.now ∷ [])) }
         ensures not { IfOk result (λ taken. taken ≡ false → (steps : List StepText) → HasTaken self.old steps → HasTaken self.new steps) }
         ensures count { IfOk result (λ taken. taken ≡ false → self.new.count ≡ self.old.count) }
     {
-        if !self.usage.asks() || self.state.later_len() > MOST_LATER {
+        if !self.names.number(row, &mut self.numbers)? {
             return Ok(false);
         }
-        if self.memo.find(key).is_some() {
-            return Ok(false);
-        }
-        let Some(amount) = amount_of(self.task, step, &mut self.cost_scratch)? else {
-            return Ok(false);
+        let may_learn = self.may_learn();
+        let numbers = self.numbers.as_slice();
+        let amount = numbered_amount(self.task, numbers, &mut self.cost_scratch)?;
+        let step = NewStep {
+            key: row,
+            numbers,
+            amount,
+            may_learn,
         };
-        let Ok(short) = u64::try_from(amount) else {
-            return Ok(false);
-        };
-        if !code_of_step(
+        let is_taken = take_new(
             alloc,
-            &self.task.task,
+            self.task,
             step,
             &mut self.state,
+            &mut self.memo,
             &mut self.scratch,
             &mut self.code,
-        )? {
+        )?;
+        if !is_taken {
             return Ok(false);
         }
-        self.memo.add(key, self.code.code(), short)?;
-        if !take_by_code(&mut self.state, self.code.code()) {
-            return Ok(false);
-        }
-        self.cost = added(self.cost, Some(amount));
+        self.cost = added(self.cost, amount);
         self.count += 1;
         Ok(true)
     }
 
-    /// Takes a step by its names, where it is applicable, or else answers why it is not.
-    fn take_unlearned(
-        &mut self,
-        alloc: Global,
-        step: StepView<'_>,
-    ) -> Result<Option<Why>, AllocError>
+    /// Whether steps may be learned: where they were found of late, and not too many atoms have numbers.
+    fn may_learn(&self) -> bool {
+        self.usage.asks() && self.state.later_len() <= MOST_LATER
+    }
+
+    /// Takes a step where it is applicable, or else answers why it is not.
+    ///
+    /// Takes one hash for each word and each atom of the step, and memory for what is new. Where memory runs out the plan is over.
+    pub fn take(&mut self, alloc: Global, step: StepView<'_>) -> Result<Option<Why>, AllocError>
         requires { self.old.count < MOST_STEPS }
         ensures task { self.new.task ≡ self.old.task }
         ensures taken { IfOk result (λ why. IfNone why ((steps : List StepText) → HasTaken self.old steps

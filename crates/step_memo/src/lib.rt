@@ -8,21 +8,22 @@
 //! ```text
 //! let mut judge = Judge::new(alloc, &task, judges)?;       // one of so many
 //! judge.begin(alloc)?;                                    // for each plan
-//! if !judge.take_known(b"move a b") {                     // for each step: by its bytes
-//!     let why = judge.take(alloc, step, Some(key))?;      // or by its words, and learned
+//! if !judge.take_known(b"move a b")                       // for each step: by its bytes
+//!     && !judge.take_row(alloc, b"move a b")? {           // or by the numbers of its names, and learned
+//!     let why = judge.take(alloc, step)?;                 // or by its words, which says why it is not applicable
 //! }
 //! let assessment = judge.finish(alloc)?;
 //! ```
 //!
-//! A step that is known costs one hash of its key, a look at the table, and a test or a write for each number of its code. A step that is
-//! not costs a hash for each of its words and atoms, as without a memory. A step with a fault, an equality that does not hold, or an
-//! undefined amount has no code and is never known.
+//! A step that is known costs one hash of its key, a look at the table, and a test or a write for each number of its code. One that is not
+//! costs a look at memory for each name and each atom that came up of late, and a hash for others. A step with a fault, an equality that does not
+//! hold, or an undefined amount has no code and is never known.
 //!
 //! Memory is taken as steps are learned. All judges of a run share a room of [`ALL_CODES`] steps, [`ALL_NUMBERS`] numbers of their codes and
 //! [`ALL_KEY_BYTES`] bytes of keys: each may take an equal part, of 13 MiB at most and of less than 2 MiB where there are 32 judges, beside the
 //! atoms that have numbers. What has no room is judged as without a memory. Codes are forgotten, with
 //! the numbers that they speak of, at the begin of a plan once more than [`MOST_LATER`] atoms beside the initial ones have numbers. Where
-//! hardly any step is found the memory rests for some plans.
+//! hardly any step is found the memory rests for some plans, and for twice as many each time.
 #![tactic(auto)]
 
 mod amounts;

@@ -6,8 +6,10 @@ const TRIAL: u32 = 16_384;
 /// Of so many look-ups one has to find a step.
 const WORTH: u32 = 4;
 
-/// For how many plans nobody asks where they are not.
-const REST: u32 = 16;
+/// For how many plans nobody asks where they are not, the first time and at most. Each time it is twice as many as before.
+const FIRST_REST: u32 = 16;
+
+const LONGEST_REST: u32 = 4_096;
 
 /// How often a step was looked up and found.
 #[derive(Clone, Copy, Debug)]
@@ -15,6 +17,7 @@ pub(crate) struct Usage {
     asked: u32,
     found: u32,
     rested: u32,
+    rest: u32,
 }
 
 impl Usage {
@@ -23,6 +26,7 @@ impl Usage {
             asked: 0,
             found: 0,
             rested: 0,
+            rest: FIRST_REST,
         }
     }
 
@@ -43,10 +47,13 @@ impl Usage {
     pub(crate) fn begin(&mut self) {
         if self.asks() {
             self.rested = 0;
-        } else if self.rested < REST {
+        } else if self.rested < self.rest {
             self.rested += 1;
         } else {
-            *self = Usage::new();
+            *self = Usage {
+                rest: self.rest.saturating_mul(2).min(LONGEST_REST),
+                ..Usage::new()
+            };
         }
     }
 }

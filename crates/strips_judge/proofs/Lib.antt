@@ -10,3 +10,5 @@ pub mod Runs
 pub mod Searches
 pub mod StepLaws
 pub mod VerdictLaws
+pub mod NumberedSteps
+pub mod FoundNames

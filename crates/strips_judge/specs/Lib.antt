@@ -8,3 +8,5 @@ pub mod Step
 pub mod Verdict
 pub mod Validity
 pub mod Laws
+pub mod RecentNames
+pub mod StepNumbers

@@ -57,7 +57,7 @@ fn find_objects(
 }
 
 /// The first object that does not fit the parameter beside it, counted from 1.
-fn first_ill_typed(task: &Task, params: &[Alternatives], objects: &[u16]) -> Option<u32>
+pub(crate) fn first_ill_typed(task: &Task, params: &[Alternatives], objects: &[u16]) -> Option<u32>
     requires few { length params.now ≤ 32 }
     requires beside { length objects.now ≡ length params.now }
     requires types { All (λ alternatives. All (λ type. type < length task.now.parents) alternatives) params.now }

@@ -8,7 +8,6 @@ ghost use Rattle.strips_task.specs.declared.atoms.Atom.{Atom};
 ghost use Rattle.strips_task.specs.declared.atoms.GroundCond.{GroundCond};
 ghost use Rattle.strips_task.specs.declared.steps.StepText.{StepText};
 ghost use Rattle.strips_task.specs.declared.tasks.TaskParts.{TaskParts};
-ghost use Rattle.strips_task.specs.StepView.{step_shown};
 ghost use Rattle.strips_task.specs.Within.{IsPatternWithin, IsFormulaWithin};
 ghost use Rattle.strips_judge.specs.Codes.{AreNumbers, AsksFor, IsCode, asking_more, code_shown};
 ghost use Rattle.strips_judge.specs.Grounding.{ground, ground_condition};
@@ -17,13 +16,11 @@ ghost use Rattle.strips_judge.specs.Numbered.{Grows, state_of};
 ghost use Rattle.strips_judge.specs.State.{with_all, without};
 ghost use Rattle.strips_judge.specs.Step.{hindrance, after};
 
-use crate::arguments::bind;
 use crate::grounding::{ground, object_of};
-use crate::judging::Scratch;
 use crate::state::NumberedState;
 use std::alloc::{AllocError, Global};
 use std::marker::Model;
-use strips_task::{Action, Atom, Cond, Formula, Pattern, StepView, Task};
+use strips_task::{Action, Atom, Cond, Formula, Pattern};
 
 /// What a step asks of the state and does to it, by the numbers of its atoms in a [`NumberedState`].
 #[derive(Clone, Copy, Debug)]
@@ -152,41 +149,8 @@ fn set_all(state: &mut NumberedState<'_>, numbers: &[u32])
     }
 }
 
-/// Puts the code of a step into a buffer. Whether the step has one. Its atoms get numbers where they have none, and stay true or false.
-///
-/// Takes one hash for each of the step's words and for each of its atoms. Where there is no code, or memory runs out, the buffer holds
-/// part of one.
-pub fn code_of_step(
-    alloc: Global,
-    task: &Task,
-    step: StepView<'_>,
-    state: &mut NumberedState<'_>,
-    scratch: &mut Scratch,
-    code: &mut CodeBuffer,
-) -> Result<bool, AllocError>
-    ensures code { IfOk result (λ found. IsTrue found → IsCode task.now state.new.atoms (step_shown step.entry) code.new) }
-    ensures state { state_of state.new ≡ state_of state.old }
-    ensures grows { Grows state.old state.new }
-{
-    let Some(number) = task.action_named(step.action()) else {
-        return Ok(false);
-    };
-    let action = task.action(number);
-    if bind(task, action, step, &mut scratch.objects)?.is_some() {
-        return Ok(false);
-    }
-    code_of_action(
-        alloc,
-        action,
-        scratch.objects.as_slice(),
-        state,
-        &mut scratch.atom,
-        code,
-    )
-}
-
 /// Puts the code of an action with these objects into a buffer, if it has one.
-fn code_of_action(
+pub(crate) fn code_of_action(
     alloc: Global,
     action: &Action,
     objects: &[u16],

@@ -58,7 +58,7 @@ pub(crate) fn missing_ground(
 }
 
 /// Whether a condition of an action holds when the parameters are bound to these objects. Its atom is grounded in place.
-fn holds(
+pub(crate) fn holds(
     state: &mut NumberedState<'_>,
     cond: &Cond,
     objects: &[u16],

@@ -13,14 +13,19 @@ mod effects;
 mod grounding;
 mod judging;
 pub mod laws;
+mod numbered_steps;
 mod numbers;
 mod recent;
+mod recent_names;
 mod state;
+mod step_names;
 mod verdict;
 
-pub use codes::{CodeBuffer, StepCode, code_of_step, take_by_code};
+pub use codes::{CodeBuffer, StepCode, take_by_code};
 pub use judging::{Scratch, judge, judge_goal, take_step};
+pub use numbered_steps::{code_of_numbered, take_numbered};
 pub use state::NumberedState;
+pub use step_names::StepNames;
 pub use strips_task::{
     Action, Alternatives, Atom, AtomList, Cond, CondList, Formula, GroundCond, GroundFormula,
     InitialAtoms, MOST_STEPS, Name, NameTable, OpenSteps, Pattern, Plan, Seed, Seq, ShortSeq,

@@ -4,7 +4,6 @@ ghost use Rattle.pddl_words.specs.Words.{folded};
 ghost use Rattle.strips_task.specs.declared.plans.Plan.TheVariants.{Steps, Unreadable};
 ghost use Rattle.strips_task.specs.declared.steps.StepText.{StepText};
 ghost use Rattle.strips_task.specs.declared.steps.TheConstants.{MOST_STEPS};
-ghost use Rattle.strips_task.specs.Spelled.{IsSpelled, step_spelled};
 ghost use Rattle.strips_task.specs.Steps.{step_of};
 ghost use Rattle.plan_text.specs.PlanReading.{plan_of};
 ghost use Rattle.plan_text.specs.Walks.{HasPassed};
@@ -49,14 +48,14 @@ pub(crate) fn pass(
     ensures passed { IfOk result (λ passed. EndsPass passed walk.new judge.new) }
 {
     'steps: loop {
-        if go_on(judge, walk) {
+        if go_on(alloc, judge, walk)? {
             continue 'steps;
         }
         match walk.next_step() {
             TextStep::End => return Ok(Passed::All),
             TextStep::Unreadable { line } => return Ok(Passed::Unreadable { line }),
-            TextStep::Step { words, key } => {
-                if let Some(why) = take_words(alloc, judge, step, words, key)? {
+            TextStep::Step { words, .. } => {
+                if let Some(why) = take_words(alloc, judge, step, words)? {
                     return Ok(Passed::Fails {
                         step: walk.count() as u32,
                         why,
@@ -67,41 +66,44 @@ pub(crate) fn pass(
     }
 }
 
-/// Takes the next step, if the judge knows what stands between its parentheses and its conditions hold: none of its bytes is looked at but to
-/// find the `)` and the key. Before a step, and behind one, it reads a stamp or a number on. Whether it did either; else the walk stays where
-/// it is.
-fn go_on(judge: &mut Judge<'_>, walk: &mut PlanSteps<'_>) -> bool
+/// Takes the next step, if the bytes between its parentheses are its names, each parted by one space, and it is applicable. A step that the judge
+/// knows is found by those bytes as a whole. Before a step, and behind one, it reads a stamp or a number on. Whether it did either; else the walk
+/// stays where it is.
+fn go_on(
+    alloc: Global,
+    judge: &mut Judge<'_>,
+    walk: &mut PlanSteps<'_>,
+) -> Result<bool, AllocError>
     requires { AreTogether walk.old judge.old }
     ensures task { judge.new.task ≡ judge.old.task }
     ensures text { walk.new.text ≡ walk.old.text }
-    ensures together { AreTogether walk.new judge.new }
-    ensures shorter { IsTrue result → length walk.new.rest < length walk.old.rest }
-    ensures stays { result ≡ false → walk.new ≡ walk.old }
+    ensures together { IfOk result (λ goes_on. AreTogether walk.new judge.new) }
+    ensures shorter { IfOk result (λ goes_on. IsTrue goes_on → length walk.new.rest < length walk.old.rest) }
+    ensures stays { IfOk result (λ goes_on. goes_on ≡ false → walk.new ≡ walk.old) }
 {
-    if !judge.asks() {
-        return false;
-    }
     let Some(group) = walk.next_group() else {
-        return walk.pass_number();
+        return Ok(walk.pass_number());
     };
-    if !judge.take_known(group.key) {
-        return false;
+    if judge.take_known(group.key) {
+        walk.skip(group);
+        return Ok(true);
+    }
+    if !judge.take_row(alloc, group.key)? {
+        return Ok(false);
     }
     walk.skip(group);
-    true
+    Ok(true)
 }
 
-/// Takes a step of these words, or else answers why it is not applicable. Where a key spells it, the judge may learn it.
+/// Takes a step of these words, or else answers why it is not applicable.
 fn take_words(
     alloc: Global,
     judge: &mut Judge<'_>,
     step: &mut OpenSteps,
     words: StepWords<'_>,
-    key: Option<&[u8]>,
 ) -> Result<Option<Why>, AllocError>
     requires some { 0 < length words }
     requires room { judge.old.count < MOST_STEPS }
-    requires key { IfSome key (λ key. IsSpelled key.now × (step_spelled key.now ≡ step_of (map folded words))) }
     ensures task { judge.new.task ≡ judge.old.task }
     ensures taken { IfOk result (λ why. IfNone why ((steps : List StepText) → HasTaken judge.old steps → HasTaken judge.new (steps ++ step_of (map folded words.entry) ∷ []))) }
     ensures fails { IfOk result (λ why. IfSome why (λ why. (steps : List StepText) → HasTaken judge.old steps
@@ -109,7 +111,7 @@ fn take_words(
 {
     step.clear();
     words.push_to(step)?;
-    judge.take(alloc, step.get(0), key)
+    judge.take(alloc, step.get(0))
 }
 
 /// Walks to the end of a text, and answers the line of its first fault, if it has one.

@@ -9,9 +9,11 @@ use Rattle.step_memo.proofs.TakenLaws.{with_value, has_taken_more, judge_still}
 use Rattle.step_memo.proofs.judge.Judge.take_known.Goals as goal
 
 pub invariant_of-self : goal.invariant_of-self
-invariant_of-self c =
-    judge_still c.self.inside.task.now c.self.inside.state c.self.inside.cost c.self.inside.count c.self.inside.memo c.self.invariant c.take_found-found.new.state
-    c.take_found-found.ensures.initial c.take_found-found.ensures.atoms
+invariant_of-self c = (
+  judge_still c.self.inside.task.now c.self.inside.state c.self.inside.cost c.self.inside.count c.self.inside.memo c.self.invariant.0 c.take_found-found.new.state
+      c.take_found-found.ensures.initial c.take_found-found.ensures.atoms,
+  c.self.invariant.1,
+)
 
 pub returns-clause-taken : goal.returns-clause-taken
 returns-clause-taken c = λ t.

@@ -8,19 +8,19 @@ use Rattle.plan_cost.specs.declared.costs.Cost.TheVariants.{NotCounted}
 use Rattle.plan_cost.specs.Assessments.{assessment}
 use Rattle.step_memo.specs.Judging.{Judging, HasTaken}
 use Rattle.step_memo.proofs.TakenLaws.{fails_here, has_taken_more, judge_grown, judge_counted}
-use Rattle.step_memo.proofs.judge.Judge.take_unlearned.Goals as goal
+use Rattle.step_memo.proofs.judge.Judge.take.Goals as goal
 
 pub invariant_of-self : goal.invariant_of-self
 invariant_of-self c =
-    judge_grown c.self.inside.task.now c.self.inside.state c.self.inside.cost c.self.inside.count c.self.inside.memo c.self.invariant c.take_step.new.state c.take_step.ensures.grows
+    (judge_grown c.self.inside.task.now c.self.inside.state c.self.inside.cost c.self.inside.count c.self.inside.memo c.self.invariant.0 c.take_step.new.state c.take_step.ensures.grows, c.self.invariant.1)
 
 pub invariant_of-self-in-Some : goal.invariant_of-self-in-Some
 invariant_of-self-in-Some c =
-    judge_grown c.self.inside.task.now c.self.inside.state c.self.inside.cost c.self.inside.count c.self.inside.memo c.self.invariant c.take_step.new.state c.take_step.ensures.grows
+    (judge_grown c.self.inside.task.now c.self.inside.state c.self.inside.cost c.self.inside.count c.self.inside.memo c.self.invariant.0 c.take_step.new.state c.take_step.ensures.grows, c.self.invariant.1)
 
 pub invariant_of-self-in_err-amount : goal.invariant_of-self-in_err-amount
 invariant_of-self-in_err-amount c =
-    judge_grown c.self.inside.task.now c.self.inside.state c.self.inside.cost c.self.inside.count c.self.inside.memo c.self.invariant c.take_step.new.state c.take_step.ensures.grows
+    (judge_grown c.self.inside.task.now c.self.inside.state c.self.inside.cost c.self.inside.count c.self.inside.memo c.self.invariant.0 c.take_step.new.state c.take_step.ensures.grows, c.self.invariant.1)
 
 pub returns-in-Some-clause-fails : goal.returns-in-Some-clause-fails
 returns-in-Some-clause-fails c =
@@ -31,10 +31,12 @@ returns-in-Some-clause-fails c =
 
 pub invariant_of-self-2 : goal.invariant_of-self-2
 invariant_of-self-2 c =
-    let lt : c.self.inside.count < 1000000 = omega (arith, c.requires, ap (λ (j : Judging). j.count) c.self.view_is) in
-    judge_counted c.self.inside.task.now c.take_step.new.state c.self.inside.cost c.self.inside.count c.self.inside.memo
-    (judge_grown c.self.inside.task.now c.self.inside.state c.self.inside.cost c.self.inside.count c.self.inside.memo c.self.invariant c.take_step.new.state c.take_step.ensures.grows)
-    c.added-self-inside.result c.in_ok-amount.amount lt c.added-self-inside.ensures.small c.in_ok-amount.ensures.small
+    let lt : c.self.inside.count < 1000000 = omega (arith, c.requires, ap (λ (j : Judging). j.count) c.self.view_is) in (
+      judge_counted c.self.inside.task.now c.take_step.new.state c.self.inside.cost c.self.inside.count c.self.inside.memo
+          (judge_grown c.self.inside.task.now c.self.inside.state c.self.inside.cost c.self.inside.count c.self.inside.memo c.self.invariant.0 c.take_step.new.state c.take_step.ensures.grows)
+          c.added-self-inside.result c.in_ok-amount.amount lt c.added-self-inside.ensures.small c.in_ok-amount.ensures.small,
+      c.self.invariant.1,
+    )
 
 pub returns-clause-taken : goal.returns-clause-taken
 returns-clause-taken c =

@@ -1,0 +1,22 @@
+use Rattle.std.proofs.Common.{◌≡◌, ◌+◌, ◌∷◌, ◌++◌, [], List, ℕ, subst, sym}
+use Rattle.strips_task.specs.declared.steps.StepText.{StepText}
+use Rattle.strips_task.specs.declared.tasks.TaskParts.{TaskParts}
+use Rattle.strips_task.specs.Spelled.{step_spelled}
+use Rattle.strips_judge.specs.StepNumbers.{IsNumbered}
+use Rattle.step_memo.specs.Judging.{Judging, HasTaken}
+use Rattle.step_memo.proofs.TakenLaws.{has_taken_more}
+use Rattle.step_memo.proofs.judge.Judge.take_row.Goals as goal
+
+pub returns-clause-taken : goal.returns-clause-taken
+returns-clause-taken c = λ t.
+    let task = c.self.inside.task.now in
+    let step = step_spelled c.args.row.now in
+    let named = subst (λ (parts : TaskParts). IsNumbered parts step c.number.new.numbers.items) c.self.invariant.1 (c.in_ok-number.ensures.numbered c.if-not-branch.false) in
+    let numbered = subst (λ (numbers : List ℕ). IsNumbered task.task step numbers) (sym c.as_slice-numbers.ensures.value) named in
+    let taken = c.in_ok-is_taken.ensures.taken c.if-not-is_taken.false in
+    subst (λ (j : Judging). (steps : List StepText) → HasTaken j steps
+    → HasTaken (record { task = task; state = c.take_new.new.state; cost = c.added-self-inside.result; count = c.self.inside.count + 1 }) (steps ++ step ∷ []))
+    c.self.view_is
+    (has_taken_more task c.self.inside.state c.self.inside.cost c.self.inside.count c.take_new.new.state c.added-self-inside.result c.in_ok-amount.amount step
+    (record { not_hindered = taken.0; leads = taken.1; adds = c.in_ok-amount.ensures.amount step numbered })
+    c.added-self-inside.ensures.sum)

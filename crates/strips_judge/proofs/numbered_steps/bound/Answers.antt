@@ -1,0 +1,23 @@
+use Rattle.std.proofs.Common.{sym, ap, subst, ◌∙◌, arith, take, drop, length, ◌-◌, get_or}
+use Rattle.std.specs.List.{position_from, zip}
+use Rattle.std.proofs.lemmas.Slice.{first_rest}
+use Rattle.strips_judge.specs.Step.{is_ill_typed}
+use Rattle.strips_judge.specs.StepNumbers.{IsNumbered}
+use Rattle.strips_judge.proofs.NumberedSteps.{bound_objects, bound_faultless}
+use Rattle.strips_judge.proofs.numbered_steps.bound.Goals as goal
+
+pub returns-in-None-clause-faultless : goal.returns-in-None-clause-faultless
+returns-in-None-clause-faultless c = λ step is.
+    let numbers = c.args.numbers.now in
+    let objects = take (length numbers - 1) (drop 1 numbers) in
+    let parted = subst (IsNumbered c.args.task.now step) (first_rest numbers 0 (omega (arith, c.in-len1-up.len_at_least))) is in
+    bound_faultless c.args.task.now step (get_or numbers 0 0) objects parted c.action-action.result.now c.action-action.ensures.action
+    (c.if-objects-len.false ∙ c.len.ensures)
+    (ap (λ params. position_from (is_ill_typed c.args.task.now) 1 (zip params objects)) (sym c.as_slice.ensures) ∙ sym c.first_ill_typed.ensures ∙ c.in-None.is)
+
+pub returns-in-None-clause-objects : goal.returns-in-None-clause-objects
+returns-in-None-clause-objects c = λ step is.
+    let numbers = c.args.numbers.now in
+    let objects = take (length numbers - 1) (drop 1 numbers) in
+    bound_objects c.args.task.now step (get_or numbers 0 0) objects
+    (subst (IsNumbered c.args.task.now step) (first_rest numbers 0 (omega (arith, c.in-len1-up.len_at_least))) is)

@@ -1,0 +1,117 @@
+//! Steps that are known by the numbers of their names.
+//!
+//! What a step asks and does depends on its action and its objects alone, so whoever has their numbers needs none of its words. A step that
+//! is not applicable is not explained here: the judge finds out by its words, once a plan.
+ghost use Rattle.std.specs.Prelude.{◌≡◌, [], length, map, false, None, Some, IfOk, IfSome, IsTrue, All};
+ghost use Rattle.strips_task.specs.declared.steps.StepText.{StepText};
+ghost use Rattle.strips_task.specs.Within.{IsActionWithin, IsFormulaWithin};
+ghost use Rattle.strips_judge.specs.Codes.{IsCode};
+ghost use Rattle.strips_judge.specs.Grounding.{ground_condition};
+ghost use Rattle.strips_judge.specs.Numbered.{Grows, state_of};
+ghost use Rattle.strips_judge.specs.Step.{action_named, after, fault, hindrance, missing, objects_named};
+ghost use Rattle.strips_judge.specs.StepNumbers.{AreWithin, IsNumbered};
+
+use crate::arguments::first_ill_typed;
+use crate::codes::{CodeBuffer, code_of_action};
+use crate::conditions::holds;
+use crate::effects::apply;
+use crate::judging::Scratch;
+use crate::state::NumberedState;
+use std::alloc::{AllocError, Global};
+use strips_task::{Action, Atom, Cond, Task};
+
+/// Takes the step with these numbers where it is applicable, and else leaves the state as it is. Whether it did. Where memory runs out some of its
+/// effects may have happened.
+///
+/// Takes one look at memory for each atom that was looked up of late and one hash for each other, and memory for atoms that have no number yet.
+pub fn take_numbered(
+    alloc: Global,
+    task: &Task,
+    numbers: &[u16],
+    state: &mut NumberedState<'_>,
+    scratch: &mut Scratch,
+) -> Result<bool, AllocError>
+    requires { AreWithin task.now numbers.now }
+    ensures grows { Grows state.old state.new }
+    ensures taken { IfOk result (λ taken. IsTrue taken → (step : StepText) → IsNumbered task.now step numbers.now
+        → (hindrance task.now (state_of state.old) step ≡ None) × (state_of state.new ≡ after task.now (state_of state.old) step)) }
+    ensures not { IfOk result (λ taken. taken ≡ false → state_of state.new ≡ state_of state.old) }
+{
+    let Some((action, objects)) = bound(task, numbers) else {
+        return Ok(false);
+    };
+    let atom = &mut scratch.atom;
+    if !all_hold(state, action.pre.as_slice(), objects, atom)? {
+        return Ok(false);
+    }
+    apply(alloc, state, action, objects, atom)?;
+    Ok(true)
+}
+
+/// Puts the code of the step with these numbers into a buffer. Whether the step has one. Its atoms get numbers where they have none, and stay
+/// true or false.
+///
+/// Where there is no code, or memory runs out, the buffer holds part of one.
+pub fn code_of_numbered(
+    alloc: Global,
+    task: &Task,
+    numbers: &[u16],
+    state: &mut NumberedState<'_>,
+    scratch: &mut Scratch,
+    code: &mut CodeBuffer,
+) -> Result<bool, AllocError>
+    requires { AreWithin task.now numbers.now }
+    ensures code { IfOk result (λ found. IsTrue found → (step : StepText) → IsNumbered task.now step numbers.now
+        → IsCode task.now state.new.atoms step code.new) }
+    ensures state { state_of state.new ≡ state_of state.old }
+    ensures grows { Grows state.old state.new }
+{
+    let Some((action, objects)) = bound(task, numbers) else {
+        return Ok(false);
+    };
+    let found = code_of_action(alloc, action, objects, state, &mut scratch.atom, code)?;
+    Ok(found)
+}
+
+/// The action and the objects with these numbers, if the objects fit its parameters.
+fn bound<'t, 'n>(task: &'t Task, numbers: &'n [u16]) -> Option<(&'t Action, &'n [u16])>
+    requires { AreWithin task.now numbers.now }
+    ensures named { IfSome result (λ found. (step : StepText) → IsNumbered task.now step numbers.now
+        → action_named task.now step.action ≡ Some found.0.now) }
+    ensures faultless { IfSome result (λ found. (step : StepText) → IsNumbered task.now step numbers.now → fault task.now step ≡ None) }
+    ensures objects { IfSome result (λ found. (step : StepText) → IsNumbered task.now step numbers.now
+        → found.1.now ≡ objects_named task.now step.args) }
+    ensures within { IfSome result (λ found. IsActionWithin (length task.now.parents) found.0.now) }
+    ensures all { IfSome result (λ found. length found.1.now ≡ length found.0.now.params) }
+{
+    let [number, objects @ ..] = numbers else {
+        return None;
+    };
+    let action = task.action(*number);
+    if objects.len() != action.params.len() {
+        return None;
+    }
+    match first_ill_typed(task, action.params.as_slice(), objects) {
+        Some(_) => None,
+        None => Some((action, objects)),
+    }
+}
+
+/// Whether all conditions of an action with these objects hold.
+fn all_hold(
+    state: &mut NumberedState<'_>,
+    conds: &[Cond],
+    objects: &[u16],
+    atom: &mut Atom,
+) -> Result<bool, AllocError>
+    requires { All (λ cond. IsFormulaWithin (length objects.now) cond.formula) conds.now }
+    ensures none { IfOk result (λ all. IsTrue all → missing (state_of state.old) (map (ground_condition objects.now) conds.now) ≡ []) }
+    ensures same { state.new ≡ state.old }
+{
+    for cond in conds {
+        if !holds(state, cond, objects, atom)? {
+            return Ok(false);
+        }
+    }
+    Ok(true)
+}

@@ -1,0 +1,129 @@
+//! The names of steps as they are written, found by number.
+ghost use Rattle.std.specs.Prelude.{◌≡◌, ◌<◌, ℕ, List, true, IfOk, IfSome, IsTrue, Some, length};
+ghost use Rattle.pddl_words.specs.Words.{is_name, folded};
+ghost use Rattle.strips_task.specs.Names.{number_named};
+ghost use Rattle.strips_task.specs.Spelled.{IsSpelled, step_spelled};
+ghost use Rattle.strips_judge.specs.StepNumbers.{AreWithin, IsNumbered, number_by};
+
+use crate::recent_names::RecentNames;
+use pddl_words::{WordKind, word_kind};
+use std::alloc::{AllocError, Global};
+use std::marker::Model;
+use strips_task::{Task, WordList};
+
+/// Finds the names of steps by the bytes that write them, and keeps those that it found of late. Contracts see the task.
+#[derive(Drop)]
+pub struct StepNames<'t> {
+    task: &'t Task,
+    actions: RecentNames,
+    objects: RecentNames,
+    word: WordList,
+}
+
+impl<'t> Model for StepNames<'t> {
+    ghost use Rattle.std.specs.Prelude.{All};
+    ghost use Rattle.strips_task.specs.declared.tasks.TaskParts.{TaskParts};
+    ghost use Rattle.strips_task.specs.Names.{number_named};
+    ghost use Rattle.strips_judge.specs.RecentNames.{IsRecentName};
+
+    ghost Value = { TaskParts };
+
+    ghost view = { λ n. n.task.now };
+
+    ghost invariant = { λ n. All (IsRecentName (number_named n.task.now.actions)) n.actions
+        × All (IsRecentName (number_named n.task.now.objects)) n.objects };
+}
+
+impl<'t> StepNames<'t> {
+    /// The names of a task, none of which was looked up. Takes no memory.
+    pub fn new(alloc: Global, task: &'t Task) -> StepNames<'t>
+        ensures { result ≡ task.now }
+    {
+        StepNames {
+            task,
+            actions: RecentNames::new(alloc),
+            objects: RecentNames::new(alloc),
+            word: WordList::new(alloc),
+        }
+    }
+
+    /// Finds the numbers of the names of a step, if the row spells one and each name is known: the action's, and then those of the objects. Whether
+    /// it did.
+    ///
+    /// A name takes a hash and a look at one place of memory where it was looked up of late, and one look-up in the task's table else. Takes
+    /// memory for that once.
+    pub fn number(&mut self, row: &[u8], numbers: &mut Vec<u16>) -> Result<bool, AllocError>
+        ensures task { self.new ≡ self.old }
+        ensures spelled { IfOk result (λ found. IsTrue found → IsSpelled row.now) }
+        ensures numbered { IfOk result (λ found. IsTrue found → IsNumbered self.old (step_spelled row.now) numbers.new.items) }
+        ensures within { IfOk result (λ found. IsTrue found → AreWithin self.old numbers.new.items) }
+    {
+        numbers.clear();
+        for word in row.split(|b| *b == b' ') {
+            match self.number_of(numbers.is_empty(), word)? {
+                Some(number) => numbers.push(number)?,
+                None => return Ok(false),
+            }
+        }
+        Ok(!numbers.is_empty())
+    }
+
+    /// The number of the action, or else of the object, that a word names, if it is a name that is known.
+    fn number_of(&mut self, is_action: bool, word: &[u8]) -> Result<Option<u16>, AllocError>
+        ensures task { self.new ≡ self.old }
+        ensures named { IfOk result (λ found. IfSome found (λ number. (is_name word.now ≡ true) × (number_by self.old is_action (folded word.now) ≡ Some number))) }
+    {
+        if is_action {
+            self.action(word)
+        } else {
+            self.object(word)
+        }
+    }
+
+    /// The number of the action that a word names.
+    fn action(&mut self, word: &[u8]) -> Result<Option<u16>, AllocError>
+        ensures task { self.new ≡ self.old }
+        ensures named { IfOk result (λ found. IfSome found (λ number. (is_name word.now ≡ true) × (number_named self.old.actions (folded word.now) ≡ Some number))) }
+    {
+        if let Some(number) = self.actions.find(word) {
+            return Ok(Some(number));
+        }
+        if !is_name(word) {
+            return Ok(None);
+        }
+        self.word.clear();
+        self.word.push_folded(word)?;
+        let Some(number) = self.task.action_named(self.word.get(0)) else {
+            return Ok(None);
+        };
+        self.actions.keep(word, number)?;
+        Ok(Some(number))
+    }
+
+    /// The number of the object that a word names.
+    fn object(&mut self, word: &[u8]) -> Result<Option<u16>, AllocError>
+        ensures task { self.new ≡ self.old }
+        ensures named { IfOk result (λ found. IfSome found (λ number. (is_name word.now ≡ true) × (number_named self.old.objects (folded word.now) ≡ Some number))) }
+    {
+        if let Some(number) = self.objects.find(word) {
+            return Ok(Some(number));
+        }
+        if !is_name(word) {
+            return Ok(None);
+        }
+        self.word.clear();
+        self.word.push_folded(word)?;
+        let Some(number) = self.task.object_named(self.word.get(0)) else {
+            return Ok(None);
+        };
+        self.objects.keep(word, number)?;
+        Ok(Some(number))
+    }
+}
+
+/// Whether a word is a name.
+fn is_name(word: &[u8]) -> bool
+    ensures { IsTrue result → is_name word.now ≡ true }
+{
+    matches!(word_kind(word), WordKind::Name)
+}
