@@ -1,0 +1,6 @@
+(define (problem house-of-2) (:domain letters)
+  (:objects s1 s2 - storey a - letter)
+  (:init (clerk-on s1)
+         (above s2 s1)
+         (lies a s2))
+  (:goal (and (lies a s1))))

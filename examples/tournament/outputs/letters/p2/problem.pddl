@@ -1,0 +1,8 @@
+(define (problem house-of-3) (:domain letters)
+  (:objects s1 s2 s3 - storey a b - letter)
+  (:init (clerk-on s1)
+         (above s2 s1)
+         (above s3 s2)
+         (lies a s3)
+         (lies b s3))
+  (:goal (and (lies a s1) (lies b s1))))

@@ -1,0 +1,5 @@
+(define (problem board-of-1) (:domain switchboard)
+  (:objects w0 w1 - wire)
+  (:init (live w0)
+         (next w0 w1))
+  (:goal (and (live w1))))

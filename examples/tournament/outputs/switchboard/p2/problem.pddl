@@ -1,0 +1,8 @@
+(define (problem board-of-3) (:domain switchboard)
+  (:objects w0 w1 w2 w3 - wire)
+  (:init (live w0)
+         (next w0 w1)
+         (next w1 w2)
+         (next w2 w3)
+         (jammed w2))
+  (:goal (and (live w3))))

@@ -1,0 +1,7 @@
+(define (problem ledges) (:domain tidepool)
+  (:objects p1 p2 p3 - pool)
+  (:init (gull-at p1)
+         (snail p3)
+         (ledge p1 p2)
+         (ledge p2 p3))
+  (:goal (and (eaten p3))))

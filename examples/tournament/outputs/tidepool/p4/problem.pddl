@@ -1,0 +1,5 @@
+(define (problem nothing) (:domain tidepool)
+  (:objects p1 p2 p3 - pool)
+  (:init (gull-at p1)
+         (snail p3))
+  (:goal (and (gull-at p1))))

@@ -1,0 +1,6 @@
+(define (problem cut-off) (:domain tidepool)
+  (:objects p1 p2 p3 - pool)
+  (:init (gull-at p1)
+         (snail p3)
+         (ledge p1 p2))
+  (:goal (and (eaten p3))))

@@ -1,0 +1,57 @@
+"""The files results.tsv and results.json."""
+import json
+
+from .exact import cost_text, rounded
+from .names import shown
+
+COLUMNS = ["domain", "problem", "planner", "plans", "valid", "best_steps", "best_cost", "reference", "score", "status"]
+DIGITS = 6  # of a score
+
+
+def number(value):
+    """A number of a result, or - if there is none."""
+    return "-" if value is None else str(value)
+
+
+def cells(result):
+    """The cells of a result's row."""
+    return [
+        shown(result.domain), shown(result.problem), shown(result.planner), str(result.plans), number(result.valid),
+        number(result.best_steps), cost_text(result.best_cost), cost_text(result.reference),
+        rounded(result.score, DIGITS), shown(result.status)]
+
+
+def as_tsv(tournament):
+    """The text of results.tsv."""
+    lines = [COLUMNS] + [cells(it) for it in tournament.results]
+    return "".join("\t".join(line) + "\n" for line in lines)
+
+
+def total_record(total):
+    """Sums of a planner, for results.json."""
+    return {
+        "coverage": total.coverage, "score": rounded(total.score, DIGITS), "exact_score": str(total.score),
+        "plans": total.plans, "valid": total.valid, "failed": total.failed, "not_judged": total.unjudged}
+
+
+def result_record(result):
+    """A result, for results.json. Numbers that need not be whole are texts, so that no reader rounds them."""
+    best = None
+    if result.best is not None:
+        best = {"file": result.best.file, "part": result.best.part or None, "report_line": result.best_line}
+    record = dict(zip(COLUMNS, cells(result)))
+    record.update(plans=result.plans, valid=result.valid, best_steps=result.best_steps)
+    for name, value in ("best_cost", result.best_cost), ("reference", result.reference):
+        record[name] = None if value is None else cost_text(value)
+    record.update(failed=result.failed, exact_score=str(result.score), counts="cost" if result.counts_costs else "steps", best_plan=best)
+    return record
+
+
+def as_json(tournament):
+    """The text of results.json."""
+    standings = [
+        {"rank": rank, "planner": shown(planner), **total_record(total),
+         "domains": {shown(it): total_record(tournament.total(planner, it)) for it in tournament.domains()}}
+        for rank, planner, total in tournament.standings()]
+    whole = {"dialect": tournament.dialect, "standings": standings, "results": [result_record(it) for it in tournament.results]}
+    return json.dumps(whole, indent=1, ensure_ascii=False) + "\n"
