@@ -50,8 +50,10 @@ def mark(status):
 
 
 def value_text(result):
-    """What a result is worth: its cost or its steps."""
-    return cost_text(result.value) if result.solved else result.status.split(":")[0]
+    """What a result is worth: its cost or its steps, or why it has none."""
+    if not result.solved:
+        return result.status.split(":")[0]
+    return "undefined" if result.value is None else cost_text(result.value)
 
 
 class Site:
@@ -139,7 +141,9 @@ class Site:
             unit = "cost" if found.report.counts_costs else "number of steps"
             path = "problems/%s/%s" % (file_name(found.entry.domain), file_name(found.entry.problem))
             plot = self.plot(path, plots.progress_plot(lines, unit, "progress"))
-        self.page(problem_page(found.entry), "problem.html", found=found, row=row, plans=plans, plot=plot, shown_lines=len(lines))
+        holder = next((it for it in row if it.solved and it.value is not None and it.value == it.reference), None)
+        self.page(problem_page(found.entry), "problem.html", found=found, row=row, plans=plans, plot=plot, holder=holder,
+                  shown_lines=len(lines), most=plots.MOST_SERIES)
 
     def progress_lines(self, found):
         """For each planner with valid plans, the least cost up to each of them, if some planner has two plans."""

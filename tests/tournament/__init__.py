@@ -1,0 +1,1 @@
+"""The tests of bin/tournament, which bin/check_tournament runs."""

@@ -1,0 +1,188 @@
+"""Tests of bin/tournament as a command, without its pages. They need the program plan_judge, and no package."""
+import filecmp
+import os
+import shutil
+import signal
+import subprocess
+import sys
+import time
+
+from tests.tournament.units import Folder
+
+TOP = os.path.dirname(os.path.dirname(os.path.dirname(os.path.realpath(__file__))))
+EXAMPLE = os.path.join(TOP, "examples", "tournament")
+OUTPUTS = os.path.join(EXAMPLE, "outputs")
+DOMAIN = "(define (domain lamp) (:predicates (lit) (dark)) (:action light :precondition (dark) :effect (and (lit) (not (dark)))))"
+PROBLEM = "(define (problem one) (:domain lamp) (:init (dark)) (:goal (lit)))"
+SECONDS = 300
+
+
+def read(*path):
+    """The bytes of a file."""
+    with open(os.path.join(*path), "rb") as file:
+        return file.read()
+
+
+class Calls(Folder):
+    """Calls of bin/tournament with a site in a folder of their own."""
+
+    def setUp(self):
+        super().setUp()
+        self.site = os.path.join(self.folder, "site")
+
+    def words(self, *words):
+        """The words of a call that writes no pages."""
+        return [sys.executable, os.path.join(TOP, "bin", "tournament"), *words, "--out", self.site, "--no-site", "-j", "2"]
+
+    def call(self, *words, status=0, **environment):
+        """Runs a call, and returns what it printed on standard error."""
+        done = subprocess.run(self.words(*words), env=dict(os.environ, **environment), capture_output=True, text=True, timeout=SECONDS)
+        self.assertEqual((done.returncode, done.stderr.count("Traceback")), (status, 0), done.stderr)
+        return done.stderr
+
+    def rows(self):
+        """The rows of results.tsv below its head."""
+        return [it.split("\t") for it in read(self.site, "results.tsv").decode().splitlines()[1:]]
+
+    def lamp(self, plans):
+        """Outputs for one problem: pairs of a planner and the text of its plan."""
+        outputs = os.path.join(self.folder, "outputs")
+        self.write("outputs/lamp/one/domain.pddl", DOMAIN)
+        self.write("outputs/lamp/one/problem.pddl", PROBLEM)
+        for planner, text in plans:
+            self.write("outputs/lamp/one/%s/sas_plan" % planner, text)
+        return outputs
+
+    def counting(self, rest):
+        """A program that notes its calls, and then goes on with these lines of sh."""
+        real = os.environ["PLAN_JUDGE"]
+        text = '#!/bin/sh\n[ "$1" = judge ] || exec "%s" "$@"\necho "$0" >> "%s/calls"\n%s\nexec "%s" "$@"\n' % (real, self.folder, rest, real)
+        path = self.write("counting", text)
+        os.chmod(path, 0o755)
+        return path
+
+    def calls(self):
+        """How many times that program judged."""
+        path = os.path.join(self.folder, "calls")
+        return read(path).count(b"\n") if os.path.exists(path) else 0
+
+
+class Example(Calls):
+    def test_the_outputs_are_what_the_script_makes(self):
+        made = os.path.join(self.folder, "made")
+        subprocess.run([sys.executable, os.path.join(EXAMPLE, "make"), made], check=True)
+        pending = [filecmp.dircmp(made, OUTPUTS)]
+        while pending:
+            both = pending.pop()
+            self.assertEqual((both.left_only, both.right_only, both.diff_files, both.funny_files), ([], [], [], []))
+            pending += both.subdirs.values()
+
+    def test_the_results_are_those_worked_out_apart(self):
+        apart = subprocess.run([sys.executable, os.path.join(EXAMPLE, "work_out")], check=True, capture_output=True).stdout
+        self.assertEqual(read(EXAMPLE, "results.tsv"), apart)
+        said = self.call(OUTPUTS, "--reference", os.path.join(EXAMPLE, "reference.tsv"))
+        self.assertEqual(read(self.site, "results.tsv"), apart)
+        self.assertEqual(said, "tournament: letters p4 is refused: problem line 8 bytes 231-233: UnknownName\n")
+
+    def test_a_manifest_gives_the_same_results(self):
+        lines = []
+        for domain in sorted(os.listdir(OUTPUTS)):
+            for problem in sorted(it for it in os.listdir(os.path.join(OUTPUTS, domain)) if it != "domain.pddl"):
+                here = os.path.join(OUTPUTS, domain, problem)
+                front = [os.path.join(OUTPUTS, domain, "domain.pddl"), os.path.join(here, "problem.pddl")]
+                for planner in "good", "lazy", "faulty":
+                    folder = os.path.join(here, planner)
+                    plans = sorted(os.listdir(folder)) if os.path.isdir(folder) else []
+                    lines += ["\t".join([domain, problem, planner, *front, os.path.join(folder, it)]) for it in plans]
+                    lines += [] if plans else ["\t".join([domain, problem, planner, *front, ""])]
+        manifest = self.write("manifest.tsv", "\n".join(lines))
+        self.call("--manifest", manifest, "--reference", os.path.join(EXAMPLE, "reference.tsv"))
+        self.assertEqual(read(self.site, "results.tsv"), read(EXAMPLE, "results.tsv"))
+
+
+class Going(Calls):
+    def test_an_interrupted_call_goes_on(self):
+        program = self.counting('[ ! -e "%s/block" ] || [ $(wc -l < "%s/calls") -le 5 ] || exec sleep 100' % (self.folder, self.folder))
+        block = self.write("block")
+        environment = dict(os.environ, PLAN_JUDGE=program)
+        process = subprocess.Popen(self.words(OUTPUTS), env=environment, stdout=subprocess.DEVNULL, stderr=subprocess.PIPE, text=True)
+        until = time.time() + SECONDS
+        while self.calls() < 7 and time.time() < until:
+            time.sleep(0.02)
+        process.send_signal(signal.SIGINT)
+        said = process.communicate(timeout=SECONDS)[1]
+        kept = sum(it.endswith(".json") for _, _, files in os.walk(os.path.join(self.site, "reports")) for it in files)
+        self.assertEqual((process.returncode, kept), (130, 5))
+        self.assertIn("interrupted: 5 of 20 problems are judged", said)
+        self.assertFalse(os.path.exists(os.path.join(self.site, "results.tsv")))
+        os.remove(block)
+        before = self.calls()
+        self.call(OUTPUTS, "--reference", os.path.join(EXAMPLE, "reference.tsv"), PLAN_JUDGE=program)
+        self.assertEqual(self.calls() - before, 15)
+        self.assertEqual(read(self.site, "results.tsv"), read(EXAMPLE, "results.tsv"))
+
+    def test_only_what_has_changed_is_judged_again(self):
+        program = self.counting("")
+        outputs = self.lamp([("a", "(light)")])
+        shutil.copytree(os.path.join(outputs, "lamp", "one"), os.path.join(outputs, "lamp", "two"))
+        self.call(outputs, PLAN_JUDGE=program)
+        self.write("outputs/lamp/two/a/sas_plan", "(light) (light)")
+        self.call(outputs, PLAN_JUDGE=program)
+        self.assertEqual((self.calls(), [it[-1] for it in self.rows()]), (3, ["solved", "failed"]))
+        self.call(outputs, "--dialect", "strips", PLAN_JUDGE=program)
+        self.assertEqual(self.calls(), 5)
+
+    def test_a_call_that_goes_wrong_is_told_and_made_again(self):
+        broken = self.counting("echo 'out of memory' >&2; exit 3")
+        said = self.call(self.lamp([("a", "(light)")]), status=1, PLAN_JUDGE=broken)
+        self.assertIn("lamp one is refused: plan_judge ended with status 3: out of memory", said)
+        self.call(os.path.join(self.folder, "outputs"))
+        self.assertEqual([it[-1] for it in self.rows()], ["solved"])
+
+
+class Odd(Calls):
+    def test_odd_names(self):
+        odd = ["a b", "tab\there", "new\nline", "-o", "<b>&\"'", "\udcff\u00e9", "plans 1 valid 1", "n" * 250]
+        self.call(self.lamp([(it, "(light)") for it in odd]))
+        self.assertEqual([it[-1] for it in self.rows()], ["solved"] * 8)
+        self.assertEqual(sorted(it[2] for it in self.rows())[:4], ["-o", "<b>&\"'", "\\xff\u00e9", "a b"])
+
+    def test_more_planners_than_a_call_takes(self):
+        self.call(self.lamp([("planner%d" % it, "(light)" if it != 66 else "") for it in range(70)]))
+        self.assertEqual([it[-1] for it in self.rows()], ["solved"] * 66 + ["failed"] + ["solved"] * 3)
+
+    def test_files_that_are_missing(self):
+        outputs = self.lamp([("a", "(light)")])
+        self.write("outputs/lamp/two/problem.pddl", PROBLEM)
+        self.write("outputs/lamp/none/domain.pddl", DOMAIN)
+        said = self.call(outputs)
+        self.assertEqual([(it[1], it[-1]) for it in self.rows()], [
+            ("none", "refused: cannot read problem.pddl: No such file or directory"), ("one", "solved"),
+            ("two", "refused: cannot read domain.pddl: No such file or directory")])
+        self.assertEqual(said.count("is refused"), 2)
+
+    def test_a_problem_that_nobody_has_a_plan_for_is_read_all_the_same(self):
+        outputs = self.lamp([("a", "(light)")])
+        for name, text in ("two", PROBLEM), ("three", PROBLEM.replace("lit", "lot")):
+            self.write("outputs/lamp/%s/problem.pddl" % name, text)
+            self.write("outputs/lamp/%s/domain.pddl" % name, DOMAIN)
+        self.call(outputs)
+        self.assertEqual([(it[1], it[-1].split(" line")[0]) for it in self.rows()], [
+            ("one", "solved"), ("three", "refused: problem"), ("two", "no plan")])
+
+
+class Wrong(Calls):
+    def test_wrong_calls(self):
+        outputs = self.lamp([("a", "(light)")])
+        for words in [], [outputs, "--manifest", "m"], [outputs, "-j", "0"], [outputs, "--dialect", "x"], [outputs, "--strange"]:
+            self.assertEqual(self.call(*words, status=2).count("\n"), 1)
+        for words in [self.folder + "/none"], [outputs, "--reference", "none"], [outputs, "--compare", "a", "z"], ["--manifest", "none"]:
+            self.assertEqual(self.call(*words, status=1).count("\n"), 1)
+
+    def test_other_folders_are_left_alone(self):
+        outputs = self.lamp([("a", "(light)")])
+        self.write("site/precious")
+        self.assertIn("is not empty, and is no site", self.call(outputs, status=1))
+        self.assertEqual(os.listdir(self.site), ["precious"])
+        self.site = os.path.join(outputs, "site")
+        self.assertIn("SITE is in FOLDER", self.call(outputs, status=2))

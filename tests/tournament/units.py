@@ -1,0 +1,236 @@
+"""Tests of the parts of bin/tournament that need neither a program nor a package."""
+import os
+import tempfile
+import unittest
+from fractions import Fraction
+
+from tournament import entries, exact, names, plans, reports, scores, store
+from tournament.judging import Judged
+
+
+class Folder(unittest.TestCase):
+    """Tests that write files into a folder of their own."""
+
+    def setUp(self):
+        folder = tempfile.TemporaryDirectory()
+        self.addCleanup(folder.cleanup)
+        self.folder = folder.name
+
+    def write(self, path, data=b""):
+        """Writes a file, and returns its path."""
+        whole = os.path.join(self.folder, path)
+        os.makedirs(os.path.dirname(whole), exist_ok=True)
+        with open(whole, "wb") as file:
+            file.write(data if isinstance(data, bytes) else data.encode())
+        return whole
+
+
+class Names(unittest.TestCase):
+    def test_numbers_sort_as_numbers(self):
+        given = ["plan_10", "plan_2", "sas_plan.10", "sas_plan.9", "sas_plan", "plan"]
+        self.assertEqual(sorted(given, key=names.numeric_order), ["plan", "plan_2", "plan_10", "sas_plan", "sas_plan.9", "sas_plan.10"])
+
+    def test_names_of_files_are_safe_and_differ(self):
+        odd = ["a b", "a~20b", "a\tb", "a/b", "-a", ".a", "a+2", "A", "a", "\u00e9", "\udcff", "x" * 300, "x" * 299 + "y", "", "<b>&\""]
+        made = [names.file_name(it) for it in odd]
+        self.assertEqual(len(set(made)), len(odd))
+        self.assertEqual(made[:6], ["a~20b", "a~7E20b", "a~09b", "a~2Fb", "~2Da", "~2Ea"])
+        for it in made:
+            self.assertRegex(it, r"\A[A-Za-z0-9._~-]*\Z")
+            self.assertLess(len(it), 200)
+
+    def test_shown_names_have_no_control_characters(self):
+        self.assertEqual(names.shown("a\tb\nc\\d\udcff\u00e9"), "a\\tb\\nc\\\\d\\xff\u00e9")
+
+
+class Exact(unittest.TestCase):
+    def test_scores(self):
+        self.assertEqual(exact.satisficing(Fraction(4), Fraction(6)), Fraction(2, 3))
+        self.assertEqual(exact.satisficing(Fraction(0), Fraction(0)), 1)
+        self.assertEqual(exact.satisficing(Fraction(0), Fraction(3)), 0)
+        self.assertEqual(exact.satisficing(Fraction(4), None), 0)
+        self.assertEqual(exact.satisficing(None, None), 0)
+
+    def test_halves_are_rounded_up(self):
+        self.assertEqual(exact.rounded(Fraction(2, 3), 6), "0.666667")
+        self.assertEqual(exact.rounded(Fraction(1, 8), 2), "0.13")
+        self.assertEqual(exact.rounded(Fraction(1, 2), 0), "1")
+        self.assertEqual(exact.rounded(Fraction(0), 6), "0.000000")
+        self.assertEqual(exact.rounded(Fraction(199999, 100), 1), "2000.0")
+
+    def test_costs_are_read_and_printed_exactly(self):
+        for text, printed in ("007", "7"), ("0.50", "0.5"), ("3.000000001", "3.000000001"), ("0", "0"), ("9" * 20 + ".25", "9" * 20 + ".25"):
+            self.assertEqual(exact.cost_text(exact.read_cost(text)), printed)
+        for text in "", "-", "-1", "1e3", ".5", "5.", "1/2", " 1", "\u0661":
+            self.assertIsNone(exact.read_cost(text))
+
+
+class Plans(Folder):
+    def test_bundles_separate_plans(self):
+        files = [self.write("p/plan_%d" % it, text) for it, text in ((2, "(a)"), (10, ""), (11, "(b)\n"))]
+        found, (bundle,) = plans.planners_plans("p", files)
+        self.assertEqual(bundle.content(), b"(a)\n---\n---\n(b)\n")
+        self.assertEqual([(it.file, it.bundle, it.number) for it in found], [("plan_2", "p", 1), ("plan_10", "p", 2), ("plan_11", "p", 3)])
+
+    def test_a_file_with_separators_holds_several_plans(self):
+        path = self.write("p/sas_plan", "(a)\n--- \t\r\n---\n(b)\n--- no\n")
+        found, (bundle,) = plans.planners_plans("p", [path])
+        self.assertEqual([(it.part, it.number) for it in found], [(1, 1), (2, 2), (3, 3)])
+        self.assertEqual(bundle.content(), b"(a)\n---\n---\n(b)\n--- no\n")
+
+    def test_files_that_cannot_be_judged_are_kept_with_the_reason(self):
+        large = self.write("p/plan.1", b" " * (plans.MOST_BYTES + 1))
+        found, (bundle,) = plans.planners_plans("p", [large, os.path.join(self.folder, "none"), self.folder, self.write("p/plan.4", "(a)")])
+        self.assertEqual([bool(it.unread) for it in found], [True, True, True, False])
+        self.assertIn("plan.1 is too large", found[0].unread)
+        self.assertEqual(found[1].unread, "cannot read none: No such file or directory")
+        self.assertEqual(bundle.texts, [b"(a)"])
+
+    def test_plans_beyond_the_limit_of_a_file_go_into_another(self):
+        half = b"(a)" + b" " * (plans.MOST_BYTES // 2)
+        files = [self.write("p/plan.%d" % it, half) for it in (1, 2, 3)]
+        found, bundles = plans.planners_plans("p", files)
+        self.assertEqual([it.name for it in bundles], ["p", "p+2", "p+3"])
+        self.assertEqual([(it.bundle, it.number) for it in found], [("p", 1), ("p+2", 1), ("p+3", 1)])
+        self.assertTrue(all(len(it.content()) <= plans.MOST_BYTES for it in bundles))
+
+    def test_calls_take_64_planners_and_65536_plans(self):
+        many = [plans.Bundle("p%d" % it, [b""]) for it in range(130)]
+        self.assertEqual([len(it) for it in plans.batches(many)], [64, 64, 2])
+        full = [plans.Bundle("a", [b""] * 65536), plans.Bundle("b", [b""])]
+        self.assertEqual([[it.name for it in group] for group in plans.batches(full)], [["a"], ["b"]])
+
+    def test_own_costs(self):
+        for text, cost in (b"(a)\n; cost = 12 (unit cost)\n", "12"), (b";cost=0.5", "0.5"), (b"; cost = 1\n; Cost: 2", "2"), (b"; cost = x", ""), \
+                (b"(cost = 4)", ""), (b"; cost = 1e3", ""), (b"; makespan = 3", ""):
+            self.assertEqual(plans.own_cost(text), cost)
+
+
+class Entries(Folder):
+    def test_a_folder(self):
+        for path in "d/p10/good/sas_plan.10", "d/p10/good/sas_plan.9", "d/p10/good/run.log", "d/p2/lazy/x", "d/p2/problem.pddl", "d/domain.pddl", \
+                "d/p2/domain.pddl", "d/.git/p1/x/sas_plan":
+            self.write(path)
+        first, second = entries.from_folder(self.folder)
+        place = lambda path: os.path.join(self.folder, path)
+        self.assertEqual((first.problem, first.domain_file, first.plans), ("p2", place("d/p2/domain.pddl"), {"lazy": []}))
+        self.assertEqual((second.problem, second.domain_file), ("p10", place("d/domain.pddl")))
+        self.assertEqual(second.plans, {"good": [place("d/p10/good/sas_plan.9"), place("d/p10/good/sas_plan.10")]})
+
+    def test_a_manifest(self):
+        path = self.write("m.tsv", "\t".join(entries.MANIFEST) + "\nd\tp\tb\tD\tP\tx.10\nd\tp\tb\tD\tP\tx.9\r\n\nd\tp\ta\tD\tP\t\nd\to\ta\tD\tP\ty\nd\to\ta\tD\tP\tx\n")
+        first, second = entries.from_manifest(path)
+        place = lambda name: os.path.join(self.folder, name)
+        self.assertEqual((first.problem, first.plans), ("o", {"a": [place("y"), place("x")]}))
+        self.assertEqual(second.plans, {"b": [place("x.9"), place("x.10")], "a": []})
+
+    def test_faulty_tables(self):
+        for text, words in ("d\tp\tb\tD\tP", "line 1 has 5 columns"), ("d\tp\t\tD\tP\tx", "only the last column may be empty"), \
+                ("d\tp\ta\tD\tP\tx\nd\tp\ta\tD\tQ\tx", "line 2: other files"), ("", "names no problem"):
+            with self.assertRaisesRegex(entries.Wrong, words):
+                entries.from_manifest(self.write("m.tsv", text))
+        for text, words in ("d\tp\t-1", "line 1: -1 is no cost"), ("d\tp\t1\nd\tp\t1", "line 2: a second cost"):
+            with self.assertRaisesRegex(entries.Wrong, words):
+                entries.references(self.write("r.tsv", text))
+
+    def test_references(self):
+        path = self.write("r.tsv", "domain\tproblem\tcost\nd\tp\t2.50\n")
+        self.assertEqual(entries.references(path), {("d", "p"): Fraction(5, 2)})
+
+
+def report(*lines):
+    """The text of a report."""
+    return "".join(it + "\n" for it in ("domain d problem p",) + lines)
+
+
+class Reports(unittest.TestCase):
+    def test_names_may_hold_anything(self):
+        text = report("a 1 1 valid 3", "a 1 plans 1 valid 1 best 3", "a 1 fails at 1 (x): unknown action", "a plans 1 valid 0 best -")
+        found = reports.Report(text, [[("a 1", 1), ("a", 1)]])
+        self.assertEqual((found.verdicts["a 1", 1].steps, found.verdicts["a", 1].valid, found.summaries), (3, False, {"a 1": 3, "a": 5}))
+
+    def test_several_calls(self):
+        text = report("a 1 valid 3 cost 2.5", "a plans 1 valid 1 best 3 cost 2.5") + report("b 1 valid 4 cost -", "b plans 1 valid 1 best 4 cost -")
+        found = reports.Report(text, [[("a", 1)], [("b", 1)]])
+        self.assertEqual((found.counts_costs, found.verdicts["a", 1].cost, found.verdicts["b", 1].cost), (True, Fraction(5, 2), None))
+        self.assertEqual(found.verdicts["b", 1].line, 5)
+
+    def test_other_forms_are_found_out(self):
+        for text in "", report(), report("b 1 valid 3", "b plans 1 valid 1 best 3"), report("a 1 valid 3", "a plans 2 valid 1 best 3"), \
+                report("a 1 valid 3", "a plans 1 valid 1 best 3", "more"):
+            with self.assertRaises(reports.Unexpected):
+                reports.Report(text, [[("a", 1)]])
+
+
+class Scores(unittest.TestCase):
+    def found(self, texts, refused="", unread=()):
+        """The finding of a problem on which planners have these verdicts."""
+        entry = entries.Entry("d", "p", "", "", {name: [] for name in texts})
+        listed, lines, layout = [], [], []
+        for name, verdicts in texts.items():
+            listed += [plans.Plan(name, "x", bundle=name, number=at) for at in range(1, len(verdicts) + 1)]
+            listed += [plans.Plan(name, "y", unread="y is too large")] if name in unread else []
+            if verdicts:
+                costs = " cost -" if any("cost" in it for it in verdicts) else ""
+                lines += ["%s %d %s" % (name, at, it) for at, it in enumerate(verdicts, 1)]
+                lines.append("%s plans %d valid 0 best -%s" % (name, len(verdicts), costs))
+                layout.append((name, len(verdicts)))
+        if refused:
+            return Judged(entry, listed, refused=refused)
+        return Judged(entry, listed, reports.Report(report(*lines), [layout]))
+
+    def row(self, texts, given=None, **more):
+        """What counts of each planner's result."""
+        known = {} if given is None else {("d", "p"): Fraction(given)}
+        rows = scores.results_of(self.found(texts, **more), list(texts), known)
+        return [(it.status, it.value, it.reference, it.score) for it in rows]
+
+    def test_the_least_cost_counts_and_not_the_fewest_steps(self):
+        texts = {"a": ["valid 2 cost 9", "valid 5 cost 6", "goal missing (x)"], "b": ["valid 3 cost 4"]}
+        self.assertEqual(self.row(texts), [("solved", 6, 4, Fraction(2, 3)), ("solved", 4, 4, 1)])
+
+    def test_steps_count_where_costs_do_not(self):
+        self.assertEqual(self.row({"a": ["valid 6", "valid 4"], "b": ["valid 5"]}), [("solved", 4, 4, 1), ("solved", 5, 4, Fraction(4, 5))])
+
+    def test_an_undefined_cost_solves_and_scores_nothing(self):
+        self.assertEqual(self.row({"a": ["valid 2 cost -"]}), [("solved", None, None, 0)])
+        self.assertEqual(self.row({"a": ["valid 2 cost -"], "b": ["valid 2 cost 3"]})[0], ("solved", None, 3, 0))
+        self.assertEqual(self.row({"a": ["valid 2 cost -", "valid 9 cost 3"]}), [("solved", 3, 3, 1)])
+
+    def test_zero(self):
+        self.assertEqual(self.row({"a": ["valid 2 cost 0"], "b": ["valid 2 cost 3"]}), [("solved", 0, 0, 1), ("solved", 3, 0, 0)])
+
+    def test_references_count_if_they_are_lower(self):
+        self.assertEqual(self.row({"a": ["valid 2 cost 4"]}, "3.5"), [("solved", 4, Fraction(7, 2), Fraction(7, 8))])
+        self.assertEqual(self.row({"a": ["valid 2 cost 4"]}, 5), [("solved", 4, 4, 1)])
+        self.assertEqual(self.row({"a": ["valid 2 cost 4"]}, 0), [("solved", 4, 0, 0)])
+
+    def test_no_plan_is_not_a_failed_one(self):
+        row = scores.results_of(self.found({"a": [], "b": ["goal missing (x)"]}), ["a", "b", "c"], {})
+        self.assertEqual([(it.status, it.plans, it.valid, it.failed, it.score) for it in row],
+                         [("no plan", 0, 0, 0, 0), ("failed", 1, 0, 1, 0), ("no plan", 0, 0, 0, 0)])
+
+    def test_refusals(self):
+        row = scores.results_of(self.found({"a": ["valid 3"]}, refused="problem line 1"), ["a"], {})
+        self.assertEqual([(it.status, it.plans, it.valid, it.failed) for it in row], [("refused: problem line 1", 1, None, 0)])
+        texts = {"a": ["valid 3"], "b": ["goal missing (x)"]}
+        self.assertEqual([it[0] for it in self.row(texts, unread=("a", "b"))], ["solved", "refused: y is too large"])
+
+    def test_equal_planners_share_a_rank(self):
+        tournament = scores.Tournament([self.found({"a": ["valid 3"], "b": ["valid 4"], "c": ["valid 3"]})], {}, "ipc")
+        self.assertEqual([(rank, planner) for rank, planner, _ in tournament.standings()], [(1, "a"), (1, "c"), (3, "b")])
+
+
+class Stored(Folder):
+    def test_a_report_counts_only_for_its_input_and_whole(self):
+        kept, entry = store.Store(self.folder), entries.Entry("d", "p", "", "")
+        self.assertIsNone(kept.kept(entry, "1"))
+        kept.keep(entry, "1", "", b"report\n")
+        self.assertEqual(kept.kept(entry, "1"), ("", b"report\n"))
+        self.assertIsNone(kept.kept(entry, "2"))
+        self.write("d/p.txt", "rep")
+        self.assertIsNone(kept.kept(entry, "1"))
+
+    def test_fingerprints_tell_lists_apart(self):
+        lists = [[], [""], ["a", "b"], ["ab"], ["a", "b", ""], ["1:a"]]
+        self.assertEqual(len({store.fingerprint(it) for it in lists}), len(lists))
