@@ -1,4 +1,5 @@
 """The plots, as SVG. Colours are variables of CSS, so a page in the dark has other ones; shapes tell planners apart without any colour."""
+import html
 import io
 import re
 
@@ -57,16 +58,11 @@ def svg(figure, name, title):
     text = out.getvalue()
     box = re.search(r'viewBox="([^"]*)"', text).group(1)
     body = text[text.index("</defs>") + 7:] if text.index("<defs>") < text.index("<g ") else text[text.index("<g "):]
-    body = re.sub(r'(\bid="|url\(#|href="#)', lambda it: it.group() + name + "-", body)
+    body = re.sub(r'(\bid="|url\(#|xlink:href="#)', lambda it: it.group() + name + "-", body)
     for variable, colour in STAND_INS.items():
         body = body.replace(colour, "var(--%s, %s)" % (variable, LIGHT[variable]))
     head = '<svg xmlns="http://www.w3.org/2000/svg" xmlns:xlink="http://www.w3.org/1999/xlink" viewBox="%s" class="plot" role="group" ' % box
-    return head + 'aria-label="%s" style="stroke-linejoin: round; stroke-linecap: butt">%s' % (quoted(title), body.lstrip())
-
-
-def quoted(text):
-    """A text within an attribute."""
-    return text.replace("&", "&amp;").replace('"', "&quot;").replace("<", "&lt;")
+    return head + 'aria-label="%s" style="stroke-linejoin: round; stroke-linecap: butt">%s' % (html.escape(title), body.lstrip())
 
 
 def alone(text, root):

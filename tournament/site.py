@@ -158,7 +158,7 @@ class Site:
                 if value is None or value is False:
                     continue
                 pairs.append((number, min(value, pairs[-1][1]) if pairs else value))
-                links.append("#L%d" % verdict.line)
+                links.append(plots.ROOT + problem_page(found.entry) + "#L%d" % verdict.line)
             if pairs:
                 lines.append((planner, pairs, links))
         return lines if any(pairs[-1][0] > 1 for _, pairs, _ in lines) else []
