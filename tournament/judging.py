@@ -4,6 +4,7 @@ import dataclasses
 import os
 import shutil
 import subprocess
+import sys
 import tempfile
 import threading
 
@@ -43,13 +44,14 @@ class Program:
 
 
 def find_program():
-    """The program: PLAN_JUDGE of the environment, or what bin/plan_judge of a repository builds, or plan_judge beside this script."""
+    """The program: PLAN_JUDGE of the environment, or plan_judge beside the script; for bin/plan_judge of a repository what it has built."""
     here = os.path.dirname(os.path.dirname(os.path.realpath(__file__)))
-    beside = [os.path.join(here, "bin", "plan_judge"), os.path.join(here, "..", "..", "bin", "plan_judge")]
-    named = [os.environ["PLAN_JUDGE"]] if os.environ.get("PLAN_JUDGE") else [it for it in beside if os.path.exists(it)]
-    path = shutil.which(named[0]) if named else None
+    wrapper, script = os.path.join(here, "bin", "plan_judge"), os.path.abspath(sys.argv[0])
+    beside = [os.path.join(os.path.dirname(it), "plan_judge") for it in (script, os.path.realpath(script))]
+    named = os.environ.get("PLAN_JUDGE") or next((it for it in beside if os.path.exists(it)), "plan_judge")
+    path = shutil.which(named)
     if path is None:
-        raise Wrong("there is no program %s" % (named[0] if named else "plan_judge"))
+        raise Wrong("there is no program %s" % named)
     try:
         runs = subprocess.run([path, "--version"], stdin=subprocess.DEVNULL, stdout=subprocess.DEVNULL).returncode == 0
     except OSError:
@@ -57,7 +59,7 @@ def find_program():
     if not runs:
         raise Wrong("%s cannot be run" % path)
     built = os.path.join(here, "crates", "plan_judge", "out", "plan_judge")
-    is_wrapper = os.path.realpath(path) == os.path.realpath(beside[0]) and os.path.exists(built)
+    is_wrapper = os.path.realpath(path) == os.path.realpath(wrapper) and os.path.exists(built)
     return built if is_wrapper else os.path.abspath(path)
 
 
