@@ -6,6 +6,7 @@ import re
 import matplotlib
 from matplotlib.figure import Figure
 from matplotlib.ticker import FuncFormatter, LogLocator, MaxNLocator, NullLocator
+from matplotlib.transforms import ScaledTranslation
 
 from .exact import rounded
 from .names import shown
@@ -169,8 +170,10 @@ def progress_plot(lines, unit, name):
     for at, (planner, pairs, links) in enumerate(lines):
         colour, shape = series(at)
         numbers, costs = [it for it, _ in pairs], [float(it) for _, it in pairs]
-        axes.step(numbers + [last], costs + costs[-1:], where="post", color=colour, linewidth=1.4, alpha=0.85)
-        drawn = axes.scatter(numbers, costs, s=20, color=colour, marker=shape, label=short(planner), zorder=3, clip_on=False)
+        apart = (at - (len(lines) - 1) / 2) / 72  # so that lines at one cost do not hide each other
+        shifted = axes.transData + ScaledTranslation(2.5 * apart, -1.8 * apart, figure.dpi_scale_trans)
+        axes.step(numbers + [last], costs + costs[-1:], where="post", color=colour, linewidth=1.3, transform=shifted, clip_on=False)
+        drawn = axes.scatter(numbers, costs, s=18, color=colour, marker=shape, label=short(planner), zorder=3, transform=shifted, clip_on=False)
         drawn.set_urls(links)
     costs = [float(it) for _, pairs, _ in lines for _, it in pairs]
     spread = max(costs) - min(costs) or 1
