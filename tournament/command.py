@@ -25,9 +25,10 @@ def tell(line):
 
 
 class Words(argparse.ArgumentParser):
-    """The words of the command line. A wrong call is told in one line."""
+    """The words of the command line."""
 
     def error(self, message):
+        """Ends a wrong call with one line."""
         tell(message + HINT)
         sys.exit(2)
 
@@ -108,7 +109,7 @@ def judged(entries, given):
         with progress("judging", len(entries)) as tick:
             return judge_all(judge, entries, given.jobs, lambda it: (done.append(it), tick()))
     except KeyboardInterrupt:
-        tell("interrupted: %d of %d problems are judged, and the same call goes on from there" % (len(done), len(entries)))
+        tell("interrupted: %d of %d problems are judged" % (len(done), len(entries)))
         raise
 
 
@@ -144,14 +145,19 @@ def run(given):
     """Judges, and writes the results and the site. Returns the status."""
     entries = from_folder(given.folder) if given.folder is not None else from_manifest(given.manifest)
     known = references(given.reference) if given.reference is not None else {}
-    check_pairs(given.compare, {it for entry in entries for it in entry.plans})
+    planners = {it for entry in entries for it in entry.plans}
+    if not planners:
+        raise Wrong("no problem has a folder of a planner")
+    check_pairs(given.compare, planners)
     with site_folder(given.out):
         tournament = Tournament(judged(entries, given), known, given.dialect)
-        write(os.path.join(given.out, "results.tsv"), as_tsv(tournament).encode())
-        write(os.path.join(given.out, "results.json"), as_json(tournament).encode())
-        if not given.no_site:
+        results = {"results.tsv": as_tsv(tournament).encode(), "results.json": as_json(tournament).encode()}
+        if given.no_site:
+            for name, data in results.items():
+                write(os.path.join(given.out, name), data)
+        else:
             from .site import write_site
-            write_site(tournament, given, progress)
+            write_site(tournament, given, results, progress)
     for line in notes(tournament, known):
         tell(line)
     sys.stdout.write(standings_text(tournament))
@@ -190,5 +196,6 @@ def main(argv, text):
     except OSError as error:
         tell("%s: %s" % (error.filename or "cannot write", error.strerror))
     except KeyboardInterrupt:
+        tell("the reports are kept, and the same call goes on from there")
         return 130
     return 1

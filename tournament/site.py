@@ -4,6 +4,7 @@ import itertools
 import multiprocessing
 import os
 import shutil
+import signal
 
 import jinja2
 import markupsafe
@@ -15,7 +16,7 @@ from .store import write
 
 MOST_PAIRED = 12  # planners of which each pair is drawn
 HERE = os.path.dirname(os.path.realpath(__file__))
-PARTS = ["index.html", "style.css", "planners", "domains", "problems", "compare", "plots"]
+PARTS = ["results.tsv", "results.json", "index.html", "style.css", "planners", "domains", "problems", "compare", "plots"]
 MARKS = {"solved": "\u2713", "failed": "\u2717", "no plan": "\u2013", "refused": "!"}
 
 
@@ -60,7 +61,7 @@ class Site:
     """Writes the pages into a folder."""
 
     def __init__(self, tournament, title, pairs, folder):
-        self.tournament, self.title, self.folder = tournament, title, folder
+        self.tournament, self.title, self.folder = tournament, shown(title), folder
         self.standings = tournament.standings()
         self.ranked = [planner for _, planner, _ in self.standings]
         self.pairs = pairs or self.chosen_pairs()
@@ -185,18 +186,26 @@ def write_part(work):
     getattr(write_part.site, kind)(what)
 
 
-def write_site(tournament, given, progress):
-    """Writes all pages beside the old ones, and then puts them in their place."""
+def ignore_interrupts():
+    """Leaves interrupts to the process that waits for this one."""
+    signal.signal(signal.SIGINT, signal.SIG_IGN)
+    signal.signal(signal.SIGTERM, signal.SIG_DFL)
+
+
+def write_site(tournament, given, results, progress):
+    """Writes all pages and the files of results beside the old ones, and then puts them in their place."""
     new = os.path.join(given.out, ".new")
     shutil.rmtree(new, ignore_errors=True)
     site = write_part.site = Site(tournament, given.title, [tuple(it) for it in given.compare], new)
     work = [("problem", at) for at in range(len(tournament.found))] + [("pair", it) for it in site.pairs]
     work += [("planner", it) for it in tournament.planners] + [("domain", it) for it in tournament.domains()]
     fork = multiprocessing.get_context("fork")
-    with progress("pages", len(work)) as tick, concurrent.futures.ProcessPoolExecutor(given.jobs, fork) as pool:
+    with progress("pages", len(work)) as tick, concurrent.futures.ProcessPoolExecutor(given.jobs, fork, ignore_interrupts) as pool:
         for _ in pool.map(write_part, work, chunksize=4):
             tick()
     site.index()
+    for name, data in results.items():
+        write(os.path.join(new, name), data)
     shutil.copy(os.path.join(HERE, "templates", "style.css"), new)
     put_in_place(new, given.out)
 

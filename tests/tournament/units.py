@@ -101,8 +101,9 @@ class Plans(Folder):
         self.assertEqual([[it.name for it in group] for group in plans.batches(full)], [["a"], ["b"]])
 
     def test_own_costs(self):
-        for text, cost in (b"(a)\n; cost = 12 (unit cost)\n", "12"), (b";cost=0.5", "0.5"), (b"; cost = 1\n; Cost: 2", "2"), (b"; cost = x", ""), \
-                (b"(cost = 4)", ""), (b"; cost = 1e3", ""), (b"; makespan = 3", ""):
+        said = {b"(a)\n; cost = 12 (unit cost)\n": "12", b";cost=0.5": "0.5", b"; cost = 1\n; Cost: 2": "2"}
+        said.update(dict.fromkeys([b"; cost = x", b"(cost = 4)", b"; cost = 1e3", b"; makespan = 3"], ""))
+        for text, cost in said.items():
             self.assertEqual(plans.own_cost(text), cost)
 
 
@@ -118,7 +119,8 @@ class Entries(Folder):
         self.assertEqual(second.plans, {"good": [place("d/p10/good/sas_plan.9"), place("d/p10/good/sas_plan.10")]})
 
     def test_a_manifest(self):
-        path = self.write("m.tsv", "\t".join(entries.MANIFEST) + "\nd\tp\tb\tD\tP\tx.10\nd\tp\tb\tD\tP\tx.9\r\n\nd\tp\ta\tD\tP\t\nd\to\ta\tD\tP\ty\nd\to\ta\tD\tP\tx\n")
+        lines = ["d p b D P x.10", "d p b D P x.9\r", "", "d p a D P ", "d o a D P y", "d o a D P x", ""]
+        path = self.write("m.tsv", "\n".join(["\t".join(entries.MANIFEST)] + [it.replace(" ", "\t") for it in lines]))
         first, second = entries.from_manifest(path)
         place = lambda name: os.path.join(self.folder, name)
         self.assertEqual((first.problem, first.plans), ("o", {"a": [place("y"), place("x")]}))
