@@ -123,7 +123,9 @@ def notes(tournament, known):
         lines += ["%s, %s: %s" % (place, shown(it.planner), it.unread) for it in found.plans if it.unread]
     for planner in tournament.planners:
         if not tournament.total(planner).plans:
-            lines.append("%s has no plan at all" % shown(planner))
+            other = next((it.entry.others[planner] for it in tournament.found if planner in it.entry.others), None)
+            hint = "; files such as %s are passed over, since plans are called sas_plan* or plan.NUMBER" % shown(other) if other else ""
+            lines.append("%s has no plan at all%s" % (shown(planner), hint))
     problems = {(shown(it.entry.domain), shown(it.entry.problem)) for it in tournament.found}
     strange = [it for it in known if it not in problems]
     if strange:

@@ -17,12 +17,16 @@ class Wrong(Exception):
 
 @dataclasses.dataclass
 class Entry:
-    """A problem with the plan files of each planner, in their order. A planner without a file has no plan."""
+    """A problem with the plan files of each planner, in their order. A planner without a file has no plan.
+
+    OTHERS has a file that is no plan by its name, for each planner that left some.
+    """
     domain: str
     problem: str
     domain_file: str
     problem_file: str
     plans: dict = dataclasses.field(default_factory=dict)
+    others: dict = dataclasses.field(default_factory=dict)
 
 
 def folders(path):
@@ -32,10 +36,11 @@ def folders(path):
     return sorted(names, key=numeric_order)
 
 
-def plan_files(path):
-    """The plan files in a planner's folder, in numeric order."""
-    names = [it for it in os.listdir(path) if PLAN_NAME.fullmatch(it) and not os.path.isdir(os.path.join(path, it))]
-    return [os.path.join(path, it) for it in sorted(names, key=numeric_order)]
+def sorted_files(path):
+    """The plan files in a planner's folder, and its other files, in numeric order."""
+    names = sorted((it for it in os.listdir(path) if not os.path.isdir(os.path.join(path, it))), key=numeric_order)
+    plans = [it for it in names if PLAN_NAME.fullmatch(it)]
+    return [os.path.join(path, it) for it in plans], [os.path.join(path, it) for it in names if it not in plans]
 
 
 def from_folder(top):
@@ -56,9 +61,12 @@ def entry_of(top, domain, problem):
     """The entry of one folder DOMAIN/PROBLEM."""
     here = os.path.join(top, domain, problem)
     own, common = os.path.join(here, "domain.pddl"), os.path.join(top, domain, "domain.pddl")
-    plans = {planner: plan_files(os.path.join(here, planner)) for planner in folders(here)}
     chosen = common if os.path.exists(common) and not os.path.lexists(own) else own
-    return Entry(domain, problem, chosen, os.path.join(here, "problem.pddl"), plans)
+    entry = Entry(domain, problem, chosen, os.path.join(here, "problem.pddl"))
+    for planner in folders(here):
+        entry.plans[planner], others = sorted_files(os.path.join(here, planner))
+        entry.others.update({planner: it for it in others[:1]})
+    return entry
 
 
 def rows(path, columns):

@@ -180,7 +180,7 @@ def progress_plot(lines, unit, name):
     axes.set_ylim(min(costs) - 0.08 * spread, max(costs) + 0.08 * spread)
     axes.set_xlim(0.7, last + 0.3)
     axes.xaxis.set_major_locator(MaxNLocator(6, integer=True, min_n_ticks=1))
-    axes.yaxis.set_major_locator(MaxNLocator(5))
+    axes.yaxis.set_major_locator(MaxNLocator(5, integer=all(it == int(it) for it in costs), min_n_ticks=1))
     axes.yaxis.set_major_formatter(FuncFormatter(lambda it, _: "%g" % it))
     axes.set_xlabel("plan, in the order of the planner's files")
     axes.set_ylabel("least %s so far" % unit)

@@ -115,6 +115,7 @@ class Entries(Folder):
         first, second = entries.from_folder(self.folder)
         place = lambda path: os.path.join(self.folder, path)
         self.assertEqual((first.problem, first.domain_file, first.plans), ("p2", place("d/p2/domain.pddl"), {"lazy": []}))
+        self.assertEqual(first.others, {"lazy": place("d/p2/lazy/x")})
         self.assertEqual((second.problem, second.domain_file), ("p10", place("d/domain.pddl")))
         self.assertEqual(second.plans, {"good": [place("d/p10/good/sas_plan.9"), place("d/p10/good/sas_plan.10")]})
 
