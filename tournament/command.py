@@ -91,13 +91,13 @@ def site_folder(path):
 
 
 @contextlib.contextmanager
-def progress(text, count):
+def progress(text, count, unit="problem"):
     """A progress bar on a terminal, if the package is there: the function to call after each of so many pieces of work."""
     if "tqdm" in packages.missing():
         yield lambda *_: None
         return
     from tqdm import tqdm
-    with tqdm(total=count, desc=text, unit="problem", disable=None, dynamic_ncols=True) as bar:
+    with tqdm(total=count, desc=text, unit=" " + unit, disable=None, dynamic_ncols=True) as bar:
         yield lambda *_: bar.update()
 
 

@@ -16,7 +16,7 @@ WIDTH = 4.4  # inches; about as wide as a telephone, so that letters stay readab
 SHAPES = "osD^vPX*"
 LIGHT = {"ink": "#1b1f23", "faint": "#b9c0c7", "bar": "#0072b2"}
 DARK = {"ink": "#e8eaed", "faint": "#4a525a", "bar": "#56b4e9"}
-LIGHT.update({"p%d" % at: it for at, it in enumerate("#0072b2 #d55e00 #009e73 #b0448a #5b4fa0 #a07800 #3b9ed6 #444444".split())})
+LIGHT.update({"p%d" % at: it for at, it in enumerate("#0072b2 #d55e00 #009e73 #b0448a #5b4fa0 #a07800 #2f8fc4 #444444".split())})
 DARK.update({"p%d" % at: it for at, it in enumerate("#56b4e9 #ff9a4d #2fd0a0 #f29bcf #b4a8ff #f0d24a #9fdcff #d0d0d0".split())})
 STAND_INS = {name: "#0a0b%02x" % at for at, name in enumerate(LIGHT)}  # colours in matplotlib's text, which become variables
 INK, FAINT, BAR = STAND_INS["ink"], STAND_INS["faint"], STAND_INS["bar"]
@@ -27,6 +27,11 @@ matplotlib.rcParams.update({
     "text.color": INK, "axes.labelcolor": INK, "axes.edgecolor": FAINT, "xtick.color": INK, "ytick.color": INK, "grid.color": FAINT,
     "axes.grid": True, "grid.linewidth": 0.5, "axes.axisbelow": True, "axes.spines.top": False, "axes.spines.right": False,
     "legend.frameon": False, "legend.fontsize": 8.5, "axes.facecolor": "none", "figure.facecolor": "none"})
+
+
+def variables(colours):
+    """Colours as variables of CSS."""
+    return "; ".join("--%s: %s" % it for it in colours.items())
 
 
 def series(at):
@@ -68,8 +73,8 @@ def svg(figure, name, title):
 
 def alone(text, root):
     """The text of a plot as a file of its own, in light and dark."""
-    colours = "; ".join("--%s: %s" % it for it in DARK.items())
-    style = "<style>svg { background: #fff } @media screen and (prefers-color-scheme: dark) { svg { background: #15191d; %s } }</style>" % colours
+    dark = "@media screen and (prefers-color-scheme: dark) { svg { background: #15191d; %s } }" % variables(DARK)
+    style = "<style>svg { background: #fff } %s</style>" % dark
     at = text.index(">") + 1
     return '<?xml version="1.0" encoding="utf-8"?>\n' + (text[:at] + style + text[at:]).replace(ROOT, root)
 

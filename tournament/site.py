@@ -200,13 +200,13 @@ def write_site(tournament, given, results, progress):
     work = [("problem", at) for at in range(len(tournament.found))] + [("pair", it) for it in site.pairs]
     work += [("planner", it) for it in tournament.planners] + [("domain", it) for it in tournament.domains()]
     fork = multiprocessing.get_context("fork")
-    with progress("pages", len(work)) as tick, concurrent.futures.ProcessPoolExecutor(given.jobs, fork, ignore_interrupts) as pool:
+    with progress("pages", len(work), "page") as tick, concurrent.futures.ProcessPoolExecutor(given.jobs, fork, ignore_interrupts) as pool:
         for _ in pool.map(write_part, work, chunksize=4):
             tick()
     site.index()
     for name, data in results.items():
         write(os.path.join(new, name), data)
-    shutil.copy(os.path.join(HERE, "templates", "style.css"), new)
+    site.page("style.css", "style.css", light=plots.variables(plots.LIGHT), dark=plots.variables(plots.DARK))
     put_in_place(new, given.out)
 
 
