@@ -69,26 +69,33 @@ def make_site(outputs, *words):
     return folder, site
 
 
+def odd_outputs():
+    """The outputs of planners with odd names, in a new folder."""
+    outputs = tempfile.TemporaryDirectory()
+    here = os.path.join(outputs.name, "lamps & <i>more", "one $1$ " + "w" * 150)
+    for planner in ODD:
+        os.makedirs(os.path.join(here, planner))
+        files = {"domain.pddl": DOMAIN, "problem.pddl": PROBLEM, os.path.join(planner, "sas_plan.1"): "(light) (light)"}
+        files[os.path.join(planner, "sas_plan.2")] = "(light)\n; cost = 7\n"
+        for name, text in files.items():
+            with open(os.path.join(here, name), "w") as file:
+                file.write(text)
+    return outputs
+
+
+def setUpModule():
+    """Makes the site of the example, and one of planners with odd names."""
+    folder, Sites.site = make_site(OUTPUTS, "--reference", os.path.join(EXAMPLE, "reference.tsv"))
+    unittest.addModuleCleanup(folder.cleanup)
+    outputs = odd_outputs()
+    unittest.addModuleCleanup(outputs.cleanup)
+    folder, Sites.odd_site = make_site(outputs.name, "--title", "<b>Odd</b> & long" + "g" * 80)
+    unittest.addModuleCleanup(folder.cleanup)
+
+
 class Sites(unittest.TestCase):
-    """The site of the example, and one of planners with odd names."""
-
-    @classmethod
-    def setUpClass(cls):
-        cls.folder, cls.site = make_site(OUTPUTS, "--reference", os.path.join(EXAMPLE, "reference.tsv"))
-        cls.outputs = tempfile.TemporaryDirectory()
-        for planner in ODD:
-            here = os.path.join(cls.outputs.name, "lamps & <i>more", "one $1$ " + "w" * 150)
-            os.makedirs(os.path.join(here, planner))
-            for name, text in ("domain.pddl", DOMAIN), ("problem.pddl", PROBLEM), (os.path.join(planner, "sas_plan.1"), "(light) (light)"), \
-                    (os.path.join(planner, "sas_plan.2"), "(light)\n; cost = 7\n"):
-                with open(os.path.join(here, name), "w") as file:
-                    file.write(text)
-        cls.odd_folder, cls.odd_site = make_site(cls.outputs.name, "--title", "<b>Odd</b> & long" + "g" * 80)
-
-    @classmethod
-    def tearDownClass(cls):
-        for folder in cls.folder, cls.outputs, cls.odd_folder:
-            folder.cleanup()
+    """Tests of these two sites."""
+    site = odd_site = None
 
     def files(self, ending):
         """All files of the sites with this ending."""
