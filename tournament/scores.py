@@ -1,6 +1,7 @@
 """Results of planners on problems, and the standings, in exact numbers."""
 import collections
 import dataclasses
+import functools
 from fractions import Fraction
 
 from .exact import satisficing
@@ -102,9 +103,9 @@ class Total:
         """How many problems are solved."""
         return sum(it.solved for it in self.results)
 
-    @property
+    @functools.cached_property
     def score(self):
-        """The sum of the scores."""
+        """The sum of the scores. As a fraction it may have thousands of digits."""
         return sum((it.score for it in self.results), Fraction(0))
 
     @property
@@ -136,14 +137,15 @@ class Tournament:
         self.planners = sorted({name for it in found for name in it.entry.plans}, key=numeric_order)
         self.rows = [results_of(it, self.planners, references) for it in found]
         self.results = [result for row in self.rows for result in row]
-        self.shares = collections.defaultdict(list)
+        shares = collections.defaultdict(list)
         for result in self.results:
-            self.shares[result.planner, None].append(result)
-            self.shares[result.planner, result.domain].append(result)
+            shares[result.planner, None].append(result)
+            shares[result.planner, result.domain].append(result)
+        self.totals = {share: Total(results) for share, results in shares.items()}
 
     def total(self, planner, domain=None):
         """The sums of a planner, over all domains or over one."""
-        return Total(self.shares[planner, domain])
+        return self.totals[planner, domain]
 
     def domains(self):
         """The domains, in their order."""

@@ -30,8 +30,8 @@ def as_tsv(tournament):
 def total_record(total):
     """Sums of a planner, for results.json."""
     return {
-        "coverage": total.coverage, "score": rounded(total.score, DIGITS), "exact_score": str(total.score),
-        "plans": total.plans, "valid": total.valid, "failed": total.failed, "not_judged": total.unjudged}
+        "coverage": total.coverage, "score": rounded(total.score, DIGITS), "plans": total.plans,
+        "valid": total.valid, "failed": total.failed, "not_judged": total.unjudged}
 
 
 def result_record(result):

@@ -4,7 +4,7 @@ import tempfile
 import unittest
 from fractions import Fraction
 
-from tournament import entries, exact, names, plans, reports, scores, store
+from tournament import entries, exact, names, plans, reports, scores, store, tables
 from tournament.judging import Judged
 
 
@@ -218,6 +218,14 @@ class Scores(unittest.TestCase):
         self.assertEqual([(it.status, it.plans, it.valid, it.failed) for it in row], [("refused: problem line 1", 1, None, 0)])
         texts = {"a": ["valid 3"], "b": ["goal missing (x)"]}
         self.assertEqual([it[0] for it in self.row(texts, unread=("a", "b"))], ["solved", "refused: y is too large"])
+
+    def test_sums_are_exact_and_can_be_printed_at_any_length(self):
+        found = [self.found({"a": ["valid 2 cost %d" % (10 ** 12 + at)]}) for at in range(500)]
+        tournament = scores.Tournament(found, {("d", "p"): Fraction("0.3")}, "ipc")
+        self.assertGreater(tournament.total("a").score.denominator, 10 ** 4300)
+        self.assertIn('"score": "0.000000"', tables.as_json(tournament))
+        thirds = [self.found({"a": ["valid 2 cost 3"]})] * 3
+        self.assertEqual(scores.Tournament(thirds, {("d", "p"): Fraction(1)}, "ipc").total("a").score, 1)
 
     def test_equal_planners_share_a_rank(self):
         tournament = scores.Tournament([self.found({"a": ["valid 3"], "b": ["valid 4"], "c": ["valid 3"]})], {}, "ipc")
