@@ -1,5 +1,6 @@
 """A headless Chromium that opens pages, as far as the checks of bin/tournament's pages need it (DevTools protocol over pipes)."""
 import base64
+import contextlib
 import itertools
 import json
 import os
@@ -22,7 +23,7 @@ class Browser:
     """A browser with one page. Trouble that a page has is collected: errors of scripts and styles, and requests to the network."""
 
     def __init__(self):
-        self.folder = tempfile.TemporaryDirectory(prefix="browser-")
+        self.folder = tempfile.TemporaryDirectory(prefix="browser-", ignore_cleanup_errors=True)
         read_end, self.out = os.pipe()
         self.back, write_end = os.pipe()
         words = [program(), *FLAGS, "--user-data-dir=" + self.folder.name, "about:blank"]
@@ -32,8 +33,7 @@ class Browser:
         os.close(read_end)
         os.close(write_end)
         self.numbers, self.buffer, self.session, self.events = itertools.count(1), b"", None, []
-        targets = self.call("Target.getTargets")["targetInfos"]
-        page = next(it["targetId"] for it in targets if it["type"] == "page")
+        page = self.call("Target.createTarget", url="about:blank")["targetId"]
         self.session = self.call("Target.attachToTarget", targetId=page, flatten=True)["sessionId"]
         for domain in "Page", "Runtime", "Log", "Network":
             self.call(domain + ".enable")
@@ -42,6 +42,11 @@ class Browser:
         return self
 
     def __exit__(self, *_):
+        self.session = None
+        with contextlib.suppress(OSError, EOFError):
+            self.call("Browser.close")
+        with contextlib.suppress(subprocess.TimeoutExpired):
+            self.process.wait(20)
         self.process.kill()
         self.process.wait()
         os.close(self.out)
