@@ -46,6 +46,8 @@ def sorted_files(path):
 def from_folder(top):
     """The entries of a folder DOMAIN/PROBLEM/PLANNER/sas_plan*. The file domain.pddl may be in DOMAIN as well."""
     entries = []
+    if os.path.isfile(top):
+        raise Wrong("%s is a file and no folder; a list of files is given with --manifest" % top)
     try:
         for domain in folders(top):
             for problem in folders(os.path.join(top, domain)):

@@ -176,7 +176,7 @@ class Wrong(Calls):
         outputs = self.lamp([("a", "(light)")])
         for words in [], [outputs, "--manifest", "m"], [outputs, "-j", "0"], [outputs, "--dialect", "x"], [outputs, "--strange"]:
             self.assertEqual(self.call(*words, status=2).count("\n"), 1)
-        for words in [self.folder + "/none"], [outputs, "--reference", "none"], [outputs, "--compare", "a", "z"], ["--manifest", "none"]:
+        for words in [self.folder + "/none"], [os.path.join(outputs, "lamp", "one", "a", "sas_plan")], [outputs, "--reference", "none"], [outputs, "--compare", "a", "z"], ["--manifest", "none"]:
             self.assertEqual(self.call(*words, status=1).count("\n"), 1)
 
     def test_other_folders_are_left_alone(self):
