@@ -32,7 +32,7 @@ class Calls(Folder):
 
     def words(self, *words):
         """The words of a call that writes no pages."""
-        return [sys.executable, os.path.join(TOP, "bin", "tournament"), *words, "--out", self.site, "--no-site", "-j", "2"]
+        return [sys.executable, os.path.join(TOP, "bin", "tournament"), "--out", self.site, "--no-site", "-j", "2", *words]
 
     def call(self, *words, status=0, **environment):
         """Runs a call, and returns what it printed on standard error."""
@@ -105,9 +105,9 @@ class Going(Calls):
         program = self.counting('[ ! -e "%s/block" ] || [ $(wc -l < "%s/calls") -le 5 ] || exec sleep 100' % (self.folder, self.folder))
         block = self.write("block")
         environment = dict(os.environ, PLAN_JUDGE=program)
-        process = subprocess.Popen(self.words(OUTPUTS), env=environment, stdout=subprocess.DEVNULL, stderr=subprocess.PIPE, text=True)
+        process = subprocess.Popen(self.words(OUTPUTS, "-j", "1"), env=environment, stdout=subprocess.DEVNULL, stderr=subprocess.PIPE, text=True)
         until = time.time() + SECONDS
-        while self.calls() < 7 and time.time() < until:
+        while self.calls() < 6 and time.time() < until:
             time.sleep(0.02)
         process.send_signal(signal.SIGINT)
         said = process.communicate(timeout=SECONDS)[1]
