@@ -83,15 +83,15 @@ class Judge:
             return Judged(entry, plans, refused=str(unread))
         groups = batches(bundles)
         mark = fingerprint([self.program.mark, *texts, *(piece for it in bundles for piece in (it.name, it.content()))])
-        found = self.store.kept(entry, mark)
-        if found is None:
-            found = self.ask(texts, groups)
-            if found[0] is not None:
-                self.store.keep(entry, mark, *found[:2])
-        return self.judged(entry, plans, groups, *found)
+        kept = self.store.kept(entry, mark)
+        answer = kept or self.ask(texts, groups)
+        found = self.judged(entry, plans, groups, *answer)
+        if not kept and found.kept:
+            self.store.keep(entry, mark, *answer[:2])
+        return found
 
     def judged(self, entry, plans, groups, refused, report, trouble=""):
-        """The finding that a report or a refusal is."""
+        """What a report, a refusal or a call that went wrong says of a problem."""
         if refused or trouble:
             return Judged(entry, plans, refused=refused or trouble, kept=not trouble)
         layout = [[(it.name, len(it.texts)) for it in group] for group in groups] or [[(STAND_IN, 1)]]

@@ -196,6 +196,7 @@ def write_site(tournament, given, results, progress):
     """Writes all pages and the files of results beside the old ones, and then puts them in their place."""
     new = os.path.join(given.out, ".new")
     shutil.rmtree(new, ignore_errors=True)
+    # The processes are forked after this, so each has the site without a copy being sent.
     site = write_part.site = Site(tournament, given.title, [tuple(it) for it in given.compare], new)
     work = [("problem", at) for at in range(len(tournament.found))] + [("pair", it) for it in site.pairs]
     work += [("planner", it) for it in tournament.planners] + [("domain", it) for it in tournament.domains()]

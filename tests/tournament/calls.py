@@ -133,11 +133,16 @@ class Going(Calls):
         self.assertEqual(self.calls(), 5)
 
     def test_a_call_that_goes_wrong_is_told_and_made_again(self):
-        broken = self.counting("echo 'out of memory' >&2; exit 3")
-        said = self.call(self.lamp([("a", "(light)")]), status=1, PLAN_JUDGE=broken)
-        self.assertIn("lamp one is refused: plan_judge ended with status 3: out of memory", said)
-        self.call(os.path.join(self.folder, "outputs"))
-        self.assertEqual([it[-1] for it in self.rows()], ["solved"])
+        program = self.counting('[ ! -e "%s/wrong" ] || . "%s/wrong"' % (self.folder, self.folder))
+        outputs = self.lamp([("a", "(light)")])
+        for text, why in ("echo 'out of memory' >&2; exit 3", "plan_judge ended with status 3: out of memory"), \
+                ("echo strange; exit 0", "the report of plan_judge has another form: line 1"):
+            self.write("wrong", text)
+            said = self.call(outputs, status=1, PLAN_JUDGE=program)
+            self.assertEqual(said, "tournament: lamp one is refused: %s\n" % why)
+        os.remove(os.path.join(self.folder, "wrong"))
+        self.call(outputs, PLAN_JUDGE=program)
+        self.assertEqual(([it[-1] for it in self.rows()], self.calls()), (["solved"], 3))
 
 
 class Odd(Calls):
