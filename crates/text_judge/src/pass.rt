@@ -69,11 +69,7 @@ pub(crate) fn pass(
 /// Takes the next step, if the bytes between its parentheses are its names, each parted by one space, and it is applicable. A step that the judge
 /// knows is found by those bytes as a whole. Before a step, and behind one, it reads a stamp or a number on. Whether it did either; else the walk
 /// stays where it is.
-fn go_on(
-    alloc: Global,
-    judge: &mut Judge<'_>,
-    walk: &mut PlanSteps<'_>,
-) -> Result<bool, AllocError>
+fn go_on(alloc: Global, judge: &mut Judge<'_>, walk: &mut PlanSteps<'_>) -> Result<bool, AllocError>
     requires { AreTogether walk.old judge.old }
     ensures task { judge.new.task ≡ judge.old.task }
     ensures text { walk.new.text ≡ walk.old.text }
