@@ -1,9 +1,7 @@
-pub mod CostTexts
 pub mod Cutting
 pub mod Planners
 pub mod Reading
 pub mod Refusals
-pub mod Rendering
 pub mod ReplayAnswers
 pub mod Replaying
 pub mod RunAnswers

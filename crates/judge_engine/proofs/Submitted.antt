@@ -15,8 +15,8 @@ use Rattle.judge_bench.specs.Submissions.{SubmissionParts, jobs_from}
 use Rattle.plan_text.specs.Bundle.{parts}
 use Rattle.judge_engine.specs.Answer.{judged, planner_of, plan_count}
 use Rattle.judge_engine.specs.Bundle.{BundleValue}
-use Rattle.judge_engine.specs.Plans.{plan_of_part, plans_of_file, plans_of_files, as_judged}
-use Rattle.judge_engine.specs.Report.{Planner}
+use Rattle.judge_engine.specs.Plans.{plan_of_part, plans_of_file, plans_of_files}
+use Rattle.report_text.specs.Report.{as_judged, Planner}
 
 -- there are as many plans as parts
 pub count_is : (planner : ℕ) (bundles : List BundleValue) → length (plans_of_files planner bundles) ≡ plan_count bundles

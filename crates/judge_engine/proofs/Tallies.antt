@@ -6,7 +6,9 @@ use Rattle.std.specs.Option.{option_map}
 use Rattle.std.specs.List.{cons_option}
 use Rattle.strips_task.specs.declared.tasks.TaskParts.{TaskParts}
 use Rattle.judge_engine.specs.declared.planner.Tally.{Tally}
-use Rattle.judge_engine.specs.Report.{Judged, plan_line, plan_lines, valid_costs, valid_steps, least, defined_cost, steps_if_valid}
+use Rattle.report_text.specs.declared.format.Format.{Format}
+use Rattle.report_text.specs.Format.{plan_in, plan_texts}
+use Rattle.report_text.specs.Report.{Judged, valid_costs, valid_steps, least, defined_cost, steps_if_valid}
 use Rattle.judge_engine.specs.Tally.{lesser, one_if_valid, tally_with, tally_of, both}
 
 min-assoc : (a b c : ℕ) → min (min a b) c ≡ min a (min b c)
@@ -71,10 +73,10 @@ all_counted tally =
     let valid : tally.valid + 0 ≡ tally.valid = omega arith in
     (λ j. record { plans = count j; valid = valid j; best = lesser_none tally.best j; cost = lesser_none tally.cost j })
 
--- the line of one plan, and then the lines of the rest
-pub told : (task : TaskParts) (name text : List ℕ) (number : ℕ) (plan : Judged) (rest : List Judged)
-    → (text ++ plan_line task name number plan) ++ plan_lines task name (number + 1) rest ≡ text ++ plan_lines task name number (plan ∷ rest)
-told task name text number plan rest = append_assoc text (plan_line task name number plan) (plan_lines task name (number + 1) rest)
+-- one plan, and then the rest
+pub told : (format : Format) (task : TaskParts) (name text : List ℕ) (number : ℕ) (plan : Judged) (rest : List Judged)
+    → (text ++ plan_in format task name number plan) ++ plan_texts format task name (number + 1) rest ≡ text ++ plan_texts format task name number (plan ∷ rest)
+told format task name text number plan rest = append_assoc text (plan_in format task name number plan) (plan_texts format task name (number + 1) rest)
 
 -- a front of a list and the item behind it
 pub item_at : {A : Type 0} (xs : List A) (i : ℕ) (x : A) → slice_get xs i ≡ Some x → drop i xs ≡ x ∷ drop (i + 1) xs

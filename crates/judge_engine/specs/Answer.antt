@@ -12,7 +12,10 @@ use Rattle.pddl_syntax.specs.declared.dialect.Dialect.TheVariants.{Strips}
 use Rattle.pddl_reader.specs.Texts.{domain_in_text, problem_in_text}
 use Rattle.judge_engine.specs.declared.inlet.TheConstants.{FILE_LIMIT}
 use Rattle.judge_engine.specs.Bundle.{BundleValue}
-use Rattle.judge_engine.specs.Report.{Judged, Planner, report}
+use Rattle.report_text.specs.declared.format.Format.{Format}
+use Rattle.report_text.specs.declared.format.Format.TheVariants.{Lines}
+use Rattle.report_text.specs.Format.{report}
+use Rattle.report_text.specs.Report.{Judged, Planner}
 
 -- the limits of a run
 abbrev pub most_planners : ℕ
@@ -55,12 +58,16 @@ is_within_limits domain problem bundles =
 unfoldable pub task_in : Dialect → List ℕ → List ℕ → Option CostedTask
 task_in dialect domain problem = option_and_then (λ value. problem_in_text dialect value problem) (domain_in_text dialect domain)
 
--- the report of a run, if it is within its limits and the domain and the problem stand for a task in the dialect
-unfoldable pub answer_in : Dialect → List ℕ → List ℕ → List BundleValue → Option (List ℕ)
-answer_in dialect domain problem bundles =
+-- the report of a run in a format, if the run is within its limits and the domain and the problem stand for a task in the dialect
+unfoldable pub answer_as : Dialect → Format → List ℕ → List ℕ → List BundleValue → Option (List ℕ)
+answer_as dialect format domain problem bundles =
     (if is_within_limits domain problem bundles
-    then option_map (λ task. report task (map (planner_of task) bundles)) (task_in dialect domain problem)
+    then option_map (λ task. report format task (map (planner_of task) bundles)) (task_in dialect domain problem)
     else None)
+
+-- the report of a run in lines
+abbrev pub answer_in : Dialect → List ℕ → List ℕ → List BundleValue → Option (List ℕ)
+answer_in dialect domain problem bundles = answer_as dialect Lines domain problem bundles
 
 -- the report of a run in the default dialect
 abbrev pub answer : List ℕ → List ℕ → List BundleValue → Option (List ℕ)

@@ -1,14 +1,13 @@
 pub mod Answer
 pub mod Bundle
 pub mod Command
-pub mod CostText
 pub mod Inlet
 pub mod Outlet
 pub mod Plans
 pub mod Refusal
 pub mod ReplayAnswer
 pub mod ReplayText
-pub mod Report
+pub mod Requests
 pub mod Run
 pub mod Status
 pub mod Tally

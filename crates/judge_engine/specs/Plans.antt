@@ -1,12 +1,10 @@
 -- The plans of a run.
 
 use Rattle.std.specs.Prelude.{ℕ, suc, List, [], ◌∷◌, ◌++◌, map}
-use Rattle.intake_rules.specs.declared.finding.Finding.{Finding}
 use Rattle.judge_bench.specs.Submissions.{SubmissionParts}
 use Rattle.plan_text.specs.Bundle.{parts}
 use Rattle.plan_text.specs.PlanReading.{plan_of}
 use Rattle.judge_engine.specs.Bundle.{BundleValue}
-use Rattle.judge_engine.specs.Report.{Judged}
 
 -- the plan of a part of a planner's file
 abbrev pub plan_of_part : ℕ → List ℕ → SubmissionParts
@@ -20,7 +18,3 @@ plans_of_file planner bundle = map (plan_of_part planner) (parts bundle.bytes)
 abbrev pub plans_of_files : ℕ → List BundleValue → List SubmissionParts
 plans_of_files planner [] = []
 plans_of_files planner (bundle ∷ bundles) = plans_of_file planner bundle ++ plans_of_files (suc planner) bundles
-
--- a finding as a plan with its verdict and its cost
-abbrev pub as_judged : Finding → Judged
-as_judged finding = record { plan = finding.job.plan; verdict = finding.verdict; cost = finding.cost }

@@ -8,8 +8,8 @@ use Rattle.intake_rules.specs.declared.refusal.Refusal.TheVariants.{NotReady}
 use Rattle.intake_rules.specs.declared.reply.Reply.{Reply}
 use Rattle.intake_rules.specs.declared.reply.Reply.TheVariants.{Accepted, ClosedNow, Taken, NoJob, Returned, Finished, Emitted, Refused}
 use Rattle.intake_rules.specs.Refusals.{refusal_word}
-use Rattle.judge_engine.specs.Plans.{as_judged}
-use Rattle.judge_engine.specs.Report.{judged_text}
+use Rattle.report_text.specs.Report.{as_judged}
+use Rattle.report_text.specs.Report.{judged_text}
 
 -- what stands behind the word of a refusal: the number of the job that is not ready
 abbrev pub refusal_number : Refusal → List ℕ

@@ -3,7 +3,8 @@
 use Rattle.std.specs.Io.KnownBytes.{Appends}
 use Rattle.std.specs.Prelude.{◌≡◌, ℕ, List, [], ◌∷◌, Option, Some}
 use Rattle.pddl_syntax.specs.declared.dialect.Dialect.{Dialect}
-use Rattle.judge_engine.specs.Answer.{answer_in}
+use Rattle.report_text.specs.declared.format.Format.{Format}
+use Rattle.judge_engine.specs.Answer.{answer_as}
 use Rattle.judge_engine.specs.Bundle.{BundleValue}
 use Rattle.judge_engine.specs.Outlet.{AppendsFront}
 use Rattle.judge_engine.specs.ReplayAnswer.{replay_answer_in}
@@ -19,26 +20,26 @@ AreFiles MayHold [] (bundle ∷ bundles) = ⊥
 AreFiles MayHold (name ∷ names) [] = ⊥
 AreFiles MayHold (name ∷ names) (bundle ∷ bundles) = IsFile MayHold name bundle × AreFiles MayHold names bundles
 
--- the report is the answer, in a dialect, to what the files with these names may hold
-pub record IsReportOver (dialect : Dialect) (MayHold : List ℕ → List ℕ → Type 0) (domain problem : List ℕ) (plans : List (List ℕ)) (report : List ℕ) : Type 0 where
+-- the report is the answer, in a dialect and a format, to what the files with these names may hold
+pub record IsReportOver (dialect : Dialect) (format : Format) (MayHold : List ℕ → List ℕ → Type 0) (domain problem : List ℕ) (plans : List (List ℕ)) (report : List ℕ) : Type 0 where
   pub domain_text : List ℕ
   pub problem_text : List ℕ
   pub bundles : List BundleValue
   pub of_domain : MayHold domain domain_text
   pub of_problem : MayHold problem problem_text
   pub of_plans : AreFiles MayHold plans bundles
-  pub is_answer : answer_in dialect domain_text problem_text bundles ≡ Some report
+  pub is_answer : answer_as dialect format domain_text problem_text bundles ≡ Some report
 
 -- a report of the run went out, and nothing else
-pub record WritesReport (dialect : Dialect) (MayHold : List ℕ → List ℕ → Type 0) (domain problem : List ℕ) (plans : List (List ℕ)) (old new : Option (List ℕ)) : Type 0 where
+pub record WritesReport (dialect : Dialect) (format : Format) (MayHold : List ℕ → List ℕ → Type 0) (domain problem : List ℕ) (plans : List (List ℕ)) (old new : Option (List ℕ)) : Type 0 where
   pub report : List ℕ
-  pub is_report : IsReportOver dialect MayHold domain problem plans report
+  pub is_report : IsReportOver dialect format MayHold domain problem plans report
   pub went_out : Appends old new report
 
 -- a front of a report of the run went out, and nothing else
-pub record CutsReport (dialect : Dialect) (MayHold : List ℕ → List ℕ → Type 0) (domain problem : List ℕ) (plans : List (List ℕ)) (old new : Option (List ℕ)) : Type 0 where
+pub record CutsReport (dialect : Dialect) (format : Format) (MayHold : List ℕ → List ℕ → Type 0) (domain problem : List ℕ) (plans : List (List ℕ)) (old new : Option (List ℕ)) : Type 0 where
   pub report : List ℕ
-  pub is_report : IsReportOver dialect MayHold domain problem plans report
+  pub is_report : IsReportOver dialect format MayHold domain problem plans report
   pub went_out : AppendsFront old new report
 
 -- the lines are the answer, in a dialect, to what the files with these names may hold

@@ -2,7 +2,7 @@
 
 use Rattle.std.specs.Prelude.{ℕ, ◌+◌, List, length, min, Option, None, Some}
 use Rattle.judge_engine.specs.declared.planner.Tally.{Tally}
-use Rattle.judge_engine.specs.Report.{Judged, defined_cost, steps_if_valid, valid_costs, valid_steps, least}
+use Rattle.report_text.specs.Report.{Judged, defined_cost, steps_if_valid, valid_costs, valid_steps, least}
 
 -- the lesser of two numbers, as far as there are any
 abbrev pub lesser : Option ℕ → Option ℕ → Option ℕ

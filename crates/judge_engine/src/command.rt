@@ -2,12 +2,17 @@
 //!
 //! [`parse`] turns the words of the command line into a [`Request`]. The words are read by `clap`, whose texts carry no promise here.
 
-ghost use Rattle.std.specs.Prelude.{◌≡◌, ◌≤◌};
-ghost use Rattle.judge_engine.specs.Command.{dialect_named};
+ghost use Rattle.std.specs.Prelude.{◌≡◌, false, map, IfOk};
+ghost use Rattle.std.specs.String.{string_bytes};
+ghost use Rattle.judge_engine.specs.Command.{asks_to_explain, dialect_named, format_named};
+ghost use Rattle.judge_engine.specs.Requests.{IsNoExplanation};
 
+use crate::requests::Request;
+pub use crate::requests::{ExplainRequest, JudgeRequest, ReplayRequest};
 use clap::error::ErrorKind;
 use clap::{Arg, ArgAction, Command, Error, value_parser};
 use pddl_reader::Dialect;
+use report_text::Format;
 use std::alloc::{AllocError, Global};
 
 /// The most threads that may judge.
@@ -15,6 +20,9 @@ const MOST_WORKERS: u32 = 32;
 
 /// The names of the dialects.
 const DIALECTS: [&str; 2] = ["strips", "ipc"];
+
+/// The names of the formats.
+const FORMATS: [&str; 3] = ["lines", "tsv", "json"];
 
 const ABOUT: &str =
     "Judges the plans of classical planners: says of each whether it is valid, or which step fails first and what is missing.";
@@ -25,7 +33,8 @@ A report of judge has a line for each plan and one for each planner:
   planner-1 1 valid 1
   planner-1 2 fails at 2 (light): missing (dark)
   planner-1 plans 2 valid 1 best 1
-`plan_judge judge --help` and `plan_judge replay --help` explain each line.
+`plan_judge judge --help` and `plan_judge replay --help` explain each line. Where a plan fails or a text is refused,
+plan_judge explain says why.
 
 Exit status:
   0  a report was written, whatever the verdicts, or help was
@@ -74,6 +83,28 @@ Example:
 
 Documents, in the folder docs of the repository: TUTORIAL.md, SPECIFICATION.md.";
 
+const EXPLAIN_ABOUT: &str =
+    "Explains, for people, why a domain or a problem is refused, or why plans fail: where in which file, and what to do.";
+
+const EXPLAIN_AFTER_HELP: &str = "\
+The explanation, on standard output:
+  FILE:LINE:COLUMN: what is wrong, the line, and what to do about it
+of a text that is refused, of a plan that is no plan text, and of each plan that fails or misses its goal. For each
+condition that does not hold it names the step that made it so. PLANS may be left out, to test the domain and the problem alone;
+the word - is standard input.
+
+Exit status:
+  0  the domain and the problem are read, and all plans are valid
+  1  something is wrong, as explained
+  2  the command line was refused
+  3  memory ran out
+  4  the explanation could not be written
+
+Example:
+  plan_judge explain --domain domain.pddl --problem problem.pddl plans.txt
+
+Documents, in the folder docs of the repository: TUTORIAL.md, SPECIFICATION.md.";
+
 const REPLAY_ABOUT: &str =
     "Replays steps at a desk where plans are taken in, given out to be judged, and emitted in order.";
 
@@ -103,51 +134,10 @@ Example:
 
 Documents, in the folder docs of the repository: TUTORIAL.md, SPECIFICATION.md.";
 
-/// What a command line asks for.
-#[derive(Debug, Drop)]
-pub(crate) enum Request<'a> {
-    /// Judge the plans of planners.
-    Judge(JudgeRequest<'a>),
-    /// Replay the steps of a file.
-    Replay(ReplayRequest<'a>),
-    /// Show a text, as help.
-    Show(String),
-    /// The command line is refused, with this text.
-    Refused(String),
-}
-
-/// A run over files.
-#[derive(Debug, Drop)]
-pub struct JudgeRequest<'a> {
-    /// The name of the file of the domain.
-    pub domain: &'a str,
-    /// The name of the file of the problem.
-    pub problem: &'a str,
-    /// The names of the files of plans, one for each planner, who has the name of the file.
-    pub plans: Vec<&'a str>,
-    /// The dialect of the domain and the problem.
-    pub dialect: Dialect,
-    /// How many threads may judge, 1 to 32.
-    pub workers: u32,
-    ghost some: { 1 ≤ workers },
-    ghost most: { workers ≤ 32 },
-}
-
-/// The files of a replay.
-#[derive(Debug, Drop)]
-pub struct ReplayRequest<'a> {
-    /// The name of the file of the domain.
-    pub domain: &'a str,
-    /// The name of the file of the problem.
-    pub problem: &'a str,
-    /// The name of the file of the steps.
-    pub steps: &'a str,
-    /// The dialect of the domain and the problem.
-    pub dialect: Dialect,
-}
-
-/// What the words of a command line ask for; the first is the program's name.
-pub(crate) fn parse<'a>(alloc: Global, words: &'a [String]) -> Result<Request<'a>, AllocError> {
+/// What the words of a command line ask for; the first is the program's name. Only where the second is `explain` something is to be explained.
+pub(crate) fn parse<'a>(alloc: Global, words: &'a [String]) -> Result<Request<'a>, AllocError>
+    ensures { IfOk result (λ request. asks_to_explain (map string_bytes words.now) ≡ false → IsNoExplanation request) }
+{
     match program(alloc)?.try_get_matches_from(words) {
         Ok(matches) => {
             if let Some(judge) = matches.subcommand_matches("judge")
@@ -156,6 +146,8 @@ pub(crate) fn parse<'a>(alloc: Global, words: &'a [String]) -> Result<Request<'a
                 && let Some(plans) = judge.get_strs("plans")
                 && let Some(dialect) = judge.get_str("dialect")
                 && let Some(dialect) = dialect_named(dialect)
+                && let Some(format) = judge.get_str("format")
+                && let Some(format) = format_named(format)
                 && let Some(workers) = judge.get_one::<u32>("workers")
                 && 1 <= workers
                 && workers <= MOST_WORKERS
@@ -165,6 +157,7 @@ pub(crate) fn parse<'a>(alloc: Global, words: &'a [String]) -> Result<Request<'a
                     problem,
                     plans: plans.to_vec(alloc)?,
                     dialect,
+                    format,
                     workers,
                 }));
             }
@@ -182,10 +175,42 @@ pub(crate) fn parse<'a>(alloc: Global, words: &'a [String]) -> Result<Request<'a
                     dialect,
                 }));
             }
+            if asks_to_explain(words)
+                && let Some(explain) = matches.subcommand_matches("explain")
+                && let Some(domain) = explain.get_str("domain")
+                && let Some(problem) = explain.get_str("problem")
+                && let Some(dialect) = explain.get_str("dialect")
+                && let Some(dialect) = dialect_named(dialect)
+            {
+                let plans = match explain.get_strs("plans") {
+                    Some(plans) => plans.to_vec(alloc)?,
+                    None => Vec::new(alloc),
+                };
+                return Ok(Request::Explain(ExplainRequest {
+                    domain,
+                    problem,
+                    plans,
+                    dialect,
+                    trace: explain.get_flag("trace"),
+                }));
+            }
             let text = String::from_str(alloc, "a command is missing; try --help\n")?;
             Ok(Request::Refused(text))
         }
-        Err(error) => refusal(alloc, error),
+        Err(error) => {
+            let request = refusal(alloc, error)?;
+            Ok(request)
+        }
+    }
+}
+
+/// Whether the second word is `explain`.
+fn asks_to_explain(words: &[String]) -> bool
+    ensures { result ≡ asks_to_explain (map string_bytes words.now) }
+{
+    match words {
+        [_, word, ..] => word.as_str() == "explain",
+        _ => false,
     }
 }
 
@@ -202,8 +227,25 @@ fn dialect_named(name: &str) -> Option<Dialect>
     }
 }
 
+/// The format with a name.
+fn format_named(name: &str) -> Option<Format>
+    ensures { result ≡ format_named name.now }
+{
+    if name == "lines" {
+        Some(Format::Lines)
+    } else if name == "tsv" {
+        Some(Format::Table)
+    } else if name == "json" {
+        Some(Format::Json)
+    } else {
+        None
+    }
+}
+
 /// What a command line asks for that names no run: help, or nothing that there is.
-fn refusal<'a>(alloc: Global, error: Error) -> Result<Request<'a>, AllocError> {
+fn refusal<'a>(alloc: Global, error: Error) -> Result<Request<'a>, AllocError>
+    ensures { IfOk result (λ request. IsNoExplanation request) }
+{
     if error.kind() == ErrorKind::OutOfMemory {
         return Err(AllocError);
     }
@@ -224,6 +266,7 @@ fn program<'a>(alloc: Global) -> Result<Command<'a>, AllocError> {
         .subcommand_required(true)
         .arg_required_else_help(true)
         .subcommand(judge_command(alloc)?)?
+        .subcommand(explain_command(alloc)?)?
         .subcommand(replay_command(alloc)?)
 }
 
@@ -235,6 +278,12 @@ fn judge_command<'a>(alloc: Global) -> Result<Command<'a>, AllocError> {
         .help("How many threads may judge, 1 to 32; the report is the same for any number")
         .value_parser(value_parser!(u32).range(1..=32))
         .default_value("4");
+    let format = Arg::new(alloc, "format")
+        .long("format")
+        .value_name("FORMAT")
+        .help("How the report is written: lines for people, a table, or JSON records")
+        .value_parser(FORMATS.as_slice())
+        .default_value("lines");
     let plans = Arg::new(alloc, "plans")
         .value_name("PLANS")
         .help("The planners' files, each with the plans of one planner")
@@ -247,7 +296,29 @@ fn judge_command<'a>(alloc: Global) -> Result<Command<'a>, AllocError> {
         .arg(domain_file(alloc))?
         .arg(problem_file(alloc))?
         .arg(dialect(alloc))?
+        .arg(format)?
         .arg(workers)?
+        .arg(plans)
+}
+
+/// The command `explain`.
+fn explain_command<'a>(alloc: Global) -> Result<Command<'a>, AllocError> {
+    let trace = Arg::new(alloc, "trace")
+        .long("trace")
+        .help("Also tell what each step deletes and adds")
+        .action(ArgAction::SetTrue);
+    let plans = Arg::new(alloc, "plans")
+        .value_name("PLANS")
+        .help("The planners' files, each with the plans of one planner; - is standard input")
+        .num_args(0..)
+        .action(ArgAction::Append);
+    Command::new(alloc, "explain")
+        .about(EXPLAIN_ABOUT)
+        .after_help(EXPLAIN_AFTER_HELP)
+        .arg(domain_file(alloc))?
+        .arg(problem_file(alloc))?
+        .arg(dialect(alloc))?
+        .arg(trace)?
         .arg(plans)
 }
 

@@ -6,23 +6,22 @@ ghost use Rattle.std.specs.Prelude.{◌≡◌, ◌≢◌, ◌↔◌, ◌+◌, �
 ghost use Rattle.judge_bench.specs.Findings.{findings_of};
 ghost use Rattle.pddl_syntax.specs.declared.fault.ReadFault as read_fault;
 ghost use Rattle.pddl_syntax.specs.Trees.{text_fault};
-ghost use Rattle.judge_engine.specs.Answer.{answer, answer_in, task_in, planner_of, too_large, plan_count, most_planners, most_plans};
+ghost use Rattle.judge_engine.specs.Answer.{answer, answer_as, answer_in, task_in, planner_of, too_large, plan_count, most_planners, most_plans};
 ghost use Rattle.judge_engine.specs.Plans.{plans_of_files};
 ghost use Rattle.judge_engine.specs.Refusal.{IsOfTexts, ReadingCallsFor, TextsCallFor, TextsCallForIn};
-ghost use Rattle.judge_engine.specs.Report.{report};
+ghost use Rattle.report_text.specs.Format.{report};
 ghost use Rattle.judge_engine.specs.declared.fault.JudgeFault.TheVariants.{OutOfMemory, TooLarge, TooManyPlanners, TooManyPlans, Domain, Held};
 
 use crate::bundle::Bundle;
 use crate::fault::JudgeFault;
 use crate::inlet::FILE_LIMIT;
-use crate::lines::push_header;
 use crate::planner::push_planner;
 use crate::plans::cut_plans;
 use crate::report::Report;
-use crate::text::Text;
 use judge_bench::{Findings, Gate, Listed, Submission, run};
 use pddl_reader::{Dialect, FaultKind, ReadFault, read_domain_in, read_problem_in};
 use plan_cost::CostedTask;
+use report_text::{Format, Text, push_head};
 use std::alloc::{AllocError, Global};
 use std::sync::Wait;
 use std::thread::Threads;
@@ -71,20 +70,7 @@ pub fn judge_bytes<R: Threads + Wait + Sync, G: Gate + Sync>(
     )
 }
 
-/// The report of a run over a domain text and a problem text, both in this dialect, and the files of planners. At most `workers` threads
-/// judge the plans.
-///
-/// A file holds one plan or more (`plan_text::Parts`). Reading and judging a plan never refuses the run: a text that is no plan is a
-/// verdict. The plans are jobs, numbered from 0 in the order of the files and of the parts of each. The threads read and judge them side by
-/// side, and the gate is asked of each before it is judged. If the domain declares `total-cost`, the cost of each
-/// valid plan is reported beside its verdict, and the least of them in the planner's last line. The whole report is made before anything
-/// is written; without planners it is the first line alone. Tables of names and atoms hash with the seed; the report is the same with any.
-/// Waits until all threads are done.
-///
-/// A run without a report is refused for the first cause in the order of `JudgeFault`. The plans are counted before any is read. Which kind
-/// of fault a text has, and where, once its bytes and parentheses are right, is the reader's to say. Running out of memory can come in place
-/// of any cause but those that take no memory to find: that a text is too large, too many planners, and the wrong bytes and parentheses of
-/// the domain.
+/// The report of a run in lines, with both texts in this dialect: [`judge_bytes_as`] with [`Format::Lines`].
 pub fn judge_bytes_in<R: Threads + Wait + Sync, G: Gate + Sync>(
     rt: &R,
     alloc: Global,
@@ -108,6 +94,58 @@ pub fn judge_bytes_in<R: Threads + Wait + Sync, G: Gate + Sync>(
     ensures domain_text { (e : read_fault.ReadFault) → too_large domain.now problem.now bundles.now ≡ None → length bundles.now ≤ most_planners
         → text_fault domain.now ≡ Some e → result ≡ Err (Domain e) }
 {
+    judge_bytes_as(
+        rt,
+        alloc,
+        seed,
+        dialect,
+        Format::Lines,
+        domain,
+        problem,
+        bundles,
+        workers,
+        gate,
+    )
+}
+
+/// The report of a run over a domain text and a problem text, both in this dialect, and the files of planners, in a format. At most `workers` threads
+/// judge the plans.
+///
+/// A file holds one plan or more (`plan_text::Parts`). Reading and judging a plan never refuses the run: a text that is no plan is a
+/// verdict. The plans are jobs, numbered from 0 in the order of the files and of the parts of each. The threads read and judge them side by
+/// side, and the gate is asked of each before it is judged. If the domain declares `total-cost`, the cost of each
+/// valid plan is reported beside its verdict, and the least of them in the planner's last line. The whole report is made before anything
+/// is written; without planners it is what begins it alone. Tables of names and atoms hash with the seed; the report is the same with any.
+/// Waits until all threads are done.
+///
+/// A run without a report is refused for the first cause in the order of `JudgeFault`. The plans are counted before any is read. Which kind
+/// of fault a text has, and where, once its bytes and parentheses are right, is the reader's to say. Running out of memory can come in place
+/// of any cause but those that take no memory to find: that a text is too large, too many planners, and the wrong bytes and parentheses of
+/// the domain.
+pub fn judge_bytes_as<R: Threads + Wait + Sync, G: Gate + Sync>(
+    rt: &R,
+    alloc: Global,
+    seed: Seed,
+    dialect: Dialect,
+    format: Format,
+    domain: &[u8],
+    problem: &[u8],
+    bundles: &[Bundle],
+    workers: u32,
+    gate: &G,
+) -> Result<Report, JudgeFault>
+    requires { (1 ≤ workers) × (workers ≤ 32) }
+    ensures answer { IfOk result (λ report. answer_as dialect format domain.now problem.now bundles.now ≡ Some report) }
+    ensures refusal { IfErr result (λ fault. IsOfTexts fault → answer_as dialect format domain.now problem.now bundles.now ≡ None) }
+    ensures cause { IfErr result (λ fault. IsOfTexts fault → TextsCallForIn dialect domain.now problem.now bundles.now fault) }
+    ensures held { IfErr result (λ fault. (job : ℕ) → fault ≡ Held job → G.may_hold gate.now job) }
+
+    // What takes no memory to find is always told.
+    ensures large { (place : ℕ) → (result ≡ Err (TooLarge place)) ↔ (too_large domain.now problem.now bundles.now ≡ Some place) }
+    ensures planners { too_large domain.now problem.now bundles.now ≡ None → most_planners < length bundles.now → result ≡ Err TooManyPlanners }
+    ensures domain_text { (e : read_fault.ReadFault) → too_large domain.now problem.now bundles.now ≡ None → length bundles.now ≤ most_planners
+        → text_fault domain.now ≡ Some e → result ≡ Err (Domain e) }
+{
     match too_large(domain, problem, bundles) {
         Some(place) => Err(JudgeFault::TooLarge(place)),
         None => {
@@ -115,7 +153,7 @@ pub fn judge_bytes_in<R: Threads + Wait + Sync, G: Gate + Sync>(
                 return Err(JudgeFault::TooManyPlanners);
             }
             match read_task(alloc, seed, dialect, domain, problem) {
-                Ok(task) => judge_planners(rt, alloc, &task, bundles, workers, gate),
+                Ok(task) => judge_planners(rt, alloc, format, &task, bundles, workers, gate),
                 Err(fault) => Err(fault),
             }
         }
@@ -179,6 +217,7 @@ fn refusal(fault: ReadFault, other: JudgeFault) -> JudgeFault
 fn judge_planners<R: Threads + Wait + Sync, G: Gate + Sync>(
     rt: &R,
     alloc: Global,
+    format: Format,
     task: &CostedTask,
     bundles: &[Bundle],
     workers: u32,
@@ -186,7 +225,7 @@ fn judge_planners<R: Threads + Wait + Sync, G: Gate + Sync>(
 ) -> Result<Report, JudgeFault>
     requires planners { length bundles.now ≤ 64 }
     requires workers { (1 ≤ workers) × (workers ≤ 32) }
-    ensures report { IfOk result (λ text. (plan_count bundles.now ≤ most_plans) × (text ≡ report task.now (map (planner_of task.now) bundles.now))) }
+    ensures report { IfOk result (λ text. (plan_count bundles.now ≤ most_plans) × (text ≡ report format task.now (map (planner_of task.now) bundles.now))) }
     ensures refusal { IfErr result (λ fault. IsOfTexts fault → (fault ≡ TooManyPlans) × (most_plans < plan_count bundles.now)) }
     ensures held { IfErr result (λ fault. (job : ℕ) → fault ≡ Held job → G.may_hold gate.now job) }
 {
@@ -196,7 +235,7 @@ fn judge_planners<R: Threads + Wait + Sync, G: Gate + Sync>(
         Err(AllocError) => return Err(JudgeFault::OutOfMemory),
     };
     match judge_plans(rt, alloc, task, bundles, plans, workers, gate) {
-        Ok(findings) => match report_of(alloc, task, bundles, &findings) {
+        Ok(findings) => match report_of(alloc, format, task, bundles, &findings) {
             Ok(report) => Ok(report),
             Err(AllocError) => Err(JudgeFault::OutOfMemory),
         },
@@ -235,18 +274,19 @@ fn judge_plans<R: Threads + Wait + Sync, G: Gate + Sync>(
 /// The report of a task's plans, of which this was found.
 fn report_of(
     alloc: Global,
+    format: Format,
     task: &CostedTask,
     bundles: &[Bundle],
     findings: &Findings,
 ) -> Result<Report, AllocError>
     requires findings { findings.now ≡ findings_of task.now (length bundles.now) (plans_of_files 0 bundles.now) }
     requires plans { plan_count bundles.now ≤ most_plans }
-    ensures { IfOk result (λ text. text ≡ report task.now (map (planner_of task.now) bundles.now)) }
+    ensures { IfOk result (λ text. text ≡ report format task.now (map (planner_of task.now) bundles.now)) }
 {
     let mut text = Text::new(alloc);
-    push_header(&mut text, &task.task)?;
+    push_head(&mut text, format, &task.task)?;
     for (planner, bundle) in bundles.iter().enumerate() {
-        push_planner(&mut text, task, bundle.name(), findings, planner)?;
+        push_planner(&mut text, format, task, bundle.name(), findings, planner)?;
     }
     Ok(Report::from_bytes(text.into_bytes()))
 }

@@ -11,7 +11,7 @@ ghost use Rattle.judge_engine.specs.declared.inlet.TheConstants.{FILE_LIMIT};
 use crate::outlet::Failed;
 use std::alloc::Global;
 use std::fs;
-use std::io::Read;
+use std::io::{ErrorKind, Read};
 
 /// The greatest number of bytes of a file that a run takes.
 pub const FILE_LIMIT: usize = 16_777_216;
@@ -28,6 +28,19 @@ pub enum InFault {
     OutOfMemory,
 }
 
+/// Why a file cannot be read, as far as the system says it.
+#[derive(Clone, Copy, Debug, PartialEq, Eq)]
+pub enum Absence {
+    /// There is no file with that name.
+    Missing,
+    /// It is a folder.
+    Folder,
+    /// The system does not allow it to be read.
+    Forbidden,
+    /// Something else.
+    Other,
+}
+
 /// What gives the texts that a command line names.
 pub trait Sources {
     // Whether the text with a name may be these bytes.
@@ -36,6 +49,11 @@ pub trait Sources {
     /// The text with a name, or its first 16,777,217 bytes where there are more.
     fn text(&self, name: &str) -> Result<Vec<u8>, InFault>
         ensures { IfOk result (λ bytes. may_hold self.now name.now bytes.items) };
+
+    /// Why the text with a name cannot be had.
+    fn absence(&self, _name: &str) -> Absence {
+        Absence::Other
+    }
 }
 
 /// What gives bytes in order, some at a time.
@@ -171,5 +189,17 @@ impl<R: std::rt::Files + AllocGlobal> Sources for Files<'_, R> {
             Err(_) => 0,
         };
         read_expected(self.runtime.alloc(), &mut Feed::new(file), expected)
+    }
+
+    fn absence(&self, name: &str) -> Absence {
+        match fs::metadata(self.runtime, name) {
+            Ok(metadata) if metadata.is_dir() => Absence::Folder,
+            Ok(_) => Absence::Forbidden,
+            Err(error) => match error.kind() {
+                ErrorKind::NotFound => Absence::Missing,
+                ErrorKind::PermissionDenied => Absence::Forbidden,
+                _ => Absence::Other,
+            },
+        }
     }
 }

@@ -8,26 +8,26 @@
 //! ```
 //!
 //! [`engine::judge_bytes`] makes the report of a run and [`replay::replay_bytes`] the lines of a replay, each from the bytes of its input
-//! files; [`engine::judge_bytes_in`] and [`replay::replay_bytes_in`] do the same in a [`Dialect`] of the caller's choice.
+//! files; [`engine::judge_bytes_in`] and [`replay::replay_bytes_in`] do the same in a [`Dialect`] of the caller's choice, and
+//! [`engine::judge_bytes_as`] in a [`Format`], too.
 //! [`program::main_with`] reads the command line and the files, and writes what they answer.
 #![tactic(auto)]
 
 pub mod bundle;
 pub mod command;
-mod costs;
 pub mod engine;
+mod explain;
 pub mod fault;
 pub mod inlet;
-mod lines;
 pub mod outlet;
 mod planner;
 mod plans;
 pub mod program;
-mod render;
 pub mod replay;
 mod replies;
 pub mod report;
-mod text;
+mod requests;
 
 pub use pddl_reader::Dialect;
+pub use report_text::Format;
 pub use strips_task::Seed;

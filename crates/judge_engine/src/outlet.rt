@@ -30,6 +30,11 @@ pub trait Outlet {
     /// Whether a put has failed, or took none of some bytes.
     fn has_failed(&self) -> bool
         ensures { result ≡ failed self.now };
+
+    /// Whether a person sees the bytes on a terminal, so that they may have colours.
+    fn is_terminal(&self) -> bool {
+        false
+    }
 }
 
 /// A writer of the standard library as an outlet. Any error of the writer is [`Failed`].
@@ -37,6 +42,7 @@ pub trait Outlet {
 pub struct Sink<W> {
     writer: W,
     failed: bool,
+    is_terminal: bool,
 }
 
 impl<W: Write> Sink<W> {
@@ -48,6 +54,19 @@ impl<W: Write> Sink<W> {
         Sink {
             writer,
             failed: false,
+            is_terminal: false,
+        }
+    }
+
+    /// The same outlet, which may be a terminal.
+    pub fn on_terminal(self, is_terminal: bool) -> Self
+        ensures failed { ⟦<Sink<W> as Outlet>⟧.failed result ≡ ⟦<Sink<W> as Outlet>⟧.failed self }
+        ensures bytes { ⟦<Sink<W> as Outlet>⟧.taken result ≡ ⟦<Sink<W> as Outlet>⟧.taken self }
+    {
+        Sink {
+            writer: self.writer,
+            failed: self.failed,
+            is_terminal,
         }
     }
 }
@@ -74,6 +93,10 @@ impl<W: Write> Outlet for Sink<W> {
 
     fn has_failed(&self) -> bool {
         self.failed
+    }
+
+    fn is_terminal(&self) -> bool {
+        self.is_terminal
     }
 }
 

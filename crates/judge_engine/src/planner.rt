@@ -1,15 +1,14 @@
-//! The lines of one planner: what was found about its plans, how many of them are valid, and the best of these.
+//! What a report has of one planner: what was found about its plans, how many of them are valid, and the best of these.
 ghost use Rattle.std.specs.Prelude.{◌≡◌, ◌++◌, ◌<◌, ◌≤◌, [], length, map, slice_index_or, OnOk};
 ghost use Rattle.plan_cost.specs.Costs.{cost_answer};
-ghost use Rattle.judge_engine.specs.Plans.{as_judged};
-ghost use Rattle.judge_engine.specs.Report.{defined_cost, least_cost, planner_lines, steps_if_valid};
+ghost use Rattle.report_text.specs.Format.{planner_text};
+ghost use Rattle.report_text.specs.Report.{as_judged, defined_cost, least_cost, steps_if_valid};
 ghost use Rattle.judge_engine.specs.Tally.{lesser, tally_over, tally_with};
 
-use crate::lines::{push_plan_line, push_summary};
-use crate::text::Text;
 use intake_rules::Finding;
 use judge_bench::Findings;
 use plan_cost::{Cost, CostedTask, Costs};
+use report_text::{Format, Text, push_plan_in, push_summary_in};
 use std::alloc::AllocError;
 use strips_judge::Verdict;
 
@@ -26,9 +25,10 @@ pub(crate) struct Tally {
     pub(crate) cost: Option<u128>,
 }
 
-/// Adds the lines of a planner: one for each of its plans, which count from 1, and a last one.
+/// Adds all of a planner: its plans, which count from 1, and their sum.
 pub(crate) fn push_planner(
     text: &mut Text,
+    format: Format,
     task: &CostedTask,
     name: &[u8],
     findings: &Findings,
@@ -36,7 +36,7 @@ pub(crate) fn push_planner(
 ) -> Result<(), AllocError>
     requires planner { planner < length findings.now }
     requires plans { length (slice_index_or findings.now planner []) ≤ 65536 }
-    ensures { OnOk result (text.new ≡ text.old ++ planner_lines task.now
+    ensures { OnOk result (text.new ≡ text.old ++ planner_text format task.now
         (record { name = name.now; plans = map as_judged (slice_index_or findings.now planner []) })) }
 {
     let mut tally = Tally {
@@ -47,11 +47,19 @@ pub(crate) fn push_planner(
     };
     for place in 0..findings.plans(planner) {
         let finding = findings.get(planner, place);
-        push_plan_line(text, &task.task, name, place + 1, finding)?;
+        push_plan_in(text, format, &task.task, name, place + 1, finding)?;
         tally = counted(tally, finding);
     }
     let cost = least_cost(&task.costs, tally.cost);
-    push_summary(text, name, tally.plans, tally.valid, tally.best, cost)
+    push_summary_in(
+        text,
+        format,
+        name,
+        tally.plans,
+        tally.valid,
+        tally.best,
+        cost,
+    )
 }
 
 /// A tally with one plan more.

@@ -2,23 +2,28 @@
 //!
 //! [`main_with`] does all that `main` does, over sources and outlets that are handed in, so that tests can make them fail.
 ghost use Rattle.std.specs.Prelude.{◌≡◌, ◌↔◌, ◌⊎◌, ◌<◌, ◌≤◌, true, false, map, IfOk};
+ghost use Rattle.std.specs.String.{string_bytes};
+ghost use Rattle.judge_engine.specs.Command.{asks_to_explain};
 ghost use Rattle.std.specs.Io.KnownBytes.{Appends};
 ghost use Rattle.judge_engine.specs.Outlet.{AppendsFront};
 ghost use Rattle.judge_engine.specs.Run.{IsReportOver, WritesReport, CutsReport, IsReplayOver, WritesReplay, CutsReplay, IsFile, AreFiles};
 
 use crate::Seed;
 use crate::bundle::Bundle;
-use crate::command::{JudgeRequest, ReplayRequest, Request, parse};
-use crate::engine::judge_bytes_in;
+use crate::command::{ExplainRequest, JudgeRequest, ReplayRequest, parse};
+use crate::engine::judge_bytes_as;
+use crate::explain::explain_files;
 use crate::fault::JudgeFault;
 use crate::inlet::{InFault, Sources};
 use crate::outlet::{Outlet, write_bytes, write_report};
 use crate::replay::replay_bytes_in;
 use crate::report::Report;
-use crate::text::Text;
+use crate::requests::Request;
 use judge_bench::Open;
 use pddl_reader::ReadFault;
 use pddl_tokens::line_of;
+use rayon::prelude::*;
+use report_text::Text;
 use std::alloc::{AllocError, AllocFailed, Global};
 use std::sync::{Arc, Wait};
 use std::thread::Threads;
@@ -53,7 +58,9 @@ impl<T: Drop> From<AllocFailed<T>> for Stop {
 ///
 /// A report goes to `out` whole or, where `out` fails, from its front. What else is told goes to `err`, whose faults are ignored. Tables of
 /// names and atoms hash with the seed, which shows in nothing that is written.
-pub fn main_with<R: AllocGlobal + Threads + Wait + Sync, S: Sources, O: Outlet, E: Outlet>(
+///
+/// The command `explain` writes also where its status is 1: what is wrong is what it writes.
+pub fn main_with<R: AllocGlobal + Threads + Wait + Sync, S: Sources + Sync, O: Outlet, E: Outlet>(
     rt: &R,
     seed: Seed,
     words: &[String],
@@ -64,11 +71,12 @@ pub fn main_with<R: AllocGlobal + Threads + Wait + Sync, S: Sources, O: Outlet, 
     requires { O.failed out.old ≡ false }
     ensures status { result ≤ 4 }
     ensures unwritten { (result ≡ 4) ↔ (O.failed out.new ≡ true) }
-    ensures untouched { 0 < result → result < 4 → out.new ≡ out.old }
+    ensures untouched { asks_to_explain (map string_bytes words.now) ≡ false → 0 < result → result < 4 → out.new ≡ out.old }
 {
     match parse(rt.alloc(), words) {
         Ok(Request::Judge(files)) => judge_with(rt, seed, &files, sources, out, err),
         Ok(Request::Replay(files)) => replay_with(rt.alloc(), seed, &files, sources, out, err),
+        Ok(Request::Explain(files)) => explain_with(rt.alloc(), seed, &files, sources, out, err),
         Ok(Request::Show(text)) => write_out(&Report::from_bytes(text.into_bytes()), out, err),
         Ok(Request::Refused(text)) => {
             tell(err, text.as_bytes());
@@ -79,7 +87,7 @@ pub fn main_with<R: AllocGlobal + Threads + Wait + Sync, S: Sources, O: Outlet, 
 }
 
 /// Judges the plans of files, one for each planner, and answers the exit status, as `main_with` does for a command line that names these files.
-pub fn judge_with<R: AllocGlobal + Threads + Wait + Sync, S: Sources, O: Outlet, E: Outlet>(
+pub fn judge_with<R: AllocGlobal + Threads + Wait + Sync, S: Sources + Sync, O: Outlet, E: Outlet>(
     rt: &R,
     seed: Seed,
     files: &JudgeRequest<'_>,
@@ -89,9 +97,9 @@ pub fn judge_with<R: AllocGlobal + Threads + Wait + Sync, S: Sources, O: Outlet,
 ) -> u8
     requires { O.failed out.old ≡ false }
     ensures status { result ≤ 4 }
-    ensures written { result ≡ 0 → WritesReport files.now.dialect (S.may_hold sources.now) files.now.domain.now files.now.problem.now (map (λ name. name.now) files.now.plans.items)
+    ensures written { result ≡ 0 → WritesReport files.now.dialect files.now.format (S.may_hold sources.now) files.now.domain.now files.now.problem.now (map (λ name. name.now) files.now.plans.items)
         (O.taken out.old) (O.taken out.new) }
-    ensures cut { result ≡ 4 → CutsReport files.now.dialect (S.may_hold sources.now) files.now.domain.now files.now.problem.now (map (λ name. name.now) files.now.plans.items)
+    ensures cut { result ≡ 4 → CutsReport files.now.dialect files.now.format (S.may_hold sources.now) files.now.domain.now files.now.problem.now (map (λ name. name.now) files.now.plans.items)
         (O.taken out.old) (O.taken out.new) }
     ensures unwritten { (result ≡ 4) ↔ (O.failed out.new ≡ true) }
     ensures untouched { 0 < result → result < 4 → out.new ≡ out.old }
@@ -123,6 +131,32 @@ pub fn replay_with<S: Sources, O: Outlet, E: Outlet>(
     match replay_files(alloc, seed, files, sources) {
         Ok(report) => write_out(&report, out, err),
         Err(stop) => stopped(stop, err),
+    }
+}
+
+/// Explains why texts are refused and plans fail, and answers the exit status, as `main_with` does for a command line that names these files: 0
+/// where all plans are valid, and 1 where something was explained. What is wrong with files that can't be read is explained, too.
+pub fn explain_with<S: Sources, O: Outlet, E: Outlet>(
+    alloc: Global,
+    seed: Seed,
+    files: &ExplainRequest<'_>,
+    sources: &S,
+    out: &mut O,
+    err: &mut E,
+) -> u8
+    requires { O.failed out.old ≡ false }
+    ensures status { result ≤ 4 }
+    ensures unwritten { (result ≡ 4) ↔ (O.failed out.new ≡ true) }
+    ensures lacking { result ≡ 3 → out.new ≡ out.old }
+{
+    let explained = match explain_files(alloc, seed, files, sources, out.is_terminal()) {
+        Ok(explained) => explained,
+        Err(AllocError) => return out_of_memory(err),
+    };
+    match write_out(&explained.report, out, err) {
+        0 if explained.all_valid => 0,
+        0 => 1,
+        _ => 4,
     }
 }
 
@@ -176,23 +210,24 @@ fn tell<E: Outlet>(err: &mut E, bytes: &[u8]) {
 }
 
 /// The report of a run over files. They are read in the order of domain, problem and plans.
-fn judge_files<R: AllocGlobal + Threads + Wait + Sync, S: Sources>(
+fn judge_files<R: AllocGlobal + Threads + Wait + Sync, S: Sources + Sync>(
     rt: &R,
     seed: Seed,
     files: &JudgeRequest<'_>,
     sources: &S,
 ) -> Result<Report, Stop>
-    ensures { IfOk result (IsReportOver files.now.dialect (S.may_hold sources.now) files.now.domain.now files.now.problem.now (map (λ name. name.now) files.now.plans.items)) }
+    ensures { IfOk result (IsReportOver files.now.dialect files.now.format (S.may_hold sources.now) files.now.domain.now files.now.problem.now (map (λ name. name.now) files.now.plans.items)) }
 {
     let alloc = rt.alloc();
     let domain = read(alloc, sources, files.domain)?;
     let problem = read(alloc, sources, files.problem)?;
-    let bundles = read_bundles(alloc, sources, files.plans.as_slice())?;
-    match judge_bytes_in(
+    let bundles = read_bundles(rt, sources, files.plans.as_slice(), files.workers)?;
+    match judge_bytes_as(
         rt,
         alloc,
         seed,
         files.dialect,
+        files.format,
         domain.as_slice(),
         problem.as_slice(),
         bundles.as_slice(),
@@ -235,15 +270,27 @@ fn replay_files<S: Sources>(
     }
 }
 
-/// The files of planners, in the order of their names. A planner has the name of its file.
-fn read_bundles<S: Sources>(alloc: Global, sources: &S, names: &[&str]) -> Result<Vec<Bundle>, Stop>
+/// The files of planners, in the order of their names. A planner has the name of its file. At most so many threads read.
+fn read_bundles<R: AllocGlobal + Threads + Sync, S: Sources + Sync>(
+    rt: &R,
+    sources: &S,
+    names: &[&str],
+    threads: u32,
+) -> Result<Vec<Bundle>, Stop>
+    requires { 1 ≤ threads }
     ensures { IfOk result (λ bundles. AreFiles (S.may_hold sources.now) (map (λ name. name.now) names.now) bundles.items) }
 {
-    let mut bundles = Vec::with_capacity(alloc, names.len())?;
-    for name in names {
-        bundles.push(read_bundle(alloc, sources, name)?)?;
-    }
-    Ok(bundles)
+    let alloc = rt.alloc();
+    let piece = names.len().div_ceil(threads as usize);
+    names
+        .par_iter()
+        .with_min_len(piece)
+        .map(
+            |name: &&str| -> Result<Bundle, Stop>
+                ensures { IfOk result (IsFile (S.may_hold sources.entry.now) name.now.now) }
+            { read_bundle(alloc, sources, name) },
+        )
+        .collect::<Result<Vec<Bundle>, Stop>>(rt, alloc)?
 }
 
 /// The file of a planner.

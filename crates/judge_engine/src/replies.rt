@@ -3,9 +3,8 @@ ghost use Rattle.std.specs.Prelude.{◌≡◌, ◌++◌, ◌∷◌, [], ℕ, Lis
 ghost use Rattle.intake_rules.specs.Refusals.{refusal_word};
 ghost use Rattle.judge_engine.specs.ReplayText.{refusal_number, reply_text, reply_line, reply_lines};
 
-use crate::render::push_finding;
-use crate::text::Text;
 use intake_core::{Refusal, Reply, ReplyList};
+use report_text::{Text, push_finding};
 use std::alloc::{AllocError, Global};
 use strips_task::Task;
 

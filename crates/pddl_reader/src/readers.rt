@@ -66,5 +66,5 @@ pub fn read_problem_in(
 {
     check_text(text)?;
     let syntax = problem_text(alloc, dialect, text)?;
-    resolve_problem(alloc, domain, &syntax)
+    resolve_problem(alloc, domain, &syntax, text.len())
 }

@@ -9,7 +9,7 @@ use judge_engine::outlet::Sink;
 use judge_engine::program::{main_with, out_of_memory};
 use std::env;
 use std::hash::RandomState;
-use std::io::ErrorKind;
+use std::io::{ErrorKind, IsTerminal};
 use std::process::ExitCode;
 use std::random::RandomSource;
 
@@ -26,7 +26,9 @@ fn main(rt: HostRuntime) -> ExitCode {
         Ok(words) => words,
         Err(_) => return ExitCode::from(out_of_memory(&mut err)),
     };
-    let mut out = Sink::new(rt.stdout());
+    let stdout = rt.stdout();
+    let is_terminal = stdout.is_terminal();
+    let mut out = Sink::new(stdout).on_terminal(is_terminal);
     ExitCode::from(main_with(
         &rt,
         seed(&rt),

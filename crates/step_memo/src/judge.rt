@@ -21,7 +21,9 @@ use crate::usage::Usage;
 use plan_cost::{Assessment, CostScratch, CostedTask};
 use std::alloc::{AllocError, Global};
 use std::marker::Model;
-use strips_judge::{CodeBuffer, NumberedState, Scratch, StepNames, Why, judge_goal, take_step};
+use strips_judge::{
+    Atom, CodeBuffer, NumberedState, Scratch, StepNames, Why, judge_goal, take_step,
+};
 use strips_task::StepView;
 
 /// With how many atoms beside the initial ones steps are still learned, and kept over plans.
@@ -34,6 +36,7 @@ pub const MOST_LATER: usize = 32_768;
 #[derive(Drop)]
 pub struct Judge<'t> {
     task: &'t CostedTask,
+    room: Room,
     state: NumberedState<'t>,
     memo: Memo,
     names: StepNames<'t>,
@@ -67,12 +70,14 @@ impl<'t> Judge<'t> {
         ensures begun { IfOk result (λ judge. HasTaken judge []) }
     {
         let initial = task.task.initial_atoms();
-        let state = NumberedState::new(alloc, initial)?;
+        let room = Room::of_each(judges);
+        let state = NumberedState::new(alloc, initial, room.recent_atoms)?;
         Ok(Judge {
             task,
+            room,
             state,
-            memo: Memo::new(alloc, initial.seed(), Room::of_each(judges)),
-            names: StepNames::new(alloc, &task.task),
+            memo: Memo::new(alloc, initial.seed(), room),
+            names: StepNames::new(alloc, &task.task, room.recent_names),
             numbers: Vec::new(alloc),
             code: CodeBuffer::new(alloc),
             scratch: Scratch::new(alloc),
@@ -115,7 +120,8 @@ impl<'t> Judge<'t> {
         ensures task { self.new.task ≡ self.old.task }
         ensures state { OnOk result (state_of self.new.state ≡ is_in self.new.task.task.init) }
     {
-        let state = NumberedState::new(alloc, self.task.task.initial_atoms())?;
+        let initial = self.task.task.initial_atoms();
+        let state = NumberedState::new(alloc, initial, self.room.recent_atoms)?;
         self.memo.clear();
         self.state = state;
         Ok(())
@@ -232,5 +238,12 @@ impl<'t> Judge<'t> {
         let verdict = judge_goal(alloc, &self.task.task, &self.state, self.count as u32)?;
         let cost = cost_beside(&self.task.costs, &verdict, self.cost);
         Ok(Assessment { verdict, cost })
+    }
+
+    /// Whether an atom is true after the steps that were taken. Takes one look where the atom was looked up of late, and one or two hashes else.
+    pub fn holds(&self, atom: &Atom) -> bool
+        ensures { result ≡ state_of self.now.state atom.now }
+    {
+        self.state.contains(atom)
     }
 }

@@ -21,7 +21,8 @@
 //!
 //! Memory is taken as steps are learned. All judges of a run share a room of [`ALL_CODES`] steps, [`ALL_NUMBERS`] numbers of their codes and
 //! [`ALL_KEY_BYTES`] bytes of keys: each may take an equal part, of 13 MiB at most and of less than 2 MiB where there are 32 judges, beside the
-//! atoms that have numbers. What has no room is judged as without a memory. Codes are forgotten, with
+//! atoms that have numbers. In the same way they share [`ALL_RECENT_ATOMS`] slots for atoms and [`ALL_RECENT_NAMES`] for names that were looked up of
+//! late. What has no room is judged as without a memory. Codes are forgotten, with
 //! the numbers that they speak of, at the begin of a plan once more than [`MOST_LATER`] atoms beside the initial ones have numbers. Where
 //! hardly any step is found the memory rests for some plans, and for twice as many each time.
 #![tactic(auto)]
@@ -34,4 +35,6 @@ mod steps;
 mod usage;
 
 pub use judge::{Judge, MOST_LATER};
-pub use room::{ALL_CODES, ALL_KEY_BYTES, ALL_NUMBERS, MOST_JUDGES};
+pub use room::{
+    ALL_CODES, ALL_KEY_BYTES, ALL_NUMBERS, ALL_RECENT_ATOMS, ALL_RECENT_NAMES, MOST_JUDGES,
+};

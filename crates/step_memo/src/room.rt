@@ -16,6 +16,13 @@ pub const ALL_NUMBERS: usize = 4_194_304;
 /// How many bytes the keys of all judges have: 20 MiB.
 pub const ALL_KEY_BYTES: usize = 20_971_520;
 
+/// How many slots all judges have for atoms that were looked up of late, of 16 bytes each: 8 MiB.
+pub const ALL_RECENT_ATOMS: usize = 524_288;
+
+/// How many slots all judges have for names of objects that were looked up of late, of 32 bytes each: 8 MiB. They have as many for names of actions, but
+/// make no more than there is use for.
+pub const ALL_RECENT_NAMES: usize = 262_144;
+
 /// How much one judge may keep.
 #[derive(Clone, Copy, Debug)]
 pub(crate) struct Room {
@@ -25,6 +32,10 @@ pub(crate) struct Room {
     pub(crate) numbers: usize,
     /// How many bytes in all keys.
     pub(crate) key_bytes: usize,
+    /// How many slots for atoms that were looked up of late.
+    pub(crate) recent_atoms: usize,
+    /// How many slots for names that were looked up of late.
+    pub(crate) recent_names: usize,
     ghost few_codes: { codes < 2 ^ 32 },
     ghost few_numbers: { numbers < 2 ^ 32 },
     ghost few_bytes: { key_bytes < 2 ^ 32 },
@@ -38,6 +49,8 @@ impl Room {
             codes: ALL_CODES / judges,
             numbers: ALL_NUMBERS / judges,
             key_bytes: ALL_KEY_BYTES / judges,
+            recent_atoms: ALL_RECENT_ATOMS / judges,
+            recent_names: ALL_RECENT_NAMES / judges,
         }
     }
 }

@@ -3,10 +3,12 @@ pub mod Grounding
 pub mod Numbered
 pub mod Numbers
 pub mod State
+pub mod ShortAtoms
 pub mod Recent
 pub mod Step
 pub mod Verdict
 pub mod Validity
 pub mod Laws
+pub mod ShortWords
 pub mod RecentNames
 pub mod StepNumbers

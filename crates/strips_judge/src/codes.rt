@@ -16,7 +16,7 @@ ghost use Rattle.strips_judge.specs.Numbered.{Grows, state_of};
 ghost use Rattle.strips_judge.specs.State.{with_all, without};
 ghost use Rattle.strips_judge.specs.Step.{hindrance, after};
 
-use crate::grounding::{ground, object_of};
+use crate::grounding::object_of;
 use crate::state::NumberedState;
 use std::alloc::{AllocError, Global};
 use std::marker::Model;
@@ -219,8 +219,7 @@ fn ask_one(
 {
     match &cond.formula {
         Formula::Atom(pattern) => {
-            ground(pattern, objects, atom)?;
-            let Some(number) = short_number(alloc, state, atom)? else {
+            let Some(number) = short_number(alloc, pattern, objects, state, atom)? else {
                 return Ok(false);
             };
             code.ask(cond.positive, number)?;
@@ -249,8 +248,7 @@ fn number_all(
 {
     numbers.clear();
     for pattern in patterns {
-        ground(pattern, objects, atom)?;
-        match short_number(alloc, state, atom)? {
+        match short_number(alloc, pattern, objects, state, atom)? {
             Some(number) => numbers.push(number)?,
             None => return Ok(false),
         }
@@ -258,15 +256,18 @@ fn number_all(
     Ok(true)
 }
 
-/// The number of an atom, which gets one where it has none, if 32 bits hold it.
+/// The number of the atom that a pattern stands for, which gets one where it has none, if 32 bits hold it.
 fn short_number(
     alloc: Global,
+    pattern: &Pattern,
+    objects: &[u16],
     state: &mut NumberedState<'_>,
-    atom: &Atom,
+    atom: &mut Atom,
 ) -> Result<Option<u32>, AllocError>
-    ensures number { IfOk result (λ number. IfSome number (λ number. number_in state.new.atoms atom.now ≡ Some number)) }
+    requires { IsPatternWithin (length objects.now) pattern.now }
+    ensures number { IfOk result (λ number. IfSome number (λ number. number_in state.new.atoms (ground objects.now pattern.now) ≡ Some number)) }
     ensures state { state_of state.new ≡ state_of state.old }
     ensures grows { Grows state.old state.new }
 {
-    Ok(u32::try_from(state.number(alloc, atom)?).ok())
+    Ok(u32::try_from(state.number(alloc, pattern, objects, atom)?).ok())
 }

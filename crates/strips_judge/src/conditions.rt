@@ -11,7 +11,7 @@ ghost use Rattle.strips_judge.specs.Numbered.{state_of};
 ghost use Rattle.strips_judge.specs.State.{holds};
 ghost use Rattle.strips_judge.specs.Step.{missing};
 
-use crate::grounding::{ground, ground_condition, object_of};
+use crate::grounding::{ground_condition, object_of};
 use crate::numbers::copy_of;
 use crate::state::NumberedState;
 use indexmap::IndexSet;
@@ -57,7 +57,7 @@ pub(crate) fn missing_ground(
     listed(alloc, found)
 }
 
-/// Whether a condition of an action holds when the parameters are bound to these objects. Its atom is grounded in place.
+/// Whether a condition of an action holds when the parameters are bound to these objects. The last argument is room for its atom.
 pub(crate) fn holds(
     state: &mut NumberedState<'_>,
     cond: &Cond,
@@ -69,10 +69,7 @@ pub(crate) fn holds(
     ensures same { state.new ≡ state.old }
 {
     let is_true = match &cond.formula {
-        Formula::Atom(pattern) => {
-            ground(pattern, objects, atom)?;
-            state.is_true(atom)?
-        }
+        Formula::Atom(pattern) => state.is_true(pattern, objects, atom)?,
         Formula::Equal(left, right) => object_of(*left, objects) == object_of(*right, objects),
     };
     Ok(is_true == cond.positive)

@@ -5,7 +5,6 @@ ghost use Rattle.strips_judge.specs.Grounding.{ground};
 ghost use Rattle.strips_judge.specs.Numbered.{Grows, state_of};
 ghost use Rattle.strips_judge.specs.State.{without, with_all, after_effects};
 
-use crate::grounding::ground;
 use crate::state::NumberedState;
 use std::alloc::{AllocError, Global};
 use strips_task::{Action, Atom, Pattern};
@@ -39,8 +38,7 @@ fn remove_all(
     ensures state { OnOk result (state_of state.new ≡ without (state_of state.old) (map (ground objects.now) patterns.now)) }
 {
     for pattern in patterns {
-        ground(pattern, objects, atom)?;
-        state.remove(atom);
+        state.remove(pattern, objects, atom)?;
     }
     Ok(())
 }
@@ -57,8 +55,7 @@ fn insert_all(
     ensures state { OnOk result (state_of state.new ≡ with_all (state_of state.old) (map (ground objects.now) patterns.now)) }
 {
     for pattern in patterns {
-        ground(pattern, objects, atom)?;
-        state.insert(alloc, atom)?;
+        state.insert(alloc, pattern, objects, atom)?;
     }
     Ok(())
 }

@@ -18,6 +18,9 @@ use crate::verdict::{Verdict, Why};
 use std::alloc::{AllocError, Global};
 use strips_task::{Action, Atom, Plan, ShortSeq, StepList, StepView, Task};
 
+/// How many atoms that were looked up of late are kept beside each other while one plan is judged: up to 256 KiB.
+const MOST_RECENT: usize = 16_384;
+
 /// What steps share, so that a step takes no memory of its own. No answer depends on what it holds.
 #[derive(Drop)]
 pub struct Scratch {
@@ -53,7 +56,7 @@ pub fn judge(alloc: Global, task: &Task, plan: &Plan) -> Result<Verdict, AllocEr
 fn judge_steps(alloc: Global, task: &Task, steps: &StepList) -> Result<Verdict, AllocError>
     ensures { IfOk result (λ answer. answer ≡ verdict_from task.now 0 (is_in task.now.init) steps.now) }
 {
-    let mut state = NumberedState::new(alloc, task.initial_atoms())?;
+    let mut state = NumberedState::new(alloc, task.initial_atoms(), MOST_RECENT)?;
     let mut scratch = Scratch::new(alloc);
     for place in 0..steps.len() {
         if let Some(why) = take_step(alloc, task, steps.get(place), &mut state, &mut scratch)? {

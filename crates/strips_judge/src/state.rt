@@ -3,19 +3,24 @@
 //! Each atom that was ever true or asked for by number has a number and a bit. The initial atoms have the task's numbers, so a plan starts
 //! with a row of ones and hashes none of them. Atoms that come up later get the numbers behind, and numbers never change: a state that is
 //! reset for another plan keeps them. Steps change the bits in place. An atom without a number is false.
-ghost use Rattle.std.specs.Prelude.{◌≡◌, ◌∷◌, [], ◌<◌, ℕ, None, Some, IfOk, OnOk, length};
+ghost use Rattle.std.specs.Prelude.{◌≡◌, ◌∷◌, [], ◌<◌, ◌≤◌, ℕ, None, Some, IfOk, IfSome, OnOk, length};
+ghost use Rattle.strips_task.specs.Within.{IsPatternWithin};
 ghost use Rattle.strips_task.specs.declared.atoms.Atom.{Atom};
+ghost use Rattle.strips_judge.specs.Grounding.{ground};
 ghost use Rattle.strips_judge.specs.Numbered.{Grows, state_of};
 ghost use Rattle.strips_judge.specs.Numbers.{number_in};
+ghost use Rattle.strips_judge.specs.ShortAtoms.{atom_of};
 ghost use Rattle.strips_judge.specs.State.{is_in, without, with_all};
 
+use crate::grounding::ground;
 use crate::numbers::{copy_of, number_in};
 use crate::recent::RecentAtoms;
+use crate::short_atoms::ShortAtom;
 use bit_rows::Row;
 use indexmap::IndexSet;
 use std::alloc::{AllocError, Global};
 use std::marker::Model;
-use strips_task::{Atom, InitialAtoms, Seed};
+use strips_task::{Atom, InitialAtoms, Pattern, Seed};
 
 /// A set of ground atoms of a task, each with a number. Contracts see the initial atoms of the task, the atoms that have numbers and the bits.
 #[derive(Drop)]
@@ -43,7 +48,14 @@ impl<'t> Model for NumberedState<'t> {
 
 impl NumberedState<'_> {
     /// The state in which the initial atoms are true, and no others. Takes a bit for each of them.
-    pub fn new(alloc: Global, initial: &InitialAtoms) -> Result<NumberedState<'_>, AllocError>
+    ///
+    /// Of the atoms that are looked up, at most `most_recent` are found by one look at memory the next time. That takes up to 16 bytes for each, as
+    /// atoms come up.
+    pub fn new(
+        alloc: Global,
+        initial: &InitialAtoms,
+        most_recent: usize,
+    ) -> Result<NumberedState<'_>, AllocError>
         ensures state { IfOk result (λ state. state_of state ≡ is_in initial.now) }
         ensures initial { IfOk result (λ state. state.initial ≡ initial.now) }
     {
@@ -51,7 +63,7 @@ impl NumberedState<'_> {
             initial,
             later: IndexSet::with_hasher(alloc, initial.seed()),
             bits: Row::with_first(alloc, initial.distinct_len())?,
-            recent: RecentAtoms::new(alloc),
+            recent: RecentAtoms::new(alloc, most_recent),
         })
     }
 
@@ -74,30 +86,41 @@ impl NumberedState<'_> {
         self.initial.seed()
     }
 
-    /// The number of an atom, if it has one. Takes one look where it was looked up of late; else one hash, and another for an atom that is no
-    /// initial one.
-    pub(crate) fn number_of(&self, atom: &Atom) -> Option<usize>
-        ensures { result ≡ number_in self.now.atoms atom.now }
-    {
-        match self.recent.find(atom) {
-            Some(number) => Some(number),
-            None => self.number_in_tables(atom),
-        }
-    }
-
-    /// The same, and the next time one look is enough. Takes memory for that once in a long while.
-    pub(crate) fn look_up(&mut self, atom: &Atom) -> Result<Option<usize>, AllocError>
-        ensures number { IfOk result (λ number. number ≡ number_in self.old.atoms atom.now) }
+    /// The number of the atom that a pattern stands for, if it has one. Takes one look at memory where it was looked up of late, and else a hash for
+    /// each table. Takes memory once in a long while. The last argument is room for the atom.
+    pub(crate) fn look_up(
+        &mut self,
+        pattern: &Pattern,
+        objects: &[u16],
+        atom: &mut Atom,
+    ) -> Result<Option<usize>, AllocError>
+        requires { IsPatternWithin (length objects.now) pattern.now }
+        ensures number { IfOk result (λ number. number ≡ number_in self.old.atoms (ground objects.now pattern.now)) }
         ensures same { self.new ≡ self.old }
     {
-        if let Some(number) = self.recent.find(atom) {
-            return Ok(Some(number));
+        let short = ShortAtom::of(pattern, objects);
+        if let Some(atom) = short {
+            if let Some(number) = self.recent.find(atom) {
+                return Ok(Some(number));
+            }
         }
+        ground(pattern, objects, atom)?;
         let Some(number) = self.number_in_tables(atom) else {
             return Ok(None);
         };
-        self.recent.keep(atom, number)?;
+        self.keep(short, number)?;
         Ok(Some(number))
+    }
+
+    /// Keeps the number of an atom that was looked up.
+    fn keep(&mut self, short: Option<ShortAtom>, number: usize) -> Result<(), AllocError>
+        requires { IfSome short (λ atom. number_in self.old.atoms (atom_of atom) ≡ Some number) }
+        ensures { self.new ≡ self.old }
+    {
+        if let Some(atom) = short {
+            self.recent.keep(atom, number)?;
+        }
+        Ok(())
     }
 
     /// The number of an atom, if it has one, by the tables of all atoms.
@@ -113,13 +136,38 @@ impl NumberedState<'_> {
         }
     }
 
-    /// The number of an atom, which gets the next one where it has none. It stays as true or false as it is.
-    pub(crate) fn number(&mut self, alloc: Global, atom: &Atom) -> Result<usize, AllocError>
+    /// The number of the atom that a pattern stands for, which gets the next one where it has none. It stays as true or false as it is.
+    pub(crate) fn number(
+        &mut self,
+        alloc: Global,
+        pattern: &Pattern,
+        objects: &[u16],
+        atom: &mut Atom,
+    ) -> Result<usize, AllocError>
+        requires { IsPatternWithin (length objects.now) pattern.now }
+        ensures number { IfOk result (λ number. number_in self.new.atoms (ground objects.now pattern.now) ≡ Some number) }
+        ensures state { state_of self.new ≡ state_of self.old }
+        ensures grows { Grows self.old self.new }
+    {
+        let short = ShortAtom::of(pattern, objects);
+        if let Some(atom) = short {
+            if let Some(number) = self.recent.find(atom) {
+                return Ok(number);
+            }
+        }
+        ground(pattern, objects, atom)?;
+        let number = self.number_for(alloc, atom)?;
+        self.keep(short, number)?;
+        Ok(number)
+    }
+
+    /// The same for an atom, by the tables of all atoms.
+    fn number_for(&mut self, alloc: Global, atom: &Atom) -> Result<usize, AllocError>
         ensures number { IfOk result (λ number. number_in self.new.atoms atom.now ≡ Some number) }
         ensures state { state_of self.new ≡ state_of self.old }
         ensures grows { Grows self.old self.new }
     {
-        match self.look_up(atom)? {
+        match self.number_in_tables(atom) {
             Some(number) => Ok(number),
             None => self.add(alloc, atom),
         }
@@ -167,44 +215,64 @@ impl NumberedState<'_> {
         self.bits.clear(number);
     }
 
-    /// Whether an atom is true, as by `contains`; the next time one look is enough.
-    pub(crate) fn is_true(&mut self, atom: &Atom) -> Result<bool, AllocError>
-        ensures answer { IfOk result (λ answer. answer ≡ state_of self.old atom.now) }
+    /// Whether the atom that a pattern stands for is true. The last argument is room for the atom.
+    pub(crate) fn is_true(
+        &mut self,
+        pattern: &Pattern,
+        objects: &[u16],
+        atom: &mut Atom,
+    ) -> Result<bool, AllocError>
+        requires { IsPatternWithin (length objects.now) pattern.now }
+        ensures answer { IfOk result (λ answer. answer ≡ state_of self.old (ground objects.now pattern.now)) }
         ensures same { self.new ≡ self.old }
     {
-        match self.look_up(atom)? {
+        match self.look_up(pattern, objects, atom)? {
             Some(number) => Ok(self.bits.has(number)),
             None => Ok(false),
         }
     }
 
-    /// Whether an atom is true.
-    pub(crate) fn contains(&self, atom: &Atom) -> bool
+    /// Whether an atom is true. Takes one look where the atom was looked up of late, and one or two hashes else.
+    pub fn contains(&self, atom: &Atom) -> bool
         ensures { result ≡ state_of self.now atom.now }
     {
-        match self.number_of(atom) {
+        match self.number_in_tables(atom) {
             Some(number) => self.bits.has(number),
             None => false,
         }
     }
 
-    /// Makes an atom true. Takes memory for an atom that has no number yet.
-    pub(crate) fn insert(&mut self, alloc: Global, atom: &Atom) -> Result<(), AllocError>
-        ensures state { OnOk result (state_of self.new ≡ with_all (state_of self.old) (atom.now ∷ [])) }
+    /// Makes the atom that a pattern stands for true. Takes memory for an atom that has no number yet. The last argument is room for the atom.
+    pub(crate) fn insert(
+        &mut self,
+        alloc: Global,
+        pattern: &Pattern,
+        objects: &[u16],
+        atom: &mut Atom,
+    ) -> Result<(), AllocError>
+        requires { IsPatternWithin (length objects.now) pattern.now }
+        ensures state { OnOk result (state_of self.new ≡ with_all (state_of self.old) (ground objects.now pattern.now ∷ [])) }
         ensures grows { Grows self.old self.new }
     {
-        let number = self.number(alloc, atom)?;
+        let number = self.number(alloc, pattern, objects, atom)?;
         self.set(number);
         Ok(())
     }
 
-    /// Makes an atom false.
-    pub(crate) fn remove(&mut self, atom: &Atom)
-        ensures state { state_of self.new ≡ without (state_of self.old) (atom.now ∷ []) }
+    /// Makes the atom that a pattern stands for false. The last argument is room for the atom.
+    pub(crate) fn remove(
+        &mut self,
+        pattern: &Pattern,
+        objects: &[u16],
+        atom: &mut Atom,
+    ) -> Result<(), AllocError>
+        requires { IsPatternWithin (length objects.now) pattern.now }
+        ensures state { OnOk result (state_of self.new ≡ without (state_of self.old) (ground objects.now pattern.now ∷ [])) }
         ensures grows { Grows self.old self.new }
     {
-        if let Some(number) = self.number_of(atom) {
+        if let Some(number) = self.look_up(pattern, objects, atom)? {
             self.clear(number);
         }
+        Ok(())
     }
 }

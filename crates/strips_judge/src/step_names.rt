@@ -36,13 +36,16 @@ impl<'t> Model for StepNames<'t> {
 
 impl<'t> StepNames<'t> {
     /// The names of a task, none of which was looked up. Takes no memory.
-    pub fn new(alloc: Global, task: &'t Task) -> StepNames<'t>
+    ///
+    /// Of the actions that are looked up, and of the objects, at most `most_recent` are found by one look at memory the next time. That takes up to 32
+    /// bytes for each, as names come up.
+    pub fn new(alloc: Global, task: &'t Task, most_recent: usize) -> StepNames<'t>
         ensures { result ≡ task.now }
     {
         StepNames {
             task,
-            actions: RecentNames::new(alloc),
-            objects: RecentNames::new(alloc),
+            actions: RecentNames::new(alloc, most_recent),
+            objects: RecentNames::new(alloc, most_recent),
             word: WordList::new(alloc),
         }
     }

@@ -2,7 +2,7 @@
 //!
 //! Many plans are judged against one task, and a task may have hundreds of thousands of initial atoms. So the distinct ones are numbered
 //! when the task is made, and judging a plan costs one bit for each, not one hash.
-ghost use Rattle.std.specs.Prelude.{◌≡◌, ◌+◌, ◌<◌, ℕ, List, [], ◌∷◌, ◌++◌, length, map, slice_get, All, IfSome, OnOk, OnErr, IfErr, Some};
+ghost use Rattle.std.specs.Prelude.{◌≡◌, ◌+◌, ◌<◌, ◌≤◌, ℕ, count_by, is_some, List, [], ◌∷◌, ◌++◌, length, map, slice_get, All, IfSome, OnOk, OnErr, IfErr, Some};
 ghost use Rattle.std.specs.List.{position_from};
 ghost use Rattle.strips_task.specs.FirstPlaces.{first_places};
 ghost use Rattle.strips_task.specs.Atom.{atom_eq};
@@ -46,6 +46,14 @@ impl InitialAtoms {
         }
     }
 
+    /// Makes room for so many more atoms where there is memory for them, so that the table does not have to grow while they come. The list stays as it is.
+    pub fn expect(&mut self, count: usize)
+        ensures { self.new ≡ self.old }
+    {
+        let _ = self.numbers.reserve(count);
+        let _ = self.distinct.reserve(count);
+    }
+
     /// Adds an atom at the end, with one hash. Where memory runs out the atom comes back.
     pub fn push(&mut self, atom: Atom) -> Result<(), AllocFailed<Atom>>
         ensures ok { OnOk result (self.new ≡ self.old ++ atom ∷ []) }
@@ -85,6 +93,18 @@ impl InitialAtoms {
         ensures { result ≡ length (first_places atom_eq self.now) }
     {
         self.distinct.len()
+    }
+
+    /// How many of these atoms the list holds. They are looked for one directly behind the other, so that the processor waits for several places of
+    /// the table at a time. What is pushed right afterwards finds its place at hand.
+    pub fn known(&self, atoms: &[Atom]) -> usize
+        ensures count { result ≡ count_by (λ atom. is_some (position_from (atom_eq atom) 0 (first_places atom_eq self.now))) atoms.now }
+        ensures within { result ≤ length atoms.now }
+    {
+        atoms
+            .iter()
+            .filter(|atom| self.number_of(atom).is_some())
+            .count()
     }
 
     /// The number of an atom among the distinct ones, in the order of their first places, with one hash and no memory.

@@ -1,6 +1,6 @@
 -- A walk and a judge that go together, and what is found at the end.
 
-use Rattle.std.proofs.Common.{◌≡◌, ℕ, ◌+◌, ◌<◌, List, [], ◌∷◌, ◌++◌, Option, Some, None, length, refl, ap, sym, ◌∙◌, arith, append_assoc, length-append}
+use Rattle.std.proofs.Common.{◌≡◌, ℕ, ◌<◌, List, [], ◌∷◌, ◌++◌, Option, Some, None, refl, ap, sym, ◌∙◌, arith, append_assoc, length-append}
 use Rattle.pddl_tokens.specs.declared.scan.Group.{Group}
 use Rattle.strips_task.specs.declared.plans.Plan.{Plan}
 use Rattle.strips_task.specs.declared.plans.Plan.TheVariants.{Steps, Unreadable}
@@ -8,14 +8,13 @@ use Rattle.strips_task.specs.declared.steps.StepText.{StepText}
 use Rattle.strips_task.specs.declared.tasks.TaskParts.{TaskParts}
 use Rattle.strips_judge.specs.declared.verdict.Verdict.TheVariants as answer
 use Rattle.strips_judge.specs.declared.verdict.Why.{Why}
-use Rattle.plan_cost.specs.declared.assessments.Assessment.{Assessment}
 use Rattle.plan_cost.specs.declared.costs.Cost.{Cost}
 use Rattle.plan_cost.specs.declared.costs.Cost.TheVariants.{NotCounted}
 use Rattle.plan_cost.specs.declared.costs.Costs.{Costs}
 use Rattle.plan_cost.specs.declared.costs.CostedTask.{CostedTask}
 use Rattle.plan_cost.specs.Assessments.{assessment, cost_beside}
 use Rattle.plan_text.specs.PlanReading.{plan_of}
-use Rattle.plan_text.specs.Walks.{Walk, HasPassed, GoesBehind, GoesOn}
+use Rattle.plan_text.specs.Walks.{Walk, GoesBehind, GoesOn}
 use Rattle.plan_text.specs.WalkFinds.{ComesNext}
 use Rattle.step_memo.specs.Judging.{Judging, HasTaken}
 use Rattle.text_judge.specs.Passes.{AreTogether, FailsNext, FailsAt, unreadable}

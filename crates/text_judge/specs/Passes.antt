@@ -1,6 +1,6 @@
 -- A pass over a plan text: a walk over its steps, and a judge that takes each.
 
-use Rattle.std.specs.Prelude.{◌≡◌, ℕ, ◌+◌, List, [], ◌∷◌, ◌++◌, length}
+use Rattle.std.specs.Prelude.{◌≡◌, ℕ, ◌+◌, List, [], ◌∷◌, ◌++◌, Option, Some, None, length}
 use Rattle.strips_task.specs.declared.plans.Plan.TheVariants.{Steps, Unreadable}
 use Rattle.strips_task.specs.declared.steps.StepText.{StepText}
 use Rattle.strips_judge.specs.declared.verdict.Verdict.TheVariants as answer
@@ -41,3 +41,20 @@ EndsPass (Faulty line) walk judging = plan_of walk.text ≡ Unreadable line
 -- what is found of a text with a fault in a line
 abbrev pub unreadable : ℕ → Assessment
 unreadable line = record { verdict = answer.Unreadable line; cost = NotCounted }
+
+-- these steps, or these and one more
+abbrev pub with_next : List StepText → Option StepText → List StepText
+with_next steps None = steps
+with_next steps (Some step) = steps ++ step ∷ []
+
+-- a walk and a judge that were behind these steps are behind them still, or behind one more
+abbrev pub GoOn : Walk → Judging → List StepText → Type 0
+GoOn walk judging steps = (next : Option StepText) × HasPassed walk (with_next steps next) × HasTaken judging (with_next steps next)
+
+-- what becomes of a walk and a judge that were behind these steps: they go on, or the pass ends there
+abbrev pub GoOnOrEnd : Option Passed → Walk → Judging → List StepText → Type 0
+GoOnOrEnd None walk judging steps = GoOn walk judging steps
+GoOnOrEnd (Some All) walk judging steps = HasTaken judging steps × (plan_of walk.text ≡ Steps steps)
+GoOnOrEnd (Some (Fails number why)) walk judging steps =
+    (step : StepText) × HasPassed walk (steps ++ step ∷ []) × (number ≡ length steps + 1) × FailsNext judging.task steps step why
+GoOnOrEnd (Some (Faulty line)) walk judging steps = plan_of walk.text ≡ Unreadable line

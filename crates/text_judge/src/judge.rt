@@ -1,12 +1,18 @@
 //! The judge.
-ghost use Rattle.std.specs.Prelude.{◌≡◌, [], IfOk};
+ghost use Rattle.std.specs.Prelude.{◌≡◌, [], List, length, IfOk};
+ghost use Rattle.strips_task.specs.declared.plans.Plan.TheVariants.{Steps};
+ghost use Rattle.strips_task.specs.declared.steps.StepText.{StepText};
+ghost use Rattle.strips_judge.specs.Verdict.{verdict};
 ghost use Rattle.plan_cost.specs.Assessments.{assessment};
 ghost use Rattle.plan_cost.specs.CompactCosts.{IsCompact};
 ghost use Rattle.plan_text.specs.PlanReading.{plan_of};
 ghost use Rattle.plan_text.specs.Walks.{HasPassed};
 ghost use Rattle.step_memo.specs.Judging.{HasTaken};
+ghost use Rattle.text_judge.specs.History.{AreLastChanges, steps_taken};
 ghost use Rattle.text_judge.specs.Passes.{unreadable};
+ghost use Rattle.text_judge.specs.Watches.{AreWatched};
 
+use crate::history::{Watch, changes_of, watch_all, watch_steps};
 use crate::pass::{Passed, fault_behind, pass};
 use plan_cost::{Assessment, Cost, CostedTask};
 use plan_text::PlanSteps;
@@ -14,7 +20,7 @@ use std::alloc::{AllocError, Global};
 use std::marker::Model;
 use step_memo::Judge;
 use strips_judge::Verdict;
-use strips_task::OpenSteps;
+use strips_task::{Atom, OpenSteps};
 
 /// A judge of the plans of one task, for one thread. Contracts see the task.
 #[derive(Drop)]
@@ -70,6 +76,65 @@ impl<'t> TextJudge<'t> {
         match PlanSteps::new(text) {
             Some(mut walk) => assess_steps(alloc, &mut self.judge, &mut self.step, &mut walk),
             None => Ok(unreadable(1)),
+        }
+    }
+
+    /// For each atom the number of the last step, counted from 1, that changed whether it is true, if one did. The steps are those of the
+    /// text's plan, up to the one at which it fails. Of a text that is no plan nothing is said.
+    ///
+    /// One pass over the text, with a look at each atom after each step, so it is meant for a few atoms.
+    pub fn last_changes(
+        &mut self,
+        alloc: Global,
+        text: &[u8],
+        atoms: &[Atom],
+    ) -> Result<Vec<Option<usize>>, AllocError>
+        ensures one_each { IfOk result (λ changes. length changes.items ≡ length atoms.now) }
+        ensures changes { IfOk result (λ changes. (steps : List StepText) → plan_of text.now ≡ Steps steps
+            → AreLastChanges self.old.task (steps_taken (verdict self.old.task (Steps steps)) steps) atoms.now changes.items) }
+        ensures task { self.new ≡ self.old }
+    {
+        self.judge.begin(alloc)?;
+        let mut watches = watch_all(alloc, &self.judge, atoms)?;
+        match PlanSteps::new(text) {
+            Some(mut walk) => {
+                follow(
+                    alloc,
+                    &mut self.judge,
+                    &mut self.step,
+                    &mut walk,
+                    atoms,
+                    watches.as_mut_slice(),
+                )?;
+                changes_of(alloc, watches.as_slice())
+            }
+            None => changes_of(alloc, watches.as_slice()),
+        }
+    }
+}
+
+/// Watches atoms while the steps of a text are taken, at whose first step a walk stands.
+fn follow(
+    alloc: Global,
+    judge: &mut Judge<'_>,
+    step: &mut OpenSteps,
+    walk: &mut PlanSteps<'_>,
+    atoms: &[Atom],
+    watches: &mut [Watch],
+) -> Result<(), AllocError>
+    requires passed { HasPassed walk.old [] }
+    requires taken { HasTaken judge.old [] }
+    requires watched { AreWatched judge.old.task.task [] atoms.now watches.old }
+    ensures task { judge.new.task ≡ judge.old.task }
+    ensures watched { IfOk result (λ _. (steps : List StepText) → plan_of walk.old.text ≡ Steps steps
+        → AreWatched judge.old.task.task (steps_taken (verdict judge.old.task.task (Steps steps)) steps) atoms.now watches.new) }
+{
+    match watch_steps(alloc, judge, step, walk, atoms, watches)? {
+        Passed::All => Ok(()),
+        Passed::Unreadable { .. } => Ok(()),
+        Passed::Fails { .. } => {
+            let _ = fault_behind(walk);
+            Ok(())
         }
     }
 }

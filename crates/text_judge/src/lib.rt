@@ -3,6 +3,7 @@
 //! ```text
 //! let mut judge = TextJudge::new(alloc, &task, threads)?;     // one for each thread that judges
 //! let answer = judge.assess(alloc, text)?;            // the verdict of the plan of the text, and its cost
+//! let changes = judge.last_changes(alloc, text, &atoms)?;     // which steps changed these atoms last
 //! ```
 //!
 //! A [`TextJudge`] walks over the steps of a text and takes each as it finds it. Most steps of a planner's plans come again and again, spelled the
@@ -14,7 +15,9 @@
 //! What is answered says nothing of the memory: it is the assessment of the plan of the text, whatever was judged before.
 #![tactic(auto)]
 
+mod history;
 mod judge;
+pub mod laws;
 mod pass;
 
 pub use judge::TextJudge;

@@ -1,5 +1,5 @@
 //! One pass over a text: a walk over its steps, and a judge that takes each.
-ghost use Rattle.std.specs.Prelude.{◌≡◌, ◌<◌, ◌++◌, ◌∷◌, [], List, length, map, false, IsTrue, IfOk, IfNone, IfSome, MatchOption};
+ghost use Rattle.std.specs.Prelude.{◌≡◌, ◌<◌, ◌++◌, ◌∷◌, [], List, None, Option, length, map, false, IsTrue, IfOk, IfNone, IfSome, MatchOption};
 ghost use Rattle.pddl_words.specs.Words.{folded};
 ghost use Rattle.strips_task.specs.declared.plans.Plan.TheVariants.{Steps, Unreadable};
 ghost use Rattle.strips_task.specs.declared.steps.StepText.{StepText};
@@ -8,7 +8,7 @@ ghost use Rattle.strips_task.specs.Steps.{step_of};
 ghost use Rattle.plan_text.specs.PlanReading.{plan_of};
 ghost use Rattle.plan_text.specs.Walks.{HasPassed};
 ghost use Rattle.step_memo.specs.Judging.{HasTaken};
-ghost use Rattle.text_judge.specs.Passes.{AreTogether, EndsPass, FailsNext};
+ghost use Rattle.text_judge.specs.Passes.{AreTogether, EndsPass, FailsNext, GoOn, GoOnOrEnd};
 
 use plan_text::{PlanSteps, StepWords, TextStep};
 use std::alloc::{AllocError, Global};
@@ -51,18 +51,54 @@ pub(crate) fn pass(
         if go_on(alloc, judge, walk)? {
             continue 'steps;
         }
-        match walk.next_step() {
-            TextStep::End => return Ok(Passed::All),
-            TextStep::Unreadable { line } => return Ok(Passed::Unreadable { line }),
-            TextStep::Step { words, .. } => {
-                if let Some(why) = take_words(alloc, judge, step, words)? {
-                    return Ok(Passed::Fails {
-                        step: walk.count() as u32,
-                        why,
-                    });
-                }
-            }
+        if let Some(passed) = take_next(alloc, judge, step, walk)? {
+            return Ok(passed);
         }
+    }
+}
+
+/// Goes on by a step, or by a stamp or a number alone, or else answers how the pass ends here.
+pub(crate) fn advance(
+    alloc: Global,
+    judge: &mut Judge<'_>,
+    step: &mut OpenSteps,
+    walk: &mut PlanSteps<'_>,
+) -> Result<Option<Passed>, AllocError>
+    requires { AreTogether walk.old judge.old }
+    ensures task { judge.new.task ≡ judge.old.task }
+    ensures text { walk.new.text ≡ walk.old.text }
+    ensures next { IfOk result (λ passed. (steps : List StepText) → HasPassed walk.old steps → HasTaken judge.old steps → GoOnOrEnd passed walk.new judge.new steps) }
+    ensures shorter { IfOk result (λ passed. passed ≡ None → length walk.new.rest < length walk.old.rest) }
+{
+    if go_on(alloc, judge, walk)? {
+        return Ok(None);
+    }
+    take_next(alloc, judge, step, walk)
+}
+
+/// Takes the next step by its words, or else answers how the pass ends here.
+fn take_next(
+    alloc: Global,
+    judge: &mut Judge<'_>,
+    step: &mut OpenSteps,
+    walk: &mut PlanSteps<'_>,
+) -> Result<Option<Passed>, AllocError>
+    requires { AreTogether walk.old judge.old }
+    ensures task { judge.new.task ≡ judge.old.task }
+    ensures text { walk.new.text ≡ walk.old.text }
+    ensures next { IfOk result (λ passed. (steps : List StepText) → HasPassed walk.old steps → HasTaken judge.old steps → GoOnOrEnd passed walk.new judge.new steps) }
+    ensures shorter { IfOk result (λ passed. passed ≡ None → length walk.new.rest < length walk.old.rest) }
+{
+    match walk.next_step() {
+        TextStep::End => Ok(Some(Passed::All)),
+        TextStep::Unreadable { line } => Ok(Some(Passed::Unreadable { line })),
+        TextStep::Step { words, .. } => match take_words(alloc, judge, step, words)? {
+            None => Ok(None),
+            Some(why) => Ok(Some(Passed::Fails {
+                step: walk.count() as u32,
+                why,
+            })),
+        },
     }
 }
 
@@ -73,6 +109,7 @@ fn go_on(alloc: Global, judge: &mut Judge<'_>, walk: &mut PlanSteps<'_>) -> Resu
     requires { AreTogether walk.old judge.old }
     ensures task { judge.new.task ≡ judge.old.task }
     ensures text { walk.new.text ≡ walk.old.text }
+    ensures next { IfOk result (λ goes_on. (steps : List StepText) → HasPassed walk.old steps → HasTaken judge.old steps → GoOn walk.new judge.new steps) }
     ensures together { IfOk result (λ goes_on. AreTogether walk.new judge.new) }
     ensures shorter { IfOk result (λ goes_on. IsTrue goes_on → length walk.new.rest < length walk.old.rest) }
     ensures stays { IfOk result (λ goes_on. goes_on ≡ false → walk.new ≡ walk.old) }

@@ -2,7 +2,8 @@
 //!
 //! A problem may have hundreds of thousands of initial literals, over more names than the caches hold. Were each name looked up where its
 //! literal is resolved, each would be waited for. So literals are taken in batches: first their names are looked up by hints, one directly
-//! behind the other, so that the processor waits for several at once. What is found is a guess. Whoever resolves a literal compares each
+//! behind the other, so that the processor waits for several at once. The places of all hints are computed before the first is looked at, since the
+//! fewer instructions are between two looks, the more of them it waits for. What is found is a guess. Whoever resolves a literal compares each
 //! name with the guess and looks it up where they differ, so no answer depends on a guess.
 
 use crate::resolution::hints::Hints;
@@ -10,10 +11,13 @@ use crate::resolution::names::is_named;
 use crate::resolution::tables::Declared;
 use pddl_syntax::{AtomSyntax, LiteralSyntax, Word};
 use std::alloc::{AllocError, Global};
-use strips_task::{Alternatives, NameTable, Seq};
+use strips_task::{Alternatives, Atom, NameTable, Seq, ShortSeq};
 
 /// The guess of one who knows nothing: no entry has this number.
-pub(crate) const NO_GUESS: usize = usize::MAX;
+pub(crate) const NO_GUESS: u16 = u16::MAX;
+
+/// A place at which no hint is.
+const NO_PLACE: usize = usize::MAX;
 
 /// For how many terms of a literal there is a guess.
 const MOST_TERMS: usize = 4;
@@ -21,8 +25,10 @@ const MOST_TERMS: usize = 4;
 /// The numbers that the names of a literal may have.
 #[derive(Clone, Copy)]
 pub(crate) struct Guess {
-    pub(crate) predicate: usize,
-    pub(crate) objects: [usize; MOST_TERMS],
+    pub(crate) predicate: u16,
+    pub(crate) objects: [u16; MOST_TERMS],
+    /// Where the hints at the objects are.
+    places: [usize; MOST_TERMS],
 }
 
 impl Guess {
@@ -31,12 +37,13 @@ impl Guess {
         Guess {
             predicate: NO_GUESS,
             objects: [NO_GUESS; MOST_TERMS],
+            places: [NO_PLACE; MOST_TERMS],
         }
     }
 }
 
 /// The guess at the object of a term.
-pub(crate) fn guess_at(guesses: &[usize], term: usize) -> usize {
+pub(crate) fn guess_at(guesses: &[u16], term: usize) -> u16 {
     match guesses.get(term) {
         Some(guess) => *guess,
         None => NO_GUESS,
@@ -52,30 +59,31 @@ pub(crate) fn guess_of(guesses: &[Guess], place: usize) -> Guess {
 }
 
 /// A guess at the predicate that a word names: mostly it is that of the literal before.
-fn predicate_guess(predicates: &NameTable<Seq<Alternatives>>, last: usize, word: &[u8]) -> usize {
-    if is_named(predicates, last, word) {
+fn predicate_guess(predicates: &NameTable<Seq<Alternatives>>, last: u16, word: &[u8]) -> u16 {
+    if is_named(predicates, usize::from(last), word) {
         return last;
     }
     match predicates.number_of(word) {
-        Some(number) => number,
+        Some(number) => u16::try_from(number).unwrap_or(last),
         None => last,
     }
 }
 
-/// Hints at the objects that words name.
-fn object_hints(hints: &Hints, words: &[Word<'_>]) -> [usize; MOST_TERMS] {
-    let mut numbers = [NO_GUESS; MOST_TERMS];
-    'terms: for (number, word) in numbers.iter_mut().zip(words) {
-        *number = hints.guess(word.text);
+/// The places of the hints at the objects that words name.
+fn hint_places(hints: &Hints, words: &[Word<'_>]) -> [usize; MOST_TERMS] {
+    let mut places = [NO_PLACE; MOST_TERMS];
+    'terms: for (place, word) in places.iter_mut().zip(words) {
+        *place = hints.place(word.text);
     }
-    numbers
+    places
 }
 
-/// A guess at the names of an atom, behind one with a predicate. Its objects are hints.
-fn atom_guess(known: &Declared<'_>, hints: &Hints, last: usize, atom: &AtomSyntax<'_>) -> Guess {
+/// A guess at the names of an atom, behind one with a predicate. Of its objects there are only the places of the hints.
+fn atom_guess(known: &Declared<'_>, hints: &Hints, last: u16, atom: &AtomSyntax<'_>) -> Guess {
     Guess {
         predicate: predicate_guess(known.predicates, last, atom.predicate.text),
-        objects: object_hints(hints, atom.terms.as_slice()),
+        objects: [NO_GUESS; MOST_TERMS],
+        places: hint_places(hints, atom.terms.as_slice()),
     }
 }
 
@@ -83,7 +91,7 @@ fn atom_guess(known: &Declared<'_>, hints: &Hints, last: usize, atom: &AtomSynta
 fn literal_guess(
     known: &Declared<'_>,
     hints: &Hints,
-    last: usize,
+    last: u16,
     literal: &LiteralSyntax<'_>,
 ) -> Guess {
     match literal {
@@ -94,8 +102,8 @@ fn literal_guess(
     }
 }
 
-/// Guesses at the names of literals, one for each. Their objects are hints.
-fn hinted(
+/// Guesses at the names of literals, one for each. Of their objects there are only the places of the hints.
+fn placed(
     alloc: Global,
     known: &Declared<'_>,
     hints: &Hints,
@@ -111,32 +119,121 @@ fn hinted(
     Ok(guesses)
 }
 
-/// Looks at the objects that are hinted at, and looks those up that have other names.
-fn mend(objects: &NameTable<u16>, numbers: &mut [usize], words: &[Word<'_>]) {
-    'terms: for (number, word) in numbers.iter_mut().zip(words) {
-        if !is_named(objects, *number, word.text) {
-            *number = objects.number_of(word.text).unwrap_or(NO_GUESS);
+/// Looks at all hints.
+fn hint_all(hints: &Hints, guesses: &mut [Guess]) {
+    'guesses: for guess in guesses {
+        let [first, second, third, fourth] = guess.places;
+        guess.objects = [
+            hints.at(first),
+            hints.at(second),
+            hints.at(third),
+            hints.at(fourth),
+        ];
+    }
+}
+
+/// The length of an object's name and the number of its type, added up, or zero where no object has the number.
+fn object_bytes(objects: &NameTable<u16>, number: u16) -> usize {
+    let number = usize::from(number);
+    if number >= objects.len() {
+        return 0;
+    }
+    let (name, kind) = objects.get(number);
+    name.as_bytes().len().wrapping_add(usize::from(*kind))
+}
+
+/// The same for the objects of a literal.
+fn guess_bytes(objects: &NameTable<u16>, guess: &Guess) -> usize {
+    guess.objects.iter().fold(0, |total: usize, number| {
+        total.wrapping_add(object_bytes(objects, *number))
+    })
+}
+
+/// The same for the objects of all literals, one directly behind the other. Nothing waits for what is looked at, so that the processor waits for many
+/// objects at a time. Whoever compares their names afterwards finds them at hand.
+fn hinted_bytes(objects: &NameTable<u16>, guesses: &[Guess]) -> usize {
+    let mut total: usize = 0;
+    'guesses: for guess in guesses {
+        total = total.wrapping_add(guess_bytes(objects, guess));
+    }
+    total
+}
+
+/// The number of the object that a word names as it is written, where the first hint is wrong, or no guess.
+fn second_guess(objects: &NameTable<u16>, second: u16, word: &[u8]) -> u16 {
+    if is_named(objects, usize::from(second), word) {
+        return second;
+    }
+    match objects.number_of(word) {
+        Some(number) => u16::try_from(number).unwrap_or(NO_GUESS),
+        None => NO_GUESS,
+    }
+}
+
+/// Compares the names of the objects that are hinted at, and finds the others.
+fn mend(objects: &NameTable<u16>, hints: &Hints, guess: &mut Guess, words: &[Word<'_>]) {
+    'terms: for (index, word) in words.iter().enumerate().take(MOST_TERMS) {
+        if !is_named(objects, usize::from(guess.objects[index]), word.text) {
+            let second = hints.beside(guess.places[index]);
+            guess.objects[index] = second_guess(objects, second, word.text);
         }
     }
 }
 
 /// Mends the guesses at the names of literals.
-fn mend_all(objects: &NameTable<u16>, guesses: &mut [Guess], literals: &[LiteralSyntax<'_>]) {
+fn mend_all(
+    objects: &NameTable<u16>,
+    hints: &Hints,
+    guesses: &mut [Guess],
+    literals: &[LiteralSyntax<'_>],
+) {
     'literals: for (guess, literal) in guesses.iter_mut().zip(literals) {
         if let LiteralSyntax::Atom { atom, .. } = literal {
-            mend(objects, &mut guess.objects, atom.terms.as_slice());
+            mend(objects, hints, guess, atom.terms.as_slice());
         }
     }
 }
 
-/// Guesses at the names of literals, one for each.
+/// Guesses at the names of literals, one for each. Where no object is hinted at, none is looked for.
 pub(crate) fn guesses(
     alloc: Global,
     known: &Declared<'_>,
     hints: &Hints,
     literals: &[LiteralSyntax<'_>],
 ) -> Result<Vec<Guess>, AllocError> {
-    let mut guesses = hinted(alloc, known, hints, literals)?;
-    mend_all(known.objects, guesses.as_mut_slice(), literals);
+    let mut guesses = placed(alloc, known, hints, literals)?;
+    hint_all(hints, guesses.as_mut_slice());
+    if hinted_bytes(known.objects, guesses.as_slice()) > 0 {
+        mend_all(known.objects, hints, guesses.as_mut_slice(), literals);
+    }
     Ok(guesses)
+}
+
+/// The atom that a literal stands for where its guess is right. It has the first four terms at most.
+fn atom_guessed(
+    alloc: Global,
+    guess: &Guess,
+    literal: &LiteralSyntax<'_>,
+) -> Result<Atom, AllocError> {
+    let count = match literal {
+        LiteralSyntax::Atom { atom, .. } => atom.terms.len().min(MOST_TERMS),
+        _ => 0,
+    };
+    Ok(Atom {
+        pred: guess.predicate,
+        args: ShortSeq::from_slice(alloc, &guess.objects[..count])?,
+    })
+}
+
+/// The atoms that literals stand for where their guesses are right, one for each.
+pub(crate) fn atoms_guessed(
+    alloc: Global,
+    guesses: &[Guess],
+    literals: &[LiteralSyntax<'_>],
+) -> Result<Vec<Atom>, AllocError> {
+    let mut atoms = Vec::with_capacity(alloc, literals.len())?;
+    'literals: for (guess, literal) in guesses.iter().zip(literals) {
+        atoms.push(atom_guessed(alloc, guess, literal)?)?;
+    }
+    Ok(atoms)
 }

@@ -1,8 +1,9 @@
 //! Hints at which object has a name, by a hash of the name.
 //!
 //! The table of objects finds a name by two looks at memory, of which the second waits for the first, and compares it. A hint is one look at
-//! a table that is a tenth of that size, and compares nothing: of names whose hashes end alike, only the last has its hint. So hints of
-//! many names can be taken at once, and then the objects be looked at, all at once too.
+//! a table that is a tenth of that size, and compares nothing. So hints of many names can be taken at once, and then the objects be looked
+//! at, all at once too. Each word has two places side by side: where an object has the first already, another goes to the second, and of those
+//! that go there only the last has its hint.
 
 use crate::resolution::guesses::NO_GUESS;
 use std::alloc::{AllocError, Global};
@@ -36,7 +37,7 @@ impl Hints {
         let mut hints = Hints {
             seed: objects.seed(),
             mask: count.saturating_sub(1),
-            numbers: Vec::from_elem(alloc, 0, count)?,
+            numbers: Vec::from_elem(alloc, NO_GUESS, count)?,
         };
         'objects: for number in 0..objects.len() {
             hints.set(objects.get(number).0.as_bytes(), number);
@@ -44,28 +45,43 @@ impl Hints {
         Ok(hints)
     }
 
-    /// The place of the hint for a word.
-    fn place(&self, word: &[u8]) -> usize {
+    /// The first place of the hint for a word.
+    pub(crate) fn place(&self, word: &[u8]) -> usize {
         let mut hasher = self.seed.build_hasher();
         hasher.write(word);
         hasher.finish() as usize & self.mask
     }
 
+    /// The hint at a place.
+    pub(crate) fn at(&self, place: usize) -> u16 {
+        match self.numbers.as_slice().get(place) {
+            Some(number) => *number,
+            None => NO_GUESS,
+        }
+    }
+
+    /// The hint at the second place for a word that has this one for its first.
+    pub(crate) fn beside(&self, place: usize) -> u16 {
+        self.at(place ^ 1)
+    }
+
+    /// The place for a new hint: the second if the first is taken.
+    fn place_for(&self, word: &[u8]) -> usize {
+        let place = self.place(word);
+        if self.at(place) == NO_GUESS {
+            place
+        } else {
+            place ^ 1
+        }
+    }
+
     /// Lets a word hint at an object.
     fn set(&mut self, word: &[u8], object: usize) {
-        let place = self.place(word);
+        let place = self.place_for(word);
         if let Ok(number) = u16::try_from(object) {
             if let Some(hint) = self.numbers.as_mut_slice().get_mut(place) {
                 *hint = number;
             }
-        }
-    }
-
-    /// The object that a word hints at.
-    pub(crate) fn guess(&self, word: &[u8]) -> usize {
-        match self.numbers.as_slice().get(self.place(word)) {
-            Some(number) => usize::from(*number),
-            None => NO_GUESS,
         }
     }
 }

@@ -11,18 +11,21 @@ ghost use Rattle.pddl_reader.specs.Problem.{initial_of, literal_forms, with_atom
 ghost use Rattle.pddl_reader.specs.Resolved.{known_form, vocabulary_form};
 
 use crate::resolution::atoms::{ground_atom, guessed_atom};
-use crate::resolution::guesses::{Guess, guess_of, guesses};
+use crate::resolution::guesses::{Guess, atoms_guessed, guess_of, guesses};
 use crate::resolution::hints::Hints;
 use crate::resolution::literals::unsupported;
 use crate::resolution::tables::Declared;
 use crate::resolution::vocabulary::Vocabulary;
 use pddl_syntax::{AtomSyntax, FaultKind, LiteralSyntax, Literals, ReadFault, ValueSyntax};
 use plan_cost::{FunctionValues, Given};
-use std::alloc::Global;
+use std::alloc::{AllocError, Global};
 use strips_task::InitialAtoms;
 
 /// How many literals are read before their names are looked up.
 const BATCH: usize = 32;
+
+/// For how many bytes of a problem one initial atom is expected. Many problems have one for 20 to 40 bytes.
+const BYTES_FOR_AN_ATOM: usize = 32;
 
 /// The initial atoms, and the values of functions.
 #[derive(Drop)]
@@ -114,6 +117,21 @@ fn put_guessed(
     Ok(())
 }
 
+/// Looks for the atoms that literals stand for where the guesses are right, and makes room for those that are new.
+fn make_ready(
+    alloc: Global,
+    atoms: &mut InitialAtoms,
+    guesses: &[Guess],
+    literals: &[LiteralSyntax<'_>],
+) -> Result<(), AllocError>
+    ensures { atoms.new ≡ atoms.old }
+{
+    let guessed = atoms_guessed(alloc, guesses, literals)?;
+    let known = atoms.known(guessed.as_slice());
+    atoms.expect(guessed.len() - known);
+    Ok(())
+}
+
 /// Puts what initial literals give to the rest, once their names are guessed.
 fn put_batch(
     alloc: Global,
@@ -125,6 +143,7 @@ fn put_batch(
     ensures { Puts result (through (with_initial (vocabulary_form vocabulary.now)) state.old (literal_forms literals.now)) state.new }
 {
     let guesses = guesses(alloc, &vocabulary.atoms, hints, literals)?;
+    make_ready(alloc, &mut state.atoms, guesses.as_slice(), literals)?;
     put_guessed(alloc, vocabulary, state, guesses.as_slice(), literals)
 }
 
@@ -149,12 +168,13 @@ fn batch_from<'a>(
     Ok(batch)
 }
 
-/// What the initial literals of a problem give.
+/// What the initial literals of a problem of so many bytes give. No answer depends on the size.
 #[tactic(auto, using(crate::proofs::Through::through_steps, crate::proofs::InitialSteps::initial_steps, crate::proofs::BatchSteps::through_append))]
 pub(crate) fn initial(
     alloc: Global,
     vocabulary: &Vocabulary<'_>,
     mut literals: Literals<'_>,
+    size: usize,
 ) -> Result<InitialState, ReadFault>
     ensures { Gives (λ state. state) result (initial_of (vocabulary_form vocabulary.now) literals.entry) }
 {
@@ -164,6 +184,7 @@ pub(crate) fn initial(
         atoms: InitialAtoms::new(alloc, seed),
         values: FunctionValues::new(alloc, seed),
     };
+    state.atoms.expect(size / BYTES_FOR_AN_ATOM);
     'literals: while let Some(first) = literals.next(alloc)? {
         let batch = batch_from(alloc, first, &mut literals)?;
         put_batch(alloc, vocabulary, &hints, &mut state, batch.as_slice())?;

@@ -108,14 +108,14 @@ fn takes_terms(predicates: &NameTable<Seq<Alternatives>>, number: usize, count: 
 pub(crate) fn predicate_number(
     alloc: Global,
     predicates: &NameTable<Seq<Alternatives>>,
-    guess: usize,
+    guess: u16,
     atom: &AtomSyntax<'_>,
 ) -> Result<u16, ReadFault>
     requires { length predicates.now ≤ 4096 }
     ensures { Gives (λ number. number) result (predicate_number predicates.now (atom_form atom.now)) }
 {
     let word = atom.predicate;
-    let Some(number) = number_near(alloc, predicates, guess, word.text)? else {
+    let Some(number) = number_near(alloc, predicates, usize::from(guess), word.text)? else {
         return Err(ReadFault::new(FaultKind::UnknownName, word.span));
     };
     if !takes_terms(predicates, number, atom.terms.len()) {

@@ -126,19 +126,20 @@ fn assemble(domain: Domain, given: Given) -> CostedTask
     }
 }
 
-/// What the syntax of a problem stands for beside a domain.
+/// What the syntax of a problem of so many bytes stands for beside a domain.
 #[tactic(auto, using(crate::proofs::ProblemMeaning::problem_steps))]
 fn resolve_given(
     alloc: Global,
     domain: &Domain,
     syntax: &ProblemSyntax<'_>,
+    size: usize,
 ) -> Result<Given, ReadFault>
     ensures meaning { Gives (costed_assembled domain.now) result (problem_within (problem_syntax_form syntax.now) (Some domain.now)) }
     ensures well_formed { IfOk result (λ given. IsWellFormed (task_assembled domain.now given)) }
     ensures few_functions { length domain.now.functions ≤ 4096 }
 {
     let vocabulary = domain.vocabulary();
-    let init = initial(alloc, &vocabulary, part_literals(&syntax.init))?;
+    let init = initial(alloc, &vocabulary, part_literals(&syntax.init), size)?;
     let goal = ground_conditions(alloc, &vocabulary.atoms, syntax.goal.again())?;
     let problem = name(alloc, syntax.name)?;
     Ok(Given {
@@ -148,16 +149,17 @@ fn resolve_given(
     })
 }
 
-/// The task that a domain and the syntax of a problem stand for. Where it refuses, the domain is dropped.
+/// The task that a domain and the syntax of a problem of so many bytes stand for. Where it refuses, the domain is dropped.
 #[tactic(auto, using(crate::proofs::ProblemMeaning::extended_steps))]
 pub(crate) fn resolve_problem(
     alloc: Global,
     domain: Domain,
     syntax: &ProblemSyntax<'_>,
+    size: usize,
 ) -> Result<CostedTask, ReadFault>
     ensures { Gives (λ task. task) result (problem_of domain (problem_syntax_form syntax.now)) }
 {
     let domain = extended(alloc, domain, part_items(&syntax.objects))?;
-    let given = resolve_given(alloc, &domain, syntax)?;
+    let given = resolve_given(alloc, &domain, syntax, size)?;
     Ok(assemble(domain, given))
 }

@@ -37,13 +37,13 @@ fn term_fits(known: &Declared<'_>, params: &[Alternatives], term: Term, place: &
 fn object_number(
     alloc: Global,
     objects: &NameTable<u16>,
-    guess: usize,
+    guess: u16,
     word: Word<'_>,
 ) -> Result<Option<u16>, ReadFault>
     requires { length objects.now ≤ 65535 }
     ensures { GivesOption result (object_number objects.now word.entry.text.now) }
 {
-    match number_near(alloc, objects, guess, word.text)? {
+    match number_near(alloc, objects, usize::from(guess), word.text)? {
         Some(number) => Ok(Some(number as u16)),
         None => Ok(None),
     }
@@ -54,7 +54,7 @@ fn object_number(
 fn object_near(
     alloc: Global,
     known: &Declared<'_>,
-    guess: usize,
+    guess: u16,
     word: Word<'_>,
 ) -> Result<u16, ReadFault>
     ensures { Gives (λ number. number) result (object_number known.now.objects.now word.entry.text.now) }
@@ -78,7 +78,7 @@ fn object_in_place(
     alloc: Global,
     known: &Declared<'_>,
     place: &[u16],
-    guess: usize,
+    guess: u16,
     word: Word<'_>,
 ) -> Result<u16, ReadFault>
     ensures { Gives (λ number. number) result (object_in_place (known_form known.now) place.now word.entry.text.now) }
@@ -96,7 +96,7 @@ pub(crate) fn objects_in_places(
     alloc: Global,
     known: &Declared<'_>,
     places: &[Alternatives],
-    guesses: &[usize],
+    guesses: &[u16],
     words: &[Word<'_>],
 ) -> Result<ShortSeq<u16>, ReadFault>
     requires { length places.now ≡ length words.now }

@@ -3,8 +3,9 @@ use Rattle.std.proofs.lemmas.Option.{slice_get-get_or}
 use Rattle.std.specs.Prelude.{slice_index_or}
 use Rattle.judge_engine.specs.Answer.{planner_of}
 use Rattle.judge_bench.specs.Findings.{findings_of}
-use Rattle.judge_engine.specs.Plans.{as_judged, plans_of_files}
-use Rattle.judge_engine.specs.Report.{Planner, planner_lines}
+use Rattle.judge_engine.specs.Plans.{plans_of_files}
+use Rattle.report_text.specs.Format.{planner_text}
+use Rattle.report_text.specs.Report.{as_judged, Planner}
 use Rattle.judge_engine.proofs.PlanCounts.{count_each}
 use Rattle.judge_engine.proofs.Planners.{report_more}
 use Rattle.judge_engine.proofs.Submitted.{found_of_file, count_of_file, list_of_each}
@@ -36,5 +37,5 @@ loop-planner-preserved c =
     let named : ◌≡◌ {A = Planner} (record { name = c.name.result.now; plans = map as_judged (slice_index_or c.args.findings.now i []) }) (planner_of task bundle) =
     (λ j. record { name = c.name.ensures j; plans = found j }) ∙ found_of_file task bundles i bundle c.loop-planner-test.true at in
     c.in_ok-push_planner.ensures
-    ∙ (λ j. c.loop-planner.invariant j ++ planner_lines task (named j))
-    ∙ sym (report_more task (planner_of task) bundles i bundle at)
+    ∙ (λ j. c.loop-planner.invariant j ++ planner_text c.args.format task (named j))
+    ∙ sym (report_more c.args.format task (planner_of task) bundles i bundle at)

@@ -2,16 +2,17 @@ use Rattle.std.proofs.Common.{◌≡◌, ◌+◌, ◌++◌, ◌∷◌, [], drop,
 use Rattle.std.proofs.lemmas.List.{drop_all}
 use Rattle.std.specs.Prelude.{slice_index_or}
 use Rattle.intake_rules.specs.declared.finding.Finding.{Finding}
-use Rattle.judge_engine.specs.Plans.{as_judged}
-use Rattle.judge_engine.specs.Report.{Judged, least_cost, plan_lines, summary_text, summary_line, steps_if_valid}
+use Rattle.report_text.specs.Format.{plan_texts, summary_in, summary_of}
+use Rattle.report_text.specs.Report.{Judged, as_judged, least_cost, steps_if_valid}
 use Rattle.judge_engine.specs.Tally.{tally_of, tally_with, both}
 use Rattle.judge_engine.specs.declared.planner.Tally.{Tally}
-use Rattle.judge_engine.proofs.Planners.{on_ok_more}
+use Rattle.report_text.proofs.Rendering.{on_ok_more}
 use Rattle.judge_engine.proofs.Tallies.{told, counted, all_counted, item_at, one_at_most}
 use Rattle.judge_engine.proofs.planner.push_planner.Goals as goal
 
 pub loop-place-preserved : goal.loop-place-preserved
 loop-place-preserved c =
+    let format = c.args.format in
     let task = c.args.task.now.task in
     let name = c.args.name.now in
     let was = c.loop-place.invariant in
@@ -25,9 +26,9 @@ loop-place-preserved c =
     let plans : c.counted-tally.result.plans ≡ c.loop-place.tally.plans + 1 = ap (λ (t : Tally). t.plans) tally in
     let valid : c.counted-tally.result.valid ≡ (tally_with c.loop-place.tally (as_judged finding)).valid = ap (λ (t : Tally). t.valid) tally in
     record {
-      told = ap (λ t. t ++ plan_lines task name (place + 1 + 1) rest) c.in_ok-push_plan_line.ensures
-          ∙ told task name c.loop-place.text (place + 1) (as_judged finding) rest
-          ∙ ap (λ l. c.loop-place.text ++ plan_lines task name (place + 1) (map as_judged l)) (sym at)
+      told = ap (λ t. t ++ plan_texts format task name (place + 1 + 1) rest) c.in_ok-push_plan_in.ensures
+          ∙ told format task name c.loop-place.text (place + 1) (as_judged finding) rest
+          ∙ ap (λ l. c.loop-place.text ++ plan_texts format task name (place + 1) (map as_judged l)) (sym at)
           ∙ was.told;
       counted = ap (λ t. both t (tally_of rest)) tally
           ∙ counted c.loop-place.tally (as_judged finding) rest
@@ -39,6 +40,7 @@ loop-place-preserved c =
 
 pub returns : goal.returns
 returns c =
+    let format = c.args.format in
     let task = c.args.task.now.task in
     let name = c.args.name.now in
     let text = c.loop-place.text in
@@ -46,14 +48,14 @@ returns c =
     let list : List Finding = slice_index_or c.args.findings.now c.args.planner [] in
     let plans : List Judged = map as_judged list in
     let ended : drop place list ≡ [] = drop_all place list (omega (arith, c.loop-place-test.false, c.plans-place-end.ensures)) in
-    let all : text ≡ c.args.text.now ++ plan_lines task name 1 plans =
-    sym (append-nil text) ∙ ap (λ l. text ++ plan_lines task name (place + 1) (map as_judged l)) (sym ended) ∙ c.loop-place.invariant.told in
+    let all : text ≡ c.args.text.now ++ plan_texts format task name 1 plans =
+    sym (append-nil text) ∙ ap (λ l. text ++ plan_texts format task name (place + 1) (map as_judged l)) (sym ended) ∙ c.loop-place.invariant.told in
     let tally : c.loop-place.tally ≡ tally_of plans =
     sym (all_counted c.loop-place.tally) ∙ ap (λ l. both c.loop-place.tally (tally_of (map as_judged l))) (sym ended) ∙ c.loop-place.invariant.counted in
     let costs = c.args.task.now.costs in
-    let last : summary_text name c.loop-place.tally.plans c.loop-place.tally.valid c.loop-place.tally.best c.least_cost-cost.result ≡ summary_line costs name plans =
-    ap (summary_text name c.loop-place.tally.plans c.loop-place.tally.valid c.loop-place.tally.best) c.least_cost-cost.ensures
-    ∙ (λ j. summary_text name (tally j).plans (tally j).valid (tally j).best (least_cost costs (tally j).cost)) in
-    on_ok_more c.push_summary.result
-    (λ added. added ∙ (λ j. all j ++ last j) ∙ append_assoc c.args.text.now (plan_lines task name 1 plans) (summary_line costs name plans))
-    c.push_summary.ensures
+    let last : summary_in format name c.loop-place.tally.plans c.loop-place.tally.valid c.loop-place.tally.best c.least_cost-cost.result ≡ summary_of format costs name plans =
+    ap (summary_in format name c.loop-place.tally.plans c.loop-place.tally.valid c.loop-place.tally.best) c.least_cost-cost.ensures
+    ∙ (λ j. summary_in format name (tally j).plans (tally j).valid (tally j).best (least_cost costs (tally j).cost)) in
+    on_ok_more c.push_summary_in.result
+    (λ added. added ∙ (λ j. all j ++ last j) ∙ append_assoc c.args.text.now (plan_texts format task name 1 plans) (summary_of format costs name plans))
+    c.push_summary_in.ensures

@@ -1,19 +1,22 @@
-use Rattle.std.proofs.Common.{◌<◌, ◌++◌, ◌∷◌, [], List, ℕ, Bor, map, take, get_or, length, sym, subst, arith}
+use Rattle.std.proofs.Common.{ℕ, List, Bor, Result, IfOk, ap, subst, ◌∙◌}
+use Rattle.std.specs.List.{AllZip}
 use Rattle.judge_engine.specs.Bundle.{BundleValue}
-use Rattle.judge_engine.specs.Run.{AreFiles}
-use Rattle.judge_engine.proofs.Files.{files_more, map_take_more}
+use Rattle.rayon.proofs.ToStd.{slice-AllZip}
+use Rattle.rayon.specs.Lists.{min_len_base}
+use Rattle.judge_engine.specs.declared.program.Stop.{Stop}
+use Rattle.judge_engine.specs.Run.{IsFile}
+use Rattle.judge_engine.proofs.Files.{read_files}
 use Rattle.judge_engine.proofs.program.read_bundles.Goals as goal
 
-pub loop-name-preserved : goal.loop-name-preserved
-loop-name-preserved g c =
+pub returns : goal.returns
+returns g c =
     let may_hold = g.S.Sources.may_hold c.args.sources.now in
-    let bundle : BundleValue = c.in_ok-read_bundle.field-0 in
-    let names : List (Bor (List ℕ)) = c.args.names.now in
-    let i = c.loop-name.name-index in
-    let lt : i < length names = omega arith in
-    let none : Bor (List ℕ) = record { ref_ptr = (0, 0); now = [] } in
-    let name : Bor (List ℕ) = get_or names i none in
-    let bytes_of : Bor (List ℕ) → List ℕ = λ n. n.now in
-    let more = files_more may_hold (map bytes_of (take i names)) c.loop-name.bundles.items name.now bundle c.loop-name.invariant c.in_ok-read_bundle.ensures in
-    subst (λ (ns : List (List ℕ)). AreFiles may_hold ns c.push.new.self.items) (sym (map_take_more bytes_of names i none lt))
-    (subst (AreFiles may_hold (map bytes_of (take i names) ++ name.now ∷ [])) (sym c.in_ok-push.ensures.items) more)
+    let read = c.in_ok-collect.ensures in
+    let chain = read.1 in
+    let base = ap min_len_base c.map.ensures.base ∙ c.with_min_len.ensures.base in
+    let slice = ap (λ it. it.slice.now) base ∙ c.par_iter.ensures in
+    let same = ap (λ f. f.1) c.map.ensures.f in
+    let all = subst (λ (s : Bor _). AllZip (λ (name : Bor (Bor (List ℕ))) (one : Result BundleValue Stop). IfOk one (IsFile (g.S.Sources.may_hold s.now) name.now.now)) chain.0 read.0)
+    same chain.2 in
+    let each = slice-AllZip chain.0 c.args.names.now (chain.1 ∙ slice) (λ name one. IfOk one (IsFile may_hold name.now)) read.0 all in
+    read_files Stop may_hold (λ v. v.items) c.args.names.now read.0 c.in_ok-collect.field-0 _ each read.2

@@ -1,4 +1,4 @@
-use Rattle.std.proofs.Common.{◌≡◌, ◌++◌, ◌∷◌, [], ℕ, Option, Some, IfSome, nat_eq, true, subst, sym, ap, ◌∙◌}
+use Rattle.std.proofs.Common.{◌≡◌, ◌++◌, ◌∷◌, [], ℕ, Option, Some, IfSome, nat_eq, true, subst, sym, ◌∙◌}
 use Rattle.std.specs.Bool.{beq}
 use Rattle.strips_task.specs.declared.actions.Formula.{Formula}
 use Rattle.strips_judge.specs.Codes.{Code, AsksFor, asking_more}
@@ -12,10 +12,9 @@ returns-in_ok-ask-in-Atom-clause-asks c = λ t before h.
     let atoms = c.short_number.new.state.atoms in
     let objects = c.args.objects.now in
     let positive = c.args.cond.now.positive in
-    let says : number_in atoms c.ground.new.atom ≡ Some c.in-Some.number =
-    let P : Option ℕ → Type 0 = λ o. IfSome o (λ n. number_in atoms c.ground.new.atom ≡ Some n) in subst P c.in-Some.is c.in_ok-number-in-Atom.ensures.number in
-    let here : number_in atoms (ground objects c.in-Atom.pattern) ≡ Some c.in-Some.number = ap (number_in atoms) (sym c.in_ok-ground-in-Atom.ensures) ∙ says in
-    let more = asks_atom c.args.state.now.atoms atoms c.short_number.ensures.grows.numbers before c.args.code.now positive (ground objects c.in-Atom.pattern) c.in-Some.number here h in
+    let says : number_in atoms (ground objects c.in-Atom.pattern) ≡ Some c.in-Some.number =
+    let P : Option ℕ → Type 0 = λ o. IfSome o (λ n. number_in atoms (ground objects c.in-Atom.pattern) ≡ Some n) in subst P c.in-Some.is c.in_ok-number-in-Atom.ensures.number in
+    let more = asks_atom c.args.state.now.atoms atoms c.short_number.ensures.grows.numbers before c.args.code.now positive (ground objects c.in-Atom.pattern) c.in-Some.number says h in
     subst (λ (code : Code). AsksFor atoms (before ++ record { positive = positive; formula = ground_formula objects c.args.cond.now.formula } ∷ []) code) (sym c.in_ok-ask-in-Atom.ensures)
     (subst (λ (f : Formula). AsksFor atoms (before ++ record { positive = positive; formula = ground_formula objects f } ∷ []) (asking_more c.args.code.now positive c.in-Some.number)) (sym c.in-Atom.is) more)
 

@@ -1,4 +1,4 @@
-use Rattle.std.proofs.Common.{◌≡◌, ℕ, Option, Some, IfSome, ◌∙◌, subst, sym, ap, take, map}
+use Rattle.std.proofs.Common.{◌≡◌, ℕ, Option, Some, IfSome, ◌∙◌, subst, take, map}
 use Rattle.strips_judge.specs.Grounding.{ground}
 use Rattle.strips_judge.specs.Numbers.{number_in}
 use Rattle.strips_judge.proofs.CodeLaws.{numbers_more}
@@ -15,13 +15,13 @@ returns-in-None-clause-grows c = grows_twice c.args.state.now c.loop-pattern.sta
 pub loop-pattern-preserved : goal.loop-pattern-preserved
 loop-pattern-preserved c =
     let atoms = c.short_number.new.state.atoms in
-    let says : number_in atoms c.ground.new.atom ≡ Some c.in-Some.number =
-    let P : Option ℕ → Type 0 = λ o. IfSome o (λ n. number_in atoms c.ground.new.atom ≡ Some n) in subst P c.in-Some.is c.in_ok-number.ensures.number in (
+    let says : number_in atoms (ground c.args.objects.now c.pattern-item.result) ≡ Some c.in-Some.number =
+    let P : Option ℕ → Type 0 = λ o. IfSome o (λ n. number_in atoms (ground c.args.objects.now c.pattern-item.result) ≡ Some n) in subst P c.in-Some.is c.in_ok-number.ensures.number in (
       numbers_more c.loop-pattern.state.atoms atoms c.short_number.ensures.grows.numbers
           (map (ground c.args.objects.now) (take c.loop-pattern.pattern-index c.args.patterns.now)) _ c.loop-pattern.numbers.items _
           (ground c.args.objects.now c.pattern-item.result) c.in-Some.number
           (mapped_more (ground c.args.objects.now) c.args.patterns.now c.loop-pattern.pattern-index c.pattern-item.result c.loop-pattern-test.true c.pattern-item.is)
-          c.in_ok-push-in-Some.ensures.items c.loop-pattern.invariant.0 (ap (number_in atoms) (sym c.in_ok-ground.ensures) ∙ says),
+          c.in_ok-push-in-Some.ensures.items c.loop-pattern.invariant.0 says,
       c.short_number.ensures.state ∙ c.loop-pattern.invariant.1,
       grows_twice c.args.state.now c.loop-pattern.state c.short_number.new.state c.loop-pattern.invariant.2 c.short_number.ensures.grows,
     )

@@ -1,7 +1,5 @@
-use Rattle.std.proofs.Common.{◌∷◌, [], ap, ◌∙◌}
 use Rattle.strips_judge.specs.Grounding.{ground}
 use Rattle.strips_judge.specs.Numbered.{state_of}
-use Rattle.strips_judge.specs.State.{with_all}
 use Rattle.strips_judge.proofs.Growth.{grows_twice}
 use Rattle.strips_judge.proofs.StepLaws.{mapped_more, with_all-more}
 use Rattle.strips_judge.proofs.effects.insert_all.Goals as goal
@@ -11,7 +9,7 @@ loop-pattern-preserved c = (
   with_all-more (state_of c.args.state.now) (state_of c.loop-pattern.state) _ _ _ (ground c.args.objects.now c.pattern-item.result)
       (mapped_more (ground c.args.objects.now) c.args.patterns.now c.loop-pattern.pattern-index c.pattern-item.result c.loop-pattern-test.true c.pattern-item.is)
       c.loop-pattern.invariant.0
-      (c.in_ok-insert.ensures.state ∙ ap (λ atom. with_all (state_of c.loop-pattern.state) (atom ∷ [])) c.in_ok-ground.ensures),
+      c.in_ok-insert.ensures.state,
   grows_twice c.args.state.now c.loop-pattern.state c.insert.new.self c.loop-pattern.invariant.1 c.insert.ensures.grows,
 )
 

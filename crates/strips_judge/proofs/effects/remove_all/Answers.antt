@@ -1,7 +1,5 @@
-use Rattle.std.proofs.Common.{◌∷◌, [], ap, ◌∙◌}
 use Rattle.strips_judge.specs.Grounding.{ground}
 use Rattle.strips_judge.specs.Numbered.{state_of}
-use Rattle.strips_judge.specs.State.{without}
 use Rattle.strips_judge.proofs.Growth.{grows_twice}
 use Rattle.strips_judge.proofs.StepLaws.{mapped_more, without-more}
 use Rattle.strips_judge.proofs.effects.remove_all.Goals as goal
@@ -11,6 +9,9 @@ loop-pattern-preserved c = (
   without-more (state_of c.args.state.now) (state_of c.loop-pattern.state) _ _ _ (ground c.args.objects.now c.pattern-item.result)
       (mapped_more (ground c.args.objects.now) c.args.patterns.now c.loop-pattern.pattern-index c.pattern-item.result c.loop-pattern-test.true c.pattern-item.is)
       c.loop-pattern.invariant.0
-      (c.remove.ensures.state ∙ ap (λ atom. without (state_of c.loop-pattern.state) (atom ∷ [])) c.in_ok-ground.ensures),
+      c.in_ok-remove.ensures.state,
   grows_twice c.args.state.now c.loop-pattern.state c.remove.new.self c.loop-pattern.invariant.1 c.remove.ensures.grows,
 )
+
+pub returns-in_err-remove-clause-grows : goal.returns-in_err-remove-clause-grows
+returns-in_err-remove-clause-grows c = grows_twice c.args.state.now c.loop-pattern.state c.remove.new.self c.loop-pattern.invariant.1 c.remove.ensures.grows

@@ -1,0 +1,2 @@
+pub mod AllValid
+pub mod Refused

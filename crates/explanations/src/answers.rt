@@ -1,0 +1,351 @@
+//! The explanation of a run.
+
+ghost use Rattle.std.specs.Prelude.{◌≡◌, ◌≢◌, false, None, Some, IfOk, MatchResult, ◌&&◌};
+ghost use Rattle.pddl_syntax.specs.declared.fault.FaultKind.TheVariants.{OutOfMemory};
+ghost use Rattle.explanations.specs.Refused.{kind_of};
+ghost use Rattle.explanations.specs.AllValid.{task_in, is_valid, is_valid_plan, are_valid_in, are_all_valid, all_valid_for};
+
+use crate::faults::push_refusal;
+use crate::library::Library;
+use crate::page::Page;
+use crate::places::{LineCount, Range};
+use crate::plans::{PlanAt, push_assessment, push_name};
+use crate::remarks::{push_empty_end, push_end, push_header, push_other_domain};
+use crate::scene::{Refusal, Scene};
+use crate::steps::Part;
+use crate::trace::push_trace;
+use crate::{Explanation, Options, SourceText};
+use pddl_reader::{Dialect, FaultKind, ReadFault, read_domain_in, read_problem_in};
+use plan_cost::CostedTask;
+use plan_text::{PartPlace, part_from};
+use std::alloc::{AllocError, Global};
+use strips_judge::Verdict;
+use strips_task::Seed;
+use text_judge::TextJudge;
+
+/// Explains what a judge answers about the plans of some files.
+///
+/// The text is for people: it names the file, the line and the column of what is wrong, shows that line, and says what to do. It ends with an LF.
+/// `all_valid` is true exactly if the domain and the problem are read and every plan is valid. The only error is that memory runs out.
+pub fn explain(
+    alloc: Global,
+    seed: Seed,
+    options: Options,
+    domain: SourceText<'_>,
+    problem: SourceText<'_>,
+    plans: &[SourceText<'_>],
+) -> Result<Explanation, AllocError>
+    ensures { IfOk result (λ e. e.all_valid ≡ all_valid_for (task_in options.dialect domain.entry.bytes.now problem.entry.bytes.now) plans.now) }
+{
+    let mut page = Page::new(alloc, options.colors);
+    let all_valid = push_answer(&mut page, seed, options, domain, problem, plans)?;
+    Ok(Explanation {
+        text: page.into_text(),
+        all_valid,
+    })
+}
+
+/// Adds the whole explanation. Whether all plans are valid.
+fn push_answer<'a>(
+    page: &mut Page,
+    seed: Seed,
+    options: Options,
+    domain: SourceText<'a>,
+    problem: SourceText<'a>,
+    plans: &[SourceText<'a>],
+) -> Result<bool, AllocError>
+    ensures { IfOk result (λ all_valid. all_valid ≡ all_valid_for (task_in options.dialect domain.entry.bytes.now problem.entry.bytes.now) plans.now) }
+{
+    let dialect = options.dialect;
+    match read_task(page.alloc(), seed, dialect, domain.bytes, problem.bytes) {
+        Ok(task) => {
+            let all_valid = push_plans(page, &task, options, domain, problem, plans)?;
+            Ok(all_valid)
+        }
+        Err(refused) => {
+            if is_of_memory(refused) {
+                return Err(AllocError);
+            }
+            push_refused(page, dialect, domain, problem, refused)?;
+            Ok(false)
+        }
+    }
+}
+
+/// Which text is refused, and why.
+#[derive(Clone, Copy, Debug)]
+enum Refused {
+    Domain(ReadFault),
+    Problem(ReadFault),
+}
+
+/// Whether memory ran out, so that nothing is wrong with the text.
+fn is_of_memory(refused: Refused) -> bool
+    ensures { result ≡ false → kind_of refused ≢ OutOfMemory }
+{
+    match refused {
+        Refused::Domain(fault) => is_out_of_memory(fault.kind),
+        Refused::Problem(fault) => is_out_of_memory(fault.kind),
+    }
+}
+
+/// Whether a fault is that memory ran out.
+fn is_out_of_memory(kind: FaultKind) -> bool
+    ensures { result ≡ false → kind ≢ OutOfMemory }
+{
+    match kind {
+        FaultKind::OutOfMemory => true,
+        _ => false,
+    }
+}
+
+/// The task of a domain text and a problem text in a dialect.
+#[tactic(auto, unfolding(crate::specs::AllValid::task_in))]
+fn read_task(
+    alloc: Global,
+    seed: Seed,
+    dialect: Dialect,
+    domain: &[u8],
+    problem: &[u8],
+) -> Result<CostedTask, Refused>
+    ensures { MatchResult result (λ task. task_in dialect domain.now problem.now ≡ Some task)
+        (λ refused. kind_of refused ≢ OutOfMemory → task_in dialect domain.now problem.now ≡ None) }
+{
+    let domain = match read_domain_in(alloc, seed, dialect, domain) {
+        Ok(domain) => domain,
+        Err(fault) => return Err(Refused::Domain(fault)),
+    };
+    match read_problem_in(alloc, dialect, domain, problem) {
+        Ok(task) => Ok(task),
+        Err(fault) => Err(Refused::Problem(fault)),
+    }
+}
+
+/// Adds why the domain or the problem is refused.
+fn push_refused<'a>(
+    page: &mut Page,
+    dialect: Dialect,
+    domain: SourceText<'a>,
+    problem: SourceText<'a>,
+    refused: Refused,
+) -> Result<(), AllocError> {
+    match refused {
+        Refused::Domain(fault) => {
+            let refusal = Refusal {
+                file: domain,
+                is_problem: false,
+                fault,
+                dialect,
+            };
+            push_text(
+                page,
+                refusal,
+                domain,
+                SourceText {
+                    name: b"",
+                    bytes: b"",
+                },
+            )
+        }
+        Refused::Problem(fault) => {
+            let refusal = Refusal {
+                file: problem,
+                is_problem: true,
+                fault,
+                dialect,
+            };
+            push_text(page, refusal, domain, problem)
+        }
+    }
+}
+
+/// Adds why a text is refused, beside the names of a domain and a problem.
+fn push_text<'a>(
+    page: &mut Page,
+    refusal: Refusal<'a>,
+    domain: SourceText<'a>,
+    problem: SourceText<'a>,
+) -> Result<(), AllocError> {
+    let library = Library::new(page.alloc(), domain, problem)?;
+    let mut scene = Scene::new(page.alloc(), refusal, library)?;
+    push_refusal(page, &mut scene)
+}
+
+/// What was found about the plans so far.
+#[derive(Clone, Copy, Debug)]
+struct Tally {
+    plans: usize,
+    valid: usize,
+    all_valid: bool,
+}
+
+/// Adds what is found about the plans of all files. Whether all of them are valid.
+fn push_plans<'a>(
+    page: &mut Page,
+    task: &CostedTask,
+    options: Options,
+    domain: SourceText<'a>,
+    problem: SourceText<'a>,
+    plans: &[SourceText<'a>],
+) -> Result<bool, AllocError>
+    ensures { IfOk result (λ all_valid. all_valid ≡ are_all_valid task.now plans.now) }
+{
+    push_start(page, task, problem, plans.is_empty())?;
+    let mut library = Library::new(page.alloc(), domain, problem)?;
+    push_judged(page, task, &mut library, options.trace, plans)
+}
+
+/// Judges the plans of all files, and adds what is found. Whether all of them are valid.
+fn push_judged<'a>(
+    page: &mut Page,
+    task: &CostedTask,
+    library: &mut Library<'a>,
+    trace: bool,
+    plans: &[SourceText<'a>],
+) -> Result<bool, AllocError>
+    ensures { IfOk result (λ all_valid. all_valid ≡ are_all_valid task.now plans.now) }
+{
+    let mut judge = TextJudge::new(page.alloc(), task, 1)?;
+    let all_valid = push_files(page, &mut judge, library, trace, plans)?;
+    Ok(all_valid)
+}
+
+/// Adds what can be said before a plan is judged.
+fn push_start(
+    page: &mut Page,
+    task: &CostedTask,
+    problem: SourceText<'_>,
+    is_all: bool,
+) -> Result<(), AllocError> {
+    push_other_domain(page, &task.task, problem)?;
+    if is_all {
+        return push_header(page, &task.task);
+    }
+    Ok(())
+}
+
+/// Adds what is found about the plans of all files, and how many there are. Whether all of them are valid.
+fn push_files<'a>(
+    page: &mut Page,
+    judge: &mut TextJudge<'_>,
+    library: &mut Library<'a>,
+    trace: bool,
+    plans: &[SourceText<'a>],
+) -> Result<bool, AllocError>
+    ensures { IfOk result (λ all_valid. all_valid ≡ are_all_valid judge.old plans.now) }
+{
+    let mut tally = Tally {
+        plans: 0,
+        valid: 0,
+        all_valid: true,
+    };
+    for file in plans {
+        tally = push_file(page, judge, library, trace, *file, tally)?;
+    }
+    push_end(page, tally.plans, tally.valid)?;
+    Ok(tally.all_valid)
+}
+
+/// Adds what is found about the plans of a file.
+fn push_file<'a>(
+    page: &mut Page,
+    judge: &mut TextJudge<'_>,
+    library: &mut Library<'a>,
+    trace: bool,
+    file: SourceText<'a>,
+    tally: Tally,
+) -> Result<Tally, AllocError>
+    ensures judge { judge.new ≡ judge.old }
+    ensures valid { IfOk result (λ after. after.all_valid ≡ (tally.all_valid && are_valid_in judge.old file.entry.bytes.now)) }
+{
+    let mut tally = tally;
+    let mut number: usize = 0;
+    let mut lines = LineCount::new();
+    let mut start = 0;
+    'parts: loop {
+        let PartPlace { end, next } = part_from(file.bytes, start);
+        let range = Range { start, end };
+        let _line = lines.line_of(file.bytes, start);
+        number = number.saturating_add(1);
+        let part = Part {
+            file: file.bytes,
+            range,
+            lines,
+        };
+        let plan = PlanAt { file, part, number };
+        let is_valid = push_plan(page, judge, library, trace, plan, &file.bytes[start..end])?;
+        tally = tally.with(is_valid);
+        match next {
+            Some(behind) => start = behind,
+            None => {
+                push_empty_end(page, file, range, number)?;
+                return Ok(tally);
+            }
+        }
+    }
+}
+
+impl Tally {
+    /// The tally with one plan more.
+    fn with(self, is_valid: bool) -> Tally
+        ensures { result.all_valid ≡ (self.all_valid && is_valid) }
+    {
+        Tally {
+            plans: self.plans.saturating_add(1),
+            valid: self.valid.saturating_add(usize::from(is_valid)),
+            all_valid: self.all_valid && is_valid,
+        }
+    }
+}
+
+/// Adds what is found about a plan, which has this text. Whether it is valid.
+fn push_plan<'a>(
+    page: &mut Page,
+    judge: &mut TextJudge<'_>,
+    library: &mut Library<'a>,
+    trace: bool,
+    plan: PlanAt<'a>,
+    text: &[u8],
+) -> Result<bool, AllocError>
+    ensures judge { judge.new ≡ judge.old }
+    ensures valid { IfOk result (λ valid. valid ≡ is_valid_plan judge.old text.now) }
+{
+    let assessment = judge.assess(page.alloc(), text)?;
+    if trace {
+        push_steps(page, judge.task(), plan, &assessment.verdict)?;
+    }
+    push_assessment(page, judge, library, plan, &assessment)?;
+    Ok(is_valid(&assessment.verdict))
+}
+
+/// Whether a verdict is that the plan is valid.
+fn is_valid(verdict: &Verdict) -> bool
+    ensures { result ≡ is_valid verdict.now }
+{
+    match verdict {
+        Verdict::Valid { steps: _ } => true,
+        Verdict::Fails { step: _, why: _ } => false,
+        Verdict::Goal { missing: _ } => false,
+        Verdict::Unreadable { line: _ } => false,
+    }
+}
+
+/// Adds what each step of a plan changes that can be taken.
+fn push_steps(
+    page: &mut Page,
+    task: &CostedTask,
+    plan: PlanAt<'_>,
+    verdict: &Verdict,
+) -> Result<(), AllocError> {
+    let most = match verdict {
+        Verdict::Valid { steps } => *steps as usize,
+        Verdict::Fails { step, why: _ } => (*step as usize).saturating_sub(1),
+        Verdict::Goal { missing: _ } => usize::MAX,
+        Verdict::Unreadable { line: _ } => return Ok(()),
+    };
+    push_name(page, plan)?;
+    page.say("the steps of plan ")?;
+    page.number(plan.number)?;
+    page.say("\n")?;
+    push_trace(page, task, plan.part.text(), most)
+}

@@ -1,0 +1,169 @@
+//! What a planner's comments say about the cost of its plan.
+
+use crate::page::Page;
+use crate::places::{Range, bytes_at};
+use crate::plans::PlanAt;
+use memchr::{memchr, memchr_iter};
+use pddl_words::billionths;
+use plan_cost::Cost;
+use std::alloc::AllocError;
+
+/// How many bytes of a comment are looked at.
+const LONGEST: usize = 100;
+
+/// The cost of a plan as a comment has it.
+#[derive(Clone, Copy, Debug)]
+struct Claim {
+    /// The cost in billionths.
+    billionths: u64,
+    /// Whether each step is said to cost 1.
+    is_unit: bool,
+    /// The offset of the comment in the plan.
+    offset: usize,
+}
+
+/// Adds that a comment of a valid plan has another cost than the plan, if one does.
+pub(crate) fn push_cost_remark(
+    page: &mut Page,
+    plan: PlanAt<'_>,
+    steps: usize,
+    cost: Cost,
+) -> Result<(), AllocError> {
+    let Some(claim) = claim_in(plan.part.text()) else {
+        return Ok(());
+    };
+    if is_right(claim, steps, cost) {
+        return Ok(());
+    }
+    page.note()?;
+    page.say("the comment at ")?;
+    page.file_name(plan.file.name)?;
+    page.say(":")?;
+    let at = plan.part.range.start.saturating_add(claim.offset);
+    let mut lines = plan.part.lines;
+    page.number(lines.line_of(plan.file.bytes, at).number)?;
+    page.say(" says")?;
+    page.cost(Cost::Billionths(u128::from(claim.billionths)))?;
+    page.say(", but the plan has")?;
+    if cost == Cost::NotCounted {
+        page.say(" ")?;
+        page.count(steps, "step", "steps")?;
+    } else {
+        page.cost(cost)?;
+    }
+    page.say("\n")
+}
+
+/// Whether what a comment says is so, or cannot be told.
+fn is_right(claim: Claim, steps: usize, cost: Cost) -> bool {
+    let is_count = claim.is_unit && u128::from(claim.billionths) == unit_cost(steps);
+    match cost {
+        Cost::NotCounted => !claim.is_unit || is_count,
+        Cost::Undefined => true,
+        Cost::Billionths(counted) => is_count || u128::from(claim.billionths) == counted,
+    }
+}
+
+/// The cost of steps of which each costs 1, in billionths.
+fn unit_cost(steps: usize) -> u128 {
+    (steps as u128).saturating_mul(1_000_000_000)
+}
+
+/// The first cost in the comments of a plan that have lines of their own.
+fn claim_in(text: &[u8]) -> Option<Claim> {
+    for at in memchr_iter(b';', text) {
+        if is_line_start(text, at) {
+            if let Some(claim) = claim_of(text, at) {
+                return Some(claim);
+            }
+        }
+    }
+    None
+}
+
+/// Whether a line begins at an offset.
+fn is_line_start(text: &[u8], at: usize) -> bool {
+    at == 0 || text.get(at.saturating_sub(1)) == Some(&b'\n')
+}
+
+/// The cost in a comment whose `;` is at an offset.
+fn claim_of(text: &[u8], offset: usize) -> Option<Claim> {
+    let front = bytes_at(
+        text,
+        Range {
+            start: offset,
+            end: offset.saturating_add(LONGEST),
+        },
+    );
+    let line = match memchr(b'\n', front) {
+        Some(end) => bytes_at(front, Range { start: 0, end }),
+        None => front,
+    };
+    let value = behind(without_blanks(line), b"cost")?;
+    let value = behind(without_blanks(value), b"=")?;
+    let value = without_blanks(value);
+    let size = number_size(value);
+    let number = bytes_at(
+        value,
+        Range {
+            start: 0,
+            end: size,
+        },
+    );
+    let behind_number = bytes_at(
+        value,
+        Range {
+            start: size,
+            end: value.len(),
+        },
+    );
+    Some(Claim {
+        billionths: billionths(number)?,
+        is_unit: behind(without_blanks(behind_number), b"(unit cost)").is_some(),
+        offset,
+    })
+}
+
+/// What is behind a word at the start, in upper or lower case.
+fn behind<'a>(bytes: &'a [u8], word: &[u8]) -> Option<&'a [u8]> {
+    let front = bytes_at(
+        bytes,
+        Range {
+            start: 0,
+            end: word.len(),
+        },
+    );
+    if !front.eq_ignore_ascii_case(word) {
+        return None;
+    }
+    Some(bytes_at(
+        bytes,
+        Range {
+            start: word.len(),
+            end: bytes.len(),
+        },
+    ))
+}
+
+/// The bytes from the first that is no blank on.
+fn without_blanks(bytes: &[u8]) -> &[u8] {
+    let blanks = bytes
+        .iter()
+        .take_while(|b| matches!(**b, b' ' | b'\t' | b'\r' | b';'))
+        .count();
+    bytes_at(
+        bytes,
+        Range {
+            start: blanks,
+            end: bytes.len(),
+        },
+    )
+}
+
+/// How many bytes at the start belong to a number.
+fn number_size(bytes: &[u8]) -> usize {
+    bytes
+        .iter()
+        .take_while(|b| matches!(**b, b'0'..=b'9' | b'.'))
+        .count()
+}

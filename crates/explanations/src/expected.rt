@@ -1,0 +1,85 @@
+//! What could be at a place where a domain or a problem has something else.
+
+use crate::page::Page;
+use crate::scene::Scene;
+use std::alloc::AllocError;
+
+/// Adds what may be at the place of the fault.
+pub(crate) fn push_expected_hints(page: &mut Page, scene: &Scene<'_>) -> Result<(), AllocError> {
+    if scene.is_swapped() {
+        return page.help_line("are the files of --domain and --problem swapped?");
+    }
+    if scene.depth() == 0 {
+        return page.help_line(outside_hint(scene));
+    }
+    if scene.depth() == 1 {
+        return page.help_line(section_hint(scene));
+    }
+    page.help_line(inside_hint(scene))
+}
+
+/// What may be outside all lists.
+fn outside_hint(scene: &Scene<'_>) -> &'static str {
+    if scene.number > 0 {
+        return "the definition ended before; a file has one definition, and only comments may follow it";
+    }
+    if scene.refusal.is_problem {
+        "a problem begins with `(define (problem NAME)`"
+    } else {
+        "a domain begins with `(define (domain NAME)`"
+    }
+}
+
+/// What may be directly in the definition.
+fn section_hint(scene: &Scene<'_>) -> &'static str {
+    match (scene.number <= 2, scene.refusal.is_problem) {
+        (true, true) => "a problem begins with `(define (problem NAME)`",
+        (true, false) => "a domain begins with `(define (domain NAME)`",
+        (false, true) =>
+            "a problem has sections: `(:domain ..)`, `(:objects ..)`, `(:init ..)`, `(:goal ..)`",
+        (false, false) => {
+            "a domain has sections: `(:requirements ..)`, `(:types ..)`, `(:constants ..)`, `(:predicates ..)`, `(:action ..)`"
+        }
+    }
+}
+
+/// What may be in a section.
+fn inside_hint(scene: &Scene<'_>) -> &'static str {
+    let section = scene.section();
+    if section.eq_ignore_ascii_case(b":types") {
+        return "types are names: `(:types truck plane - vehicle vehicle)`";
+    }
+    if section.eq_ignore_ascii_case(b":constants") || section.eq_ignore_ascii_case(b":objects") {
+        return "objects are names: `(:objects a b - block c)`";
+    }
+    if section.eq_ignore_ascii_case(b":predicates") {
+        return "a predicate is a name and variables: `(on ?x ?y - block)`";
+    }
+    if section.eq_ignore_ascii_case(b":functions") {
+        return "a function is a name and variables: `(distance ?from ?to - place) - number`";
+    }
+    if section.eq_ignore_ascii_case(b":action") {
+        return action_hint(scene);
+    }
+    if section.eq_ignore_ascii_case(b":init") {
+        return "an initial atom is a predicate and objects: `(on a b)`";
+    }
+    if section.eq_ignore_ascii_case(b":goal") {
+        return "a goal is `(p a b)`, `(not (p a b))`, or `(and ..)` of these";
+    }
+    if scene.depth() == 2 && scene.is_head() {
+        return section_hint(scene);
+    }
+    "only a name may be here"
+}
+
+/// What may be in an action.
+fn action_hint(scene: &Scene<'_>) -> &'static str {
+    if scene.depth() == 2 {
+        return "an action is `(:action NAME :parameters (?x - TYPE) :precondition (..) :effect (..))`";
+    }
+    if scene.depth() == 3 && scene.head().first() == Some(&b'?') {
+        return "parameters are variables: `(?x ?y - block ?z)`";
+    }
+    "a condition or an effect is `(p ?x)`, `(not (p ?x))`, or `(and ..)` of these"
+}

@@ -1,0 +1,230 @@
+//! What is wrong with a domain or a problem, and where.
+
+use crate::hints::push_hints;
+use crate::outline::Sort;
+use crate::page::Page;
+use crate::places::{Range, place_of, push_excerpt, push_place};
+use crate::scene::Scene;
+use pddl_reader::FaultKind;
+use std::alloc::AllocError;
+
+/// Adds why a text is refused: the place, what is wrong there, the line, and hints.
+pub(crate) fn push_refusal(page: &mut Page, scene: &mut Scene<'_>) -> Result<(), AllocError> {
+    let bytes = scene.bytes();
+    let place = place_of(bytes, shown_range(scene));
+    push_place(page, scene.refusal.file.name, place)?;
+    push_message(page, scene)?;
+    page.say("\n")?;
+    push_excerpt(page, bytes, place)?;
+    push_hints(page, scene)
+}
+
+/// The range that is shown: that of the fault, or of the `(` that is never closed.
+fn shown_range(scene: &Scene<'_>) -> Range {
+    let range = scene.range();
+    if scene.kind() != FaultKind::Unbalanced || range.start < range.end {
+        return range;
+    }
+    let Some(open) = scene.open_list() else {
+        return range;
+    };
+    match scene.pieces.get(open) {
+        Some(piece) => piece.range(),
+        None => range,
+    }
+}
+
+/// Adds what is wrong.
+fn push_message(page: &mut Page, scene: &mut Scene<'_>) -> Result<(), AllocError> {
+    match scene.kind() {
+        FaultKind::BadText => push_bad_text(page, scene),
+        FaultKind::Unbalanced => push_unbalanced(page, scene),
+        FaultKind::Expected => push_expected(page, scene),
+        FaultKind::Unsupported => push_unsupported(page, scene),
+        FaultKind::UnknownName => push_unknown(page, scene),
+        FaultKind::Repeated => push_repeated(page, scene),
+        FaultKind::TypeCycle => push_type_cycle(page, scene),
+        FaultKind::WrongCount => push_wrong_count(page, scene),
+        FaultKind::WrongType => push_wrong_type(page, scene),
+        FaultKind::TooDeep => page.say("too deep: this list is inside 64 others"),
+        FaultKind::TooMany => push_too_many(page, scene),
+        FaultKind::OutOfMemory => page.say("out of memory"),
+    }
+}
+
+fn push_bad_text(page: &mut Page, scene: &Scene<'_>) -> Result<(), AllocError> {
+    match scene.faulty().first() {
+        Some(byte) => {
+            page.say("bad byte: the byte ")?;
+            page.hex(*byte)?;
+            page.say(" (hex) may be in comments only")
+        }
+        None => page.say("bad text: the file is too large"),
+    }
+}
+
+fn push_unbalanced(page: &mut Page, scene: &Scene<'_>) -> Result<(), AllocError> {
+    if scene.faulty().is_empty() {
+        page.say("unbalanced: this `(` is never closed")
+    } else {
+        page.say("unbalanced: this `)` closes no list")
+    }
+}
+
+fn push_expected(page: &mut Page, scene: &Scene<'_>) -> Result<(), AllocError> {
+    if scene.is_swapped() {
+        return page.say(if scene.refusal.is_problem {
+            "unexpected: this is a domain, not a problem"
+        } else {
+            "unexpected: this is a problem, not a domain"
+        });
+    }
+    let faulty = scene.faulty();
+    match faulty.first() {
+        None => page.say("unexpected: the file has no definition"),
+        Some(b')') => push_missing(page, scene),
+        Some(b'(') => page.say("unexpected: a list may not be here"),
+        Some(_) => {
+            page.say("unexpected: ")?;
+            page.quoted(faulty)?;
+            page.say(" may not be here")
+        }
+    }
+}
+
+/// Adds that something is missing before a `)`.
+fn push_missing(page: &mut Page, scene: &Scene<'_>) -> Result<(), AllocError> {
+    if scene.depth() == 1 && scene.refusal.is_problem && scene.pieces.is_word(3, b"problem") {
+        if !scene.has_list(b":domain") {
+            return page.say("unexpected: the problem ends without `(:domain ..)`");
+        }
+        if !scene.has_list(b":goal") {
+            return page.say("unexpected: the problem ends without `(:goal ..)`");
+        }
+    }
+    page.say("unexpected: something is missing before this `)`")
+}
+
+fn push_unsupported(page: &mut Page, scene: &Scene<'_>) -> Result<(), AllocError> {
+    page.say("unsupported: ")?;
+    let is_list = scene.faulty() == b"(".as_slice();
+    let word = if is_list {
+        scene.head()
+    } else {
+        scene.faulty()
+    };
+    if is_list && !is_ipc_word(word) {
+        return page.say("a list may not be an argument");
+    }
+    page.quoted(word)?;
+    if is_ipc_word(word) && !scene.is_ipc() {
+        page.say(" is not part of the default language")
+    } else {
+        page.say(" is not supported here")
+    }
+}
+
+/// Whether only the dialect of the competitions reads a word.
+pub(crate) fn is_ipc_word(word: &[u8]) -> bool {
+    word == b"=".as_slice()
+        || word.eq_ignore_ascii_case(b":functions")
+        || word.eq_ignore_ascii_case(b"increase")
+}
+
+/// What names of a sort are called.
+pub(crate) fn sort_name(sort: Sort) -> &'static str {
+    match sort {
+        Sort::Type => "type",
+        Sort::Object => "object",
+        Sort::Predicate => "predicate",
+        Sort::Function => "function",
+        Sort::Action => "action",
+        Sort::Variable => "parameter",
+    }
+}
+
+fn push_unknown(page: &mut Page, scene: &Scene<'_>) -> Result<(), AllocError> {
+    page.say("unknown name: no ")?;
+    page.say(sort_name(scene.wanted_sort()))?;
+    page.say(" is called ")?;
+    page.quoted(scene.faulty())
+}
+
+fn push_repeated(page: &mut Page, scene: &Scene<'_>) -> Result<(), AllocError> {
+    page.say("repeated: ")?;
+    page.quoted(scene.faulty())?;
+    match scene.faulty().first() {
+        Some(b':') => page.say(" is here a second time"),
+        Some(b'0'..=b'9') => page.say(" is another value for the same function"),
+        _ => page.say(" is declared already"),
+    }
+}
+
+fn push_type_cycle(page: &mut Page, scene: &Scene<'_>) -> Result<(), AllocError> {
+    page.say("type cycle: the type ")?;
+    page.quoted(scene.faulty())?;
+    if scene.is_faulty(b"object") {
+        page.say(" may not be below another type")
+    } else {
+        page.say(" is below itself")
+    }
+}
+
+fn push_wrong_count(page: &mut Page, scene: &mut Scene<'_>) -> Result<(), AllocError> {
+    page.say("wrong count: ")?;
+    page.quoted(scene.faulty())?;
+    let sort = scene.wanted_sort();
+    let word = scene.faulty();
+    if let Some(found) = scene.library.find(sort, word) {
+        page.say(" takes ")?;
+        let wanted = scene.library.variable_count(&found);
+        page.count(wanted, "argument", "arguments")?;
+        page.say(", not ")?;
+        return page.number(scene.terms_in_list());
+    }
+    page.say(" has the wrong number of arguments")
+}
+
+fn push_wrong_type(page: &mut Page, scene: &Scene<'_>) -> Result<(), AllocError> {
+    page.say("wrong type: ")?;
+    page.quoted(scene.faulty())?;
+    page.say(" may not be argument ")?;
+    page.number(scene.place_in_list())?;
+    page.say(" of ")?;
+    page.quoted(scene.head())
+}
+
+fn push_too_many(page: &mut Page, scene: &Scene<'_>) -> Result<(), AllocError> {
+    page.say("too many: ")?;
+    page.quoted(scene.faulty())?;
+    page.say(" is one ")?;
+    page.say(excess(scene).0)?;
+    page.say(" too many")
+}
+
+/// Of what there is too much at the fault, and how much may be.
+pub(crate) fn excess(scene: &Scene<'_>) -> (&'static str, usize) {
+    let section = scene.section();
+    if scene.wanted_sort() == Sort::Variable {
+        return ("variable", 32);
+    }
+    if scene.is_faulty(b"increase") {
+        return ("increase", 32);
+    }
+    if section.eq_ignore_ascii_case(b":types") {
+        return ("type", 1024);
+    }
+    if scene.wanted_sort() == Sort::Type {
+        return ("type of a variable", 32);
+    }
+    if section.eq_ignore_ascii_case(b":predicates") {
+        return ("predicate", 4096);
+    }
+    if section.eq_ignore_ascii_case(b":functions") {
+        return ("function", 4096);
+    }
+    if section.eq_ignore_ascii_case(b":action") {
+        return ("action", 4096);
+    }
+    ("object", 65535)
+}

@@ -1,0 +1,371 @@
+//! What to do about a refused domain or problem.
+
+use crate::expected::push_expected_hints;
+use crate::faults::{excess, is_ipc_word, sort_name};
+use crate::library::{Found, push_types};
+use crate::outline::Sort;
+use crate::page::Page;
+use crate::places::{Range, bytes_at, line_at, push_line};
+use crate::scene::Scene;
+use pddl_reader::FaultKind;
+use std::alloc::AllocError;
+
+/// Adds the hints for a refused text, each in a line.
+pub(crate) fn push_hints(page: &mut Page, scene: &mut Scene<'_>) -> Result<(), AllocError> {
+    match scene.kind() {
+        FaultKind::BadText => push_bad_text(page, scene),
+        FaultKind::Unbalanced => push_unbalanced(page, scene),
+        FaultKind::Expected => push_expected_hints(page, scene),
+        FaultKind::Unsupported => push_unsupported(page, scene),
+        FaultKind::UnknownName => push_unknown(page, scene),
+        FaultKind::Repeated => push_repeated(page, scene),
+        FaultKind::TypeCycle => page.help_line(
+            "follow the parents in `(:types ..)` up from this type, and give one of them another parent",
+        ),
+        FaultKind::WrongCount => push_declaration(page, scene),
+        FaultKind::WrongType => push_wrong_type(page, scene),
+        FaultKind::TooDeep => {
+            page.help_line("`(and ..)` inside `(and ..)` may be written as one `(and ..)`")
+        }
+        FaultKind::TooMany => push_too_many(page, scene),
+        FaultKind::OutOfMemory => Ok(()),
+    }
+}
+
+fn push_bad_text(page: &mut Page, scene: &Scene<'_>) -> Result<(), AllocError> {
+    let at = scene.range().start;
+    push_bad_byte(page, scene.bytes(), at)
+}
+
+/// Adds what a bad byte at an offset may come from.
+pub(crate) fn push_bad_byte(page: &mut Page, bytes: &[u8], at: usize) -> Result<(), AllocError> {
+    let rest = bytes_at(
+        bytes,
+        Range {
+            start: at,
+            end: at.saturating_add(3),
+        },
+    );
+    page.help_line(bad_byte_hint(rest, at == 0))
+}
+
+/// What the bytes from a bad byte on may come from.
+fn bad_byte_hint(rest: &[u8], is_start: bool) -> &'static str {
+    match rest {
+        [0xef, 0xbb, 0xbf] if is_start => {
+            "EF BB BF is a byte order mark: save the file without one"
+        }
+        [0xef, 0xbb, 0xbf] => {
+            "EF BB BF is a byte order mark, as between files that were joined: remove it"
+        }
+        [0xff, 0xfe, ..] | [0xfe, 0xff, ..] if is_start => {
+            "the file seems to be UTF-16: save it as UTF-8"
+        }
+        [0xc2, 0xa0, ..] => "C2 A0 is a no-break space: write a plain space",
+        [0xe2, 0x80, ..] => {
+            "a dash, quotation mark or space of a word processor: write the ASCII character"
+        }
+        [0..=127, ..] => "this is a control byte: remove it",
+        _ =>
+            "names are of ASCII letters, digits, `-` and `_`; other letters may be in comments only",
+    }
+}
+
+fn push_unbalanced(page: &mut Page, scene: &Scene<'_>) -> Result<(), AllocError> {
+    if !scene.faulty().is_empty() {
+        return page.help_line("remove it, or add the `(` that is missing before it");
+    }
+    if let Some(nested) = nested_section(scene) {
+        page.help()?;
+        page.quoted(scene.pieces.word(nested))?;
+        page.say(" in line ")?;
+        let at = match scene.pieces.get(nested) {
+            Some(piece) => piece.range().start,
+            None => 0,
+        };
+        page.number(line_at(scene.bytes(), at).number)?;
+        return page.say(" is inside another section: a `)` may be missing before it\n");
+    }
+    page.help()?;
+    page.say("the file ends in line ")?;
+    page.number(line_at(scene.bytes(), scene.bytes().len()).number)?;
+    page.say(" with ")?;
+    page.count(open_lists(scene), "list", "lists")?;
+    page.say(" open: add what is missing\n")
+}
+
+/// How many lists are open at the end.
+fn open_lists(scene: &Scene<'_>) -> usize {
+    let mut open: usize = 0;
+    for piece in scene.pieces.as_slice() {
+        if piece.is_left() {
+            open = open.saturating_add(1);
+        } else if !piece.is_word() {
+            open = open.saturating_sub(1);
+        }
+    }
+    open
+}
+
+/// The number of the first word of a section that is inside another section.
+fn nested_section(scene: &Scene<'_>) -> Option<usize> {
+    let mut depth: usize = 0;
+    let mut is_head = false;
+    for (number, piece) in scene.pieces.as_slice().iter().enumerate() {
+        if piece.is_word() {
+            if is_head && depth > 2 && scene.pieces.word(number).first() == Some(&b':') {
+                return Some(number);
+            }
+        } else if piece.is_left() {
+            depth = depth.saturating_add(1);
+        } else {
+            depth = depth.saturating_sub(1);
+        }
+        is_head = piece.is_left();
+    }
+    None
+}
+
+fn push_unsupported(page: &mut Page, scene: &Scene<'_>) -> Result<(), AllocError> {
+    let is_list = scene.faulty() == b"(".as_slice();
+    let word = if is_list {
+        scene.head()
+    } else {
+        scene.faulty()
+    };
+    if is_ipc_word(word) && !scene.is_ipc() {
+        return page.help_line(
+            "--dialect ipc reads action costs, equality and a second parent `object` of a type",
+        );
+    }
+    if is_list {
+        return page.help_line("arguments are names and variables");
+    }
+    page.help_line(unsupported_hint(word))
+}
+
+/// What to do about a word that is not read.
+fn unsupported_hint(word: &[u8]) -> &'static str {
+    if is_one_of(word, &[b"or", b"imply", b"exists", b"forall", b"when"]) {
+        return "STRIPS has `and`, and `not` before a single atom; a planner's preprocessor can compile the rest away";
+    }
+    if is_one_of(word, &[b"not", b"and"]) {
+        return "`not` may be before a single atom only: `(not (p ?x))`";
+    }
+    if is_one_of(word, &[b":durative-action", b":duration", b":condition"]) {
+        return "durative actions are not STRIPS: only plans without time can be judged";
+    }
+    if is_one_of(word, &[b":derived", b":constraints"]) {
+        return "derived predicates and constraints are not STRIPS";
+    }
+    if is_one_of(word, &[b"decrease", b"assign", b"scale-up", b"scale-down"]) {
+        return "an action may only increase `(total-cost)`";
+    }
+    if word.eq_ignore_ascii_case(b"either") {
+        return "`either` may be in the type of a variable only";
+    }
+    if is_one_of(word, &[b"<", b">", b"<=", b">=", b"+", b"-", b"*", b"/"]) {
+        return "numbers cannot be compared or calculated";
+    }
+    "this program reads STRIPS with types and negated conditions"
+}
+
+/// Whether a word is one of others, in upper or lower case.
+fn is_one_of(word: &[u8], others: &[&[u8]]) -> bool {
+    for other in others {
+        if word.eq_ignore_ascii_case(other) {
+            return true;
+        }
+    }
+    false
+}
+
+fn push_unknown(page: &mut Page, scene: &mut Scene<'_>) -> Result<(), AllocError> {
+    let sort = scene.wanted_sort();
+    let near = nearest(page, scene, sort)?;
+    if let Some(name) = near {
+        return push_did_you_mean(page, name);
+    }
+    page.help_line(match sort {
+        Sort::Type => "declare it in `(:types ..)` of the domain",
+        Sort::Predicate => "declare it in `(:predicates ..)` of the domain",
+        Sort::Function => "declare it in `(:functions ..)` of the domain",
+        Sort::Variable => "declare it in `:parameters` of the action",
+        _ if scene.refusal.is_problem => {
+            "declare it in `(:objects ..)`, or in `(:constants ..)` of the domain"
+        }
+        _ => "a variable begins with `?`; a name has to be in `(:constants ..)`",
+    })
+}
+
+/// Adds the name that may be meant.
+pub(crate) fn push_did_you_mean(page: &mut Page, name: &[u8]) -> Result<(), AllocError> {
+    page.help()?;
+    page.say("did you mean ")?;
+    page.quoted(name)?;
+    page.say("?\n")
+}
+
+/// The name that is nearest to the faulty one, if one is near.
+fn nearest<'a>(
+    page: &Page,
+    scene: &mut Scene<'a>,
+    sort: Sort,
+) -> Result<Option<&'a [u8]>, AllocError> {
+    let word = scene.faulty();
+    if sort != Sort::Variable {
+        return scene.library.nearest(page.alloc(), sort, word);
+    }
+    match scene.library.action_at(scene.range().start) {
+        Some(action) => scene.library.nearest_variable(page.alloc(), &action, word),
+        None => Ok(None),
+    }
+}
+
+fn push_repeated(page: &mut Page, scene: &mut Scene<'_>) -> Result<(), AllocError> {
+    let word = scene.faulty();
+    if let Some(at) = first_place(scene, word) {
+        return push_first(page, scene.bytes(), at);
+    }
+    let sort = scene.declared_sort();
+    match scene.library.find(sort, word) {
+        Some(found) if is_typed(sort) => push_declared_at(page, &found),
+        Some(found) => push_first(page, found.file.bytes, found.declared.name.start),
+        None => Ok(()),
+    }
+}
+
+/// Whether a name of a sort is declared with a type.
+fn is_typed(sort: Sort) -> bool {
+    matches!(sort, Sort::Type | Sort::Object)
+}
+
+/// Adds the line of the first of two.
+fn push_first(page: &mut Page, bytes: &[u8], at: usize) -> Result<(), AllocError> {
+    page.help()?;
+    page.say("the first is in line ")?;
+    page.number(line_at(bytes, at).number)?;
+    page.say("; remove one of the two\n")
+}
+
+/// Where a keyword or a variable that is not to be repeated is first.
+fn first_place(scene: &Scene<'_>, word: &[u8]) -> Option<usize> {
+    let start = match word.first() {
+        Some(b'?') => action_start(scene),
+        Some(b':') if is_part(word) => action_start(scene),
+        Some(b':') => 0,
+        _ => return None,
+    };
+    for piece in scene.pieces.as_slice() {
+        let range = piece.range();
+        if range.start >= scene.range().start {
+            return None;
+        }
+        if range.start >= start && bytes_at(scene.bytes(), range).eq_ignore_ascii_case(word) {
+            return Some(range.start);
+        }
+    }
+    None
+}
+
+/// Whether a word heads a part of an action.
+fn is_part(word: &[u8]) -> bool {
+    is_one_of(word, &[b":parameters", b":precondition", b":effect"])
+}
+
+/// Where the action around the fault begins.
+fn action_start(scene: &Scene<'_>) -> usize {
+    match scene.library.action_at(scene.range().start) {
+        Some(action) => action.declared.name.start,
+        None => 0,
+    }
+}
+
+/// Adds where a name is declared, and with which type.
+fn push_declared_at(page: &mut Page, found: &Found<'_>) -> Result<(), AllocError> {
+    page.help()?;
+    page.quoted(found.name())?;
+    page.say(" is declared at ")?;
+    push_line(page, found.file, found.declared.name.start)?;
+    page.say(if found.declared.sort == Sort::Type {
+        " below `"
+    } else {
+        " with the type `"
+    })?;
+    push_types(page, found.file.bytes, &found.declared)?;
+    page.say("`\n")
+}
+
+/// Adds the declaration of the faulty name, with its variables.
+fn push_declaration(page: &mut Page, scene: &mut Scene<'_>) -> Result<(), AllocError> {
+    let sort = scene.wanted_sort();
+    let word = scene.faulty();
+    match scene.library.find(sort, word) {
+        Some(found) => push_signature_at(page, scene, &found),
+        None => Ok(()),
+    }
+}
+
+/// Adds a declaration with its variables and where it is.
+fn push_signature_at<'a>(
+    page: &mut Page,
+    scene: &Scene<'a>,
+    found: &Found<'a>,
+) -> Result<(), AllocError> {
+    page.help()?;
+    page.say("the ")?;
+    page.say(sort_name(found.declared.sort))?;
+    page.say(" is declared at ")?;
+    push_line(page, found.file, found.declared.name.start)?;
+    page.say(" as ")?;
+    scene.library.push_signature(page, found)?;
+    page.say("\n")
+}
+
+fn push_wrong_type(page: &mut Page, scene: &mut Scene<'_>) -> Result<(), AllocError> {
+    push_type_of_term(page, scene)?;
+    let outer = scene.outer_head();
+    let is_value = outer == b"=".as_slice() || outer.eq_ignore_ascii_case(b"increase");
+    let sort = if is_value && scene.is_ipc() {
+        Sort::Function
+    } else {
+        Sort::Predicate
+    };
+    let head = scene.head();
+    match scene.library.find(sort, head) {
+        Some(found) => push_signature_at(page, scene, &found),
+        None => Ok(()),
+    }
+}
+
+/// Adds the type of the faulty term.
+fn push_type_of_term(page: &mut Page, scene: &mut Scene<'_>) -> Result<(), AllocError> {
+    let word = scene.faulty();
+    if word.first() != Some(&b'?') {
+        return match scene.library.find(Sort::Object, word) {
+            Some(found) => push_declared_at(page, &found),
+            None => Ok(()),
+        };
+    }
+    let Some(action) = scene.library.action_at(scene.range().start) else {
+        return Ok(());
+    };
+    let Some(variable) = scene.library.variable_named(&action, word) else {
+        return Ok(());
+    };
+    page.help()?;
+    page.quoted(word)?;
+    page.say(" is declared in line ")?;
+    page.number(line_at(scene.bytes(), variable.name.start).number)?;
+    page.say(" with the type `")?;
+    push_types(page, scene.bytes(), &variable)?;
+    page.say("`\n")
+}
+
+fn push_too_many(page: &mut Page, scene: &Scene<'_>) -> Result<(), AllocError> {
+    let (_, limit) = excess(scene);
+    page.help()?;
+    page.say("there may be at most ")?;
+    page.number(limit)?;
+    page.say("\n")
+}

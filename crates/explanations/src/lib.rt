@@ -1,0 +1,47 @@
+//! Explanations of what a judge answers: why a domain or a problem is refused, and why a plan fails.
+//!
+//! ```text
+//! let domain = SourceText { name: b"domain.pddl", bytes };
+//! let options = Options { dialect: Dialect::Strips, trace: false, colors: false };
+//! let explanation = explain(alloc, seed, options, domain, problem, &plans)?;
+//! // explanation.text: `plans.txt:3:1: plan 1 fails at step 3, (load car a): 1 condition does not hold` and so on
+//! // explanation.all_valid: whether the texts are read and every plan is valid
+//! ```
+//!
+//! The text is for people who write planners and domains. Each piece names a file, a line and a column, shows that line with carets below the
+//! faulty bytes, and says what to do next; for a condition that does not hold it names the step that changed it last. What is valid is for the
+//! judge of texts (`text_judge`) to say, and [`explain`] promises no more of the text than that it answers as that judge does.
+//!
+//! A run is read in `answers`. A refused text goes to `faults`, which says what is wrong, and to `hints` and `expected`, which say what to do: they
+//! look at what is around the fault (`scene`), and at the names that the texts declare (`library`). A plan goes to `plans`: `causes` names the
+//! steps behind a failure, `unreadable` says where a text stops being a plan, `comments` compares a planner's cost, and `trace` shows each step.
+//! All write on a `Page`, by which no byte of a file reaches a terminal as it is, unless it is printable.
+#![tactic(auto)]
+
+mod answers;
+mod breaks;
+mod causes;
+mod comments;
+mod effects;
+mod expected;
+mod faults;
+mod hints;
+mod library;
+mod names;
+mod outline;
+mod page;
+mod places;
+mod plans;
+mod remarks;
+mod scene;
+mod source;
+mod steps;
+mod tokens;
+mod trace;
+mod unreadable;
+
+pub use answers::explain;
+pub use pddl_reader::Dialect;
+pub use report_text::Text;
+pub use source::{Explanation, Options, SourceText};
+pub use strips_task::Seed;

@@ -1,0 +1,227 @@
+//! The page that an explanation is written on.
+//!
+//! Bytes of files and names of files go to the page by [`Page::shown`], [`Page::quoted`] and [`Page::file_name`] alone, so no file can bring an escape
+//! byte to a terminal.
+
+use crate::places::{Range, bytes_at};
+use plan_cost::Cost;
+use report_text::{Text, push_atom, push_condition, push_cost, push_step};
+use std::alloc::{AllocError, Global};
+use strips_task::{Atom, GroundCond, StepView, Task};
+
+/// How many bytes of a word are quoted in a message.
+const LONGEST_QUOTE: usize = 60;
+
+/// The digits of a byte in hex.
+const HEX_DIGITS: &[u8; 16] = b"0123456789abcdef";
+
+/// How a part of the page looks on a terminal with colors.
+#[derive(Clone, Copy, Debug, PartialEq, Eq)]
+pub(crate) enum Style {
+    /// As the rest.
+    Plain,
+    /// A place, in bold.
+    Place,
+    /// Carets, in red.
+    Carets,
+    /// The word before a hint, in cyan.
+    Hint,
+}
+
+/// Text that is made piece by piece, with or without colors.
+#[derive(Debug, Drop)]
+pub(crate) struct Page {
+    text: Text,
+    colors: bool,
+}
+
+impl Page {
+    /// An empty page.
+    pub(crate) fn new(alloc: Global, colors: bool) -> Self {
+        Page {
+            text: Text::new(alloc),
+            colors,
+        }
+    }
+
+    /// Where the page takes its memory.
+    pub(crate) fn alloc(&self) -> Global {
+        self.text.alloc()
+    }
+
+    /// The text of the page.
+    pub(crate) fn into_text(self) -> Text {
+        let Page { text, colors: _ } = self;
+        text
+    }
+
+    /// Adds words of this program.
+    pub(crate) fn say(&mut self, words: &str) -> Result<(), AllocError> {
+        self.text.push(words.as_bytes())
+    }
+
+    /// Adds a number.
+    pub(crate) fn number(&mut self, number: usize) -> Result<(), AllocError> {
+        self.text.push_number(number)
+    }
+
+    /// Adds a condition.
+    pub(crate) fn condition(&mut self, task: &Task, cond: &GroundCond) -> Result<(), AllocError> {
+        push_condition(&mut self.text, task, cond)
+    }
+
+    /// Adds a step, as `(act a b)`.
+    pub(crate) fn step_view(&mut self, step: &StepView<'_>) -> Result<(), AllocError> {
+        push_step(&mut self.text, step)
+    }
+
+    /// Adds an atom.
+    pub(crate) fn atom(&mut self, task: &Task, atom: &Atom) -> Result<(), AllocError> {
+        push_atom(&mut self.text, task, atom)
+    }
+
+    /// Adds ` cost C`, if costs are counted.
+    pub(crate) fn cost(&mut self, cost: Cost) -> Result<(), AllocError> {
+        push_cost(&mut self.text, cost)
+    }
+
+    /// Adds a number of things: `1 step`, `2 steps`.
+    pub(crate) fn count(&mut self, number: usize, one: &str, many: &str) -> Result<(), AllocError> {
+        self.number(number)?;
+        self.say(" ")?;
+        self.say(if number == 1 { one } else { many })
+    }
+
+    /// Begins a style.
+    pub(crate) fn style(&mut self, style: Style) -> Result<(), AllocError> {
+        if !self.colors {
+            return Ok(());
+        }
+        self.say(match style {
+            Style::Plain => "\x1b[0m",
+            Style::Place => "\x1b[1m",
+            Style::Carets => "\x1b[31m",
+            Style::Hint => "\x1b[36m",
+        })
+    }
+
+    /// Begins a line with a hint.
+    pub(crate) fn help(&mut self) -> Result<(), AllocError> {
+        self.label("help:")
+    }
+
+    /// Begins a line with a remark.
+    pub(crate) fn note(&mut self) -> Result<(), AllocError> {
+        self.label("note:")
+    }
+
+    /// A whole line with a hint.
+    pub(crate) fn help_line(&mut self, words: &str) -> Result<(), AllocError> {
+        self.help()?;
+        self.say(words)?;
+        self.say("\n")
+    }
+
+    /// Begins a line with a label.
+    fn label(&mut self, label: &str) -> Result<(), AllocError> {
+        self.style(Style::Hint)?;
+        self.say(label)?;
+        self.style(Style::Plain)?;
+        self.say(" ")
+    }
+
+    /// Adds bytes of a file. What is not printable ASCII is shown as `\xNN`, and a tab as a space.
+    pub(crate) fn shown(&mut self, bytes: &[u8]) -> Result<(), AllocError> {
+        for byte in bytes {
+            self.shown_byte(*byte)?;
+        }
+        Ok(())
+    }
+
+    /// Adds one byte of a file.
+    fn shown_byte(&mut self, byte: u8) -> Result<(), AllocError> {
+        if byte == b'\t' {
+            return self.text.push(b" ");
+        }
+        if is_printable(byte) {
+            return self.text.push(&[byte]);
+        }
+        self.text.push(b"\\x")?;
+        self.hex(byte)
+    }
+
+    /// Adds a byte as two digits in hex.
+    pub(crate) fn hex(&mut self, byte: u8) -> Result<(), AllocError> {
+        self.text.push(&[
+            HEX_DIGITS[usize::from(byte / 16)],
+            HEX_DIGITS[usize::from(byte % 16)],
+        ])
+    }
+
+    /// Adds a word of a file between backquotes; a very long one is cut.
+    pub(crate) fn quoted(&mut self, word: &[u8]) -> Result<(), AllocError> {
+        self.say("`")?;
+        self.word(word)?;
+        self.say("`")
+    }
+
+    /// Adds a word of a file; a very long one is cut.
+    pub(crate) fn word(&mut self, word: &[u8]) -> Result<(), AllocError> {
+        if word.len() <= LONGEST_QUOTE {
+            return self.shown(word);
+        }
+        let front = Range {
+            start: 0,
+            end: LONGEST_QUOTE,
+        };
+        self.shown(bytes_at(word, front))?;
+        self.say("..")
+    }
+
+    /// Adds a word of a file in lower case.
+    pub(crate) fn folded(&mut self, word: &[u8]) -> Result<(), AllocError> {
+        for byte in word {
+            self.shown_byte(byte.to_ascii_lowercase())?;
+        }
+        Ok(())
+    }
+
+    /// Adds the name of a file as it was given; only control bytes are shown as `\xNN`.
+    pub(crate) fn file_name(&mut self, name: &[u8]) -> Result<(), AllocError> {
+        for byte in name {
+            if *byte >= 128 {
+                self.text.push(&[*byte])?;
+            } else {
+                self.shown_byte(*byte)?;
+            }
+        }
+        Ok(())
+    }
+
+    /// Adds a byte many times.
+    pub(crate) fn repeated(&mut self, byte: u8, times: usize) -> Result<(), AllocError> {
+        for _ in 0..times {
+            self.text.push(&[byte])?;
+        }
+        Ok(())
+    }
+}
+
+/// Whether a byte is shown as it is.
+fn is_printable(byte: u8) -> bool {
+    matches!(byte, 32..=126)
+}
+
+/// How many columns bytes of a file take on the page.
+pub(crate) fn width(bytes: &[u8]) -> usize {
+    let mut columns: usize = 0;
+    for byte in bytes {
+        let wide = if *byte == b'\t' || is_printable(*byte) {
+            1
+        } else {
+            4
+        };
+        columns = columns.saturating_add(wide);
+    }
+    columns
+}

@@ -1,0 +1,105 @@
+//! Remarks about a run as a whole.
+
+use crate::SourceText;
+use crate::page::Page;
+use crate::places::{Range, bytes_at, line_at, push_line};
+use crate::tokens::range_of;
+use pddl_tokens::{Cursor, TokenKind};
+use std::alloc::AllocError;
+use strips_task::Task;
+
+/// Adds a remark if the problem names another domain than the one at hand.
+pub(crate) fn push_other_domain(
+    page: &mut Page,
+    task: &Task,
+    problem: SourceText<'_>,
+) -> Result<(), AllocError> {
+    let Some(range) = domain_named(problem.bytes) else {
+        return Ok(());
+    };
+    let name = bytes_at(problem.bytes, range);
+    let domain = task.domain_name().as_bytes();
+    if name.eq_ignore_ascii_case(domain) {
+        return Ok(());
+    }
+    page.note()?;
+    page.say("the problem is for the domain ")?;
+    page.quoted(name)?;
+    page.say(" (")?;
+    push_line(page, problem, range.start)?;
+    page.say("), but the domain at hand is ")?;
+    page.quoted(domain)?;
+    page.say("; it is judged all the same\n")
+}
+
+/// How far the search for the name of the domain has come.
+#[derive(Clone, Copy, Debug, PartialEq, Eq)]
+enum Seen {
+    Nothing,
+    Left,
+    Head,
+}
+
+/// The name behind `(:domain`.
+fn domain_named(text: &[u8]) -> Option<Range> {
+    let Ok(mut cursor) = Cursor::new(text) else {
+        return None;
+    };
+    let mut seen = Seen::Nothing;
+    'tokens: while let Ok(Some(token)) = cursor.next() {
+        seen = match (seen, token.kind) {
+            (Seen::Head, TokenKind::Word) => return Some(range_of(token)),
+            (Seen::Left, TokenKind::Word) if token.text.eq_ignore_ascii_case(b":domain") => {
+                Seen::Head
+            }
+            (_, TokenKind::Left) => Seen::Left,
+            _ => Seen::Nothing,
+        };
+    }
+    None
+}
+
+/// Adds what was read, if no plan is to be judged.
+pub(crate) fn push_header(page: &mut Page, task: &Task) -> Result<(), AllocError> {
+    page.say("the domain ")?;
+    page.quoted(task.domain_name().as_bytes())?;
+    page.say(" and the problem ")?;
+    page.quoted(task.problem_name().as_bytes())?;
+    page.say(" are read\n")
+}
+
+/// Adds a remark if the last plan of a file of several is empty, since the file ends with a separator.
+pub(crate) fn push_empty_end(
+    page: &mut Page,
+    file: SourceText<'_>,
+    last: Range,
+    number: usize,
+) -> Result<(), AllocError> {
+    if number < 2 || !is_blank(bytes_at(file.bytes, last)) {
+        return Ok(());
+    }
+    page.note()?;
+    page.say("the line `---` at ")?;
+    page.file_name(file.name)?;
+    page.say(":")?;
+    page.number(line_at(file.bytes, last.start.saturating_sub(1)).number)?;
+    page.say(" separates plans, so the file ends with an empty plan, ")?;
+    page.number(number)?;
+    page.say("\n")
+}
+
+/// Whether there are only blanks.
+fn is_blank(bytes: &[u8]) -> bool {
+    bytes.iter().all(|b| b.is_ascii_whitespace())
+}
+
+/// Adds how many plans there are and how many are valid, if there are several.
+pub(crate) fn push_end(page: &mut Page, plans: usize, valid: usize) -> Result<(), AllocError> {
+    if plans < 2 {
+        return Ok(());
+    }
+    page.number(plans)?;
+    page.say(" plans, ")?;
+    page.number(valid)?;
+    page.say(" valid\n")
+}

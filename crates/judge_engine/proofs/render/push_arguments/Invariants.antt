@@ -1,8 +1,0 @@
-use Rattle.std.proofs.Common.{◌≡◌, ◌++◌, take}
-use Rattle.strips_task.specs.StepView.{step_shown}
-use Rattle.judge_engine.specs.Report.{spaced}
-use Rattle.judge_engine.proofs.render.push_arguments.Given as goal
-
--- The names so far stand behind the text that was there.
-abbrev pub invariant-loop-place : goal.invariant-loop-place
-invariant-loop-place l = l.text ≡ l.fn.text ++ spaced (take l.place (step_shown l.step).args)

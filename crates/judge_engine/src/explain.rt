@@ -1,0 +1,178 @@
+//! The command `explain`: the texts of the files that it names, and what is to be said of them.
+use crate::Seed;
+use crate::command::ExplainRequest;
+use crate::inlet::{Absence, FILE_LIMIT, InFault, Sources};
+use crate::report::Report;
+use explanations::{Explanation, Options, SourceText, explain};
+use report_text::Text;
+use std::alloc::{AllocError, AllocFailed, Global};
+
+/// The word for standard input among the files of plans.
+const STANDARD_INPUT: &str = "-";
+
+/// The file that standard input is.
+const STANDARD_INPUT_FILE: &str = "/dev/stdin";
+
+/// What is explained, and whether all is well.
+#[derive(Debug, Drop)]
+pub(crate) struct Explained {
+    pub(crate) report: Report,
+    pub(crate) all_valid: bool,
+}
+
+/// Why nothing can be explained.
+#[derive(Debug, Drop)]
+enum Unread {
+    /// A file can't be read or is too large; this is said.
+    Said(Text),
+    /// Memory ran out.
+    OutOfMemory,
+}
+
+impl From<AllocError> for Unread {
+    fn from(_error: AllocError) -> Unread {
+        Unread::OutOfMemory
+    }
+}
+
+impl<T: Drop> From<AllocFailed<T>> for Unread {
+    fn from(_error: AllocFailed<T>) -> Unread {
+        Unread::OutOfMemory
+    }
+}
+
+/// Explains the texts of files, which are read in the order of domain, problem and plans.
+pub(crate) fn explain_files<S: Sources>(
+    alloc: Global,
+    seed: Seed,
+    files: &ExplainRequest<'_>,
+    sources: &S,
+    colors: bool,
+) -> Result<Explained, AllocError> {
+    match explanation_of(alloc, seed, files, sources, colors) {
+        Ok(Explanation { text, all_valid }) => Ok(Explained {
+            report: Report::from_bytes(text.into_bytes()),
+            all_valid,
+        }),
+        Err(Unread::Said(text)) => Ok(Explained {
+            report: Report::from_bytes(text.into_bytes()),
+            all_valid: false,
+        }),
+        Err(Unread::OutOfMemory) => Err(AllocError),
+    }
+}
+
+/// A file that was read, with its name.
+#[derive(Debug, Drop)]
+struct NamedText {
+    name: String,
+    bytes: Vec<u8>,
+}
+
+/// The explanation of files.
+fn explanation_of<S: Sources>(
+    alloc: Global,
+    seed: Seed,
+    files: &ExplainRequest<'_>,
+    sources: &S,
+    colors: bool,
+) -> Result<Explanation, Unread> {
+    let domain = read(alloc, sources, files.domain, files.domain)?;
+    let problem = read(alloc, sources, files.problem, files.problem)?;
+    let plans = read_plans(alloc, sources, files.plans.as_slice())?;
+    let options = Options {
+        dialect: files.dialect,
+        trace: files.trace,
+        colors,
+    };
+    Ok(explain_read(alloc, seed, options, &domain, &problem, plans.as_slice())?)
+}
+
+/// The explanation of files that were read.
+fn explain_read(
+    alloc: Global,
+    seed: Seed,
+    options: Options,
+    domain: &NamedText,
+    problem: &NamedText,
+    plans: &[NamedText],
+) -> Result<Explanation, AllocError> {
+    let mut sources = Vec::with_capacity(alloc, plans.len())?;
+    for plan in plans {
+        sources.push(source(plan))?;
+    }
+    explain(
+        alloc,
+        seed,
+        options,
+        source(domain),
+        source(problem),
+        sources.as_slice(),
+    )
+}
+
+/// A file as the explanation takes it.
+fn source(file: &NamedText) -> SourceText<'_> {
+    SourceText {
+        name: file.name.as_bytes(),
+        bytes: file.bytes.as_slice(),
+    }
+}
+
+/// The files of plans. The word `-` is standard input.
+fn read_plans<S: Sources>(
+    alloc: Global,
+    sources: &S,
+    names: &[&str],
+) -> Result<Vec<NamedText>, Unread> {
+    let mut plans = Vec::with_capacity(alloc, names.len())?;
+    for name in names {
+        let file = if *name == STANDARD_INPUT {
+            STANDARD_INPUT_FILE
+        } else {
+            name
+        };
+        plans.push(read(alloc, sources, name, file)?)?;
+    }
+    Ok(plans)
+}
+
+/// The text of a file that is called by a name.
+fn read<S: Sources>(
+    alloc: Global,
+    sources: &S,
+    name: &str,
+    file: &str,
+) -> Result<NamedText, Unread> {
+    match sources.text(file) {
+        Ok(bytes) if bytes.len() <= FILE_LIMIT => Ok(NamedText {
+            name: String::from_str(alloc, name)?,
+            bytes,
+        }),
+        Ok(_) => Err(said(
+            alloc,
+            name,
+            " is too large: a file has at most 16,777,216 bytes\n",
+        )?),
+        Err(InFault::OutOfMemory) => Err(Unread::OutOfMemory),
+        Err(InFault::Unreadable) => Err(said(alloc, name, why_unread(sources.absence(file)))?),
+    }
+}
+
+/// Why a file can't be read, as the end of a line.
+fn why_unread(absence: Absence) -> &'static str {
+    match absence {
+        Absence::Missing => " cannot be read: there is no such file\n",
+        Absence::Folder => " cannot be read: it is a folder\n",
+        Absence::Forbidden => " cannot be read: permission denied\n",
+        Absence::Other => " cannot be read\n",
+    }
+}
+
+/// What is said of a file.
+fn said(alloc: Global, name: &str, what: &str) -> Result<Unread, AllocError> {
+    let mut text = Text::new(alloc);
+    text.push(name.as_bytes())?;
+    text.push(what.as_bytes())?;
+    Ok(Unread::Said(text))
+}

@@ -1,0 +1,67 @@
+//! What a command line asks for, by the names of files.
+ghost use Rattle.std.specs.Prelude.{◌≤◌};
+
+use pddl_reader::Dialect;
+use report_text::Format;
+
+/// What a command line asks for.
+#[derive(Debug, Drop)]
+pub(crate) enum Request<'a> {
+    /// Judge the plans of planners.
+    Judge(JudgeRequest<'a>),
+    /// Replay the steps of a file.
+    Replay(ReplayRequest<'a>),
+    /// Explain why texts are refused and plans fail.
+    Explain(ExplainRequest<'a>),
+    /// Show a text, as help.
+    Show(String),
+    /// The command line is refused, with this text.
+    Refused(String),
+}
+
+/// A run over files.
+#[derive(Debug, Drop)]
+pub struct JudgeRequest<'a> {
+    /// The name of the file of the domain.
+    pub domain: &'a str,
+    /// The name of the file of the problem.
+    pub problem: &'a str,
+    /// The names of the files of plans, one for each planner, who has the name of the file.
+    pub plans: Vec<&'a str>,
+    /// The dialect of the domain and the problem.
+    pub dialect: Dialect,
+    /// How the report is written.
+    pub format: Format,
+    /// How many threads may judge, 1 to 32.
+    pub workers: u32,
+    ghost some: { 1 ≤ workers },
+    ghost most: { workers ≤ 32 },
+}
+
+/// What is to be explained.
+#[derive(Debug, Drop)]
+pub struct ExplainRequest<'a> {
+    /// The name of the file of the domain.
+    pub domain: &'a str,
+    /// The name of the file of the problem.
+    pub problem: &'a str,
+    /// The names of the files of plans, perhaps none.
+    pub plans: Vec<&'a str>,
+    /// The dialect of the domain and the problem.
+    pub dialect: Dialect,
+    /// Whether what each step changes is told, too.
+    pub trace: bool,
+}
+
+/// The files of a replay.
+#[derive(Debug, Drop)]
+pub struct ReplayRequest<'a> {
+    /// The name of the file of the domain.
+    pub domain: &'a str,
+    /// The name of the file of the problem.
+    pub problem: &'a str,
+    /// The name of the file of the steps.
+    pub steps: &'a str,
+    /// The dialect of the domain and the problem.
+    pub dialect: Dialect,
+}

@@ -1,0 +1,2 @@
+pub mod CostTexts
+pub mod Rendering

@@ -1,0 +1,8 @@
+use Rattle.std.proofs.Common.{◌≡◌, ◌++◌, take}
+use Rattle.std.specs.List.{flat_map}
+use Rattle.report_text.specs.Format.{field_byte}
+use Rattle.report_text.proofs.escapes.push_field.Given as goal
+
+-- The bytes so far are behind the text that was there.
+abbrev pub invariant-loop-byte : goal.invariant-loop-byte
+invariant-loop-byte l = l.text ≡ l.fn.text ++ flat_map field_byte (take l.byte-index l.bytes)

@@ -1,0 +1,3 @@
+pub mod CostText
+pub mod Format
+pub mod Report

@@ -1,0 +1,287 @@
+//! The text of atoms, steps, verdicts and findings, as reports show them.
+//!
+//! Each function adds its piece behind the text that is there. Names come from the task, by number.
+ghost use Rattle.std.specs.Prelude.{◌≡◌, ◌++◌, ◌∷◌, ℕ, List, ◌-◌, OnOk, Some, map};
+ghost use Rattle.plan_text.specs.PlanReading.{plan_of};
+ghost use Rattle.plan_text.specs.StepAt.{step_at};
+ghost use Rattle.std.specs.Map.{keys_of};
+ghost use Rattle.report_text.specs.Report.{name_at, spaced, atom_text, formula_text, condition_text, conditions_text, step_text, why_text, failure_text, verdict_text, judged_text};
+ghost use Rattle.report_text.specs.Format.{failure_in};
+ghost use Rattle.report_text.specs.Report.{as_judged};
+ghost use Rattle.strips_task.specs.StepView.{step_shown};
+
+use crate::costs::push_cost;
+use crate::format::Format;
+use crate::json::push_failure_members;
+use crate::table::push_failure_fields;
+use crate::text::Text;
+use intake_rules::Finding;
+use plan_text::read_step_at;
+use std::alloc::AllocError;
+use strips_judge::{Verdict, Why};
+use strips_task::{Atom, GroundCond, GroundFormula, OpenSteps, Plan, StepView, Task};
+use submitted_plan::{Form, SubmittedPlan};
+
+/// Adds the name of the object with a number; a number that no object has adds nothing.
+pub(crate) fn push_object(text: &mut Text, task: &Task, number: u16) -> Result<(), AllocError>
+    ensures { OnOk result (text.new ≡ text.old ++ name_at (keys_of task.now.objects) number) }
+{
+    if usize::from(number) < task.object_count() {
+        return text.push(task.object_name(number).as_bytes());
+    }
+    Ok(())
+}
+
+/// Adds the name of the predicate with a number; a number that no predicate has adds nothing.
+pub(crate) fn push_predicate(text: &mut Text, task: &Task, number: u16) -> Result<(), AllocError>
+    ensures { OnOk result (text.new ≡ text.old ++ name_at (keys_of task.now.preds) number) }
+{
+    if usize::from(number) < task.pred_count() {
+        return text.push(task.pred_name(number).as_bytes());
+    }
+    Ok(())
+}
+
+/// Adds the names of objects, each behind a space.
+fn push_objects(text: &mut Text, task: &Task, numbers: &[u16]) -> Result<(), AllocError>
+    ensures { OnOk result (text.new ≡ text.old ++ spaced (map (name_at (keys_of task.now.objects)) numbers.now)) }
+{
+    for number in numbers {
+        text.push(b" ")?;
+        push_object(text, task, *number)?;
+    }
+    Ok(())
+}
+
+/// Adds an atom.
+pub fn push_atom(text: &mut Text, task: &Task, atom: &Atom) -> Result<(), AllocError>
+    ensures { OnOk result (text.new ≡ text.old ++ atom_text task.now atom.now) }
+{
+    text.push(b"(")?;
+    push_predicate(text, task, atom.pred)?;
+    push_objects(text, task, atom.args.as_slice())?;
+    text.push(b")")
+}
+
+/// Adds a formula: an atom, or an equality as `(= a b)`.
+fn push_formula(text: &mut Text, task: &Task, formula: &GroundFormula) -> Result<(), AllocError>
+    ensures { OnOk result (text.new ≡ text.old ++ formula_text task.now formula.now) }
+{
+    match formula {
+        GroundFormula::Atom(atom) => push_atom(text, task, atom),
+        GroundFormula::Equal(left, right) => {
+            text.push(b"(= ")?;
+            push_object(text, task, *left)?;
+            text.push(b" ")?;
+            push_object(text, task, *right)?;
+            text.push(b")")
+        }
+    }
+}
+
+/// Adds a condition.
+pub fn push_condition(text: &mut Text, task: &Task, cond: &GroundCond) -> Result<(), AllocError>
+    ensures { OnOk result (text.new ≡ text.old ++ condition_text task.now cond.now) }
+{
+    if cond.positive {
+        return push_formula(text, task, &cond.formula);
+    }
+    text.push(b"(not ")?;
+    push_formula(text, task, &cond.formula)?;
+    text.push(b")")
+}
+
+/// Adds conditions, each behind a space.
+pub(crate) fn push_conditions(
+    text: &mut Text,
+    task: &Task,
+    conds: &[GroundCond],
+) -> Result<(), AllocError>
+    ensures { OnOk result (text.new ≡ text.old ++ conditions_text task.now conds.now) }
+{
+    for cond in conds {
+        text.push(b" ")?;
+        push_condition(text, task, cond)?;
+    }
+    Ok(())
+}
+
+/// Adds a step, as `(act a b)`.
+pub fn push_step(text: &mut Text, step: &StepView) -> Result<(), AllocError>
+    ensures { OnOk result (text.new ≡ text.old ++ step_text (step_shown step.now)) }
+{
+    text.push(b"(")?;
+    text.push(step.action())?;
+    push_arguments(text, step)?;
+    text.push(b")")
+}
+
+/// Adds the names of a step's arguments, each behind a space.
+pub(crate) fn push_arguments(text: &mut Text, step: &StepView) -> Result<(), AllocError>
+    ensures { OnOk result (text.new ≡ text.old ++ spaced (step_shown step.now).args) }
+{
+    for place in 0..step.arg_count() {
+        text.push(b" ")?;
+        text.push(step.arg(place))?;
+    }
+    Ok(())
+}
+
+/// Adds the name of an argument, counted from 1; a number that no argument has adds nothing.
+pub(crate) fn push_argument(text: &mut Text, step: &StepView, number: u32) -> Result<(), AllocError>
+    ensures { OnOk result (text.new ≡ text.old ++ name_at (step_shown step.now).args (number - 1)) }
+{
+    let place = number.saturating_sub(1) as usize;
+    if place < step.arg_count() {
+        return text.push(step.arg(place));
+    }
+    Ok(())
+}
+
+/// Adds what is wrong with a step.
+fn push_why(text: &mut Text, task: &Task, step: &StepView, why: &Why) -> Result<(), AllocError>
+    ensures { OnOk result (text.new ≡ text.old ++ why_text task.now (step_shown step.now) why.now) }
+{
+    match why {
+        Why::UnknownAction => text.push(b"unknown action"),
+        Why::WrongCount => text.push(b"wrong number of arguments"),
+        Why::UnknownObject { arg } => {
+            text.push(b"unknown object ")?;
+            push_argument(text, step, *arg)?;
+            Ok(())
+        }
+        Why::WrongType { arg } => {
+            push_argument(text, step, *arg)?;
+            text.push(b" has the wrong type")?;
+            Ok(())
+        }
+        Why::Missing(conds) => {
+            text.push(b"missing")?;
+            push_conditions(text, task, conds.as_slice())
+        }
+    }
+}
+
+/// Adds a failing step, and what is wrong with it.
+fn push_failure(text: &mut Text, task: &Task, step: &StepView, why: &Why) -> Result<(), AllocError>
+    ensures { OnOk result (text.new ≡ text.old ++ failure_text task.now (Some (step_shown step.now)) why.now) }
+{
+    text.push(b" ")?;
+    push_step(text, step)?;
+    text.push(b": ")?;
+    push_why(text, task, step, why)?;
+    Ok(())
+}
+
+/// Adds a failing step and what is wrong with it, in a format.
+fn push_failure_in(
+    text: &mut Text,
+    format: Format,
+    task: &Task,
+    step: &StepView,
+    why: &Why,
+) -> Result<(), AllocError>
+    ensures { OnOk result (text.new ≡ text.old ++ failure_in format task.now (Some (step_shown step.now)) why.now) }
+{
+    match format {
+        Format::Lines => push_failure(text, task, step, why),
+        Format::Table => push_failure_fields(text, task, step, why),
+        Format::Json => push_failure_members(text, task, step, why),
+    }
+}
+
+/// Adds the failing step of a plan with a number, counted from 1, and what is wrong with it, in a format; a number that no step has adds nothing.
+pub(crate) fn push_failing_step(
+    text: &mut Text,
+    format: Format,
+    task: &Task,
+    plan: &SubmittedPlan,
+    number: u32,
+    why: &Why,
+) -> Result<(), AllocError>
+    ensures { OnOk result (text.new ≡ text.old ++ failure_in format task.now (step_at plan.now (number - 1)) why.now) }
+{
+    let place = number.saturating_sub(1) as usize;
+    match plan.form() {
+        Form::Read(plan) => push_failure_of_plan(text, format, task, plan, place, why),
+        Form::Text(bytes) => push_failure_of_text(text, format, task, bytes, place, why),
+    }
+}
+
+/// Adds the failing step at a place of a plan that is read, as above.
+fn push_failure_of_plan(
+    text: &mut Text,
+    format: Format,
+    task: &Task,
+    plan: &Plan,
+    place: usize,
+    why: &Why,
+) -> Result<(), AllocError>
+    ensures { OnOk result (text.new ≡ text.old ++ failure_in format task.now (step_at plan.now place) why.now) }
+{
+    match plan {
+        Plan::Steps(steps) if place < steps.len() => {
+            push_failure_in(text, format, task, &steps.get(place), why)
+        }
+        _ => Ok(()),
+    }
+}
+
+/// Adds the failing step at a place of a plan that is kept as its text, as above. The text is read once more, which only happens to plans that fail.
+fn push_failure_of_text(
+    text: &mut Text,
+    format: Format,
+    task: &Task,
+    bytes: &[u8],
+    place: usize,
+    why: &Why,
+) -> Result<(), AllocError>
+    ensures { OnOk result (text.new ≡ text.old ++ failure_in format task.now (step_at (plan_of bytes.now) place) why.now) }
+{
+    let mut step = OpenSteps::new(text.alloc());
+    if read_step_at(bytes, place, &mut step)? {
+        push_failure_in(text, format, task, &step.get(0), why)?;
+    }
+    Ok(())
+}
+
+/// Adds what is found about a plan: its verdict, and its cost if it is valid and costs are counted.
+pub fn push_finding(text: &mut Text, task: &Task, finding: &Finding) -> Result<(), AllocError>
+    ensures { OnOk result (text.new ≡ text.old ++ judged_text task.now (as_judged finding.now)) }
+{
+    push_verdict(text, task, &finding.job.plan, &finding.verdict)?;
+    push_cost(text, finding.cost.get())
+}
+
+/// Adds a verdict of a plan.
+fn push_verdict(
+    text: &mut Text,
+    task: &Task,
+    plan: &SubmittedPlan,
+    verdict: &Verdict,
+) -> Result<(), AllocError>
+    ensures { OnOk result (text.new ≡ text.old ++ verdict_text task.now plan.now verdict.now) }
+{
+    match verdict {
+        Verdict::Valid { steps } => {
+            text.push(b"valid ")?;
+            text.push_number(*steps as usize)?;
+            Ok(())
+        }
+        Verdict::Fails { step, why } => {
+            text.push(b"fails at ")?;
+            text.push_number(*step as usize)?;
+            push_failing_step(text, Format::Lines, task, plan, *step, why)
+        }
+        Verdict::Goal { missing } => {
+            text.push(b"goal missing")?;
+            push_conditions(text, task, missing.as_slice())?;
+            Ok(())
+        }
+        Verdict::Unreadable { line } => {
+            text.push(b"unreadable line ")?;
+            text.push_number(*line as usize)?;
+            Ok(())
+        }
+    }
+}

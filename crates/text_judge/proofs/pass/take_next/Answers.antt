@@ -1,0 +1,9 @@
+use Rattle.std.proofs.Common.{Some, map}
+use Rattle.pddl_words.specs.Words.{folded}
+use Rattle.strips_task.specs.Steps.{step_of}
+use Rattle.text_judge.proofs.pass.take_next.Goals as goal
+
+pub returns-in-None-clause-next : goal.returns-in-None-clause-next
+returns-in-None-clause-next c = λ steps passed taken.
+    let takes = rw c.in-None.is at c.in_ok-take_words-in-Step.ensures.taken in
+    (Some (step_of (map folded c.in-Step.words)), c.in-Step.ensures.behind.passed steps passed, takes steps taken)

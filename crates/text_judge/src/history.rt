@@ -1,0 +1,107 @@
+//! Which steps of a plan changed atoms last.
+//!
+//! The steps of a text are taken once more, and after each it is seen whether the atoms that are watched have changed.
+ghost use Rattle.std.specs.Prelude.{◌≡◌, ◌<◌, ◌∷◌, [], ◌++◌, ℕ, Bool, List, None, Option, Some, length, slice_get, slice_index_or, IfOk, IfNone};
+ghost use Rattle.strips_task.specs.declared.atoms.Atom.{Atom};
+ghost use Rattle.strips_task.specs.declared.steps.StepText.{StepText};
+ghost use Rattle.strips_task.specs.declared.tasks.TaskParts.{TaskParts};
+ghost use Rattle.plan_text.specs.Walks.{HasPassed};
+ghost use Rattle.step_memo.specs.Judging.{HasTaken};
+ghost use Rattle.text_judge.specs.History.{AreLastChanges, state_after};
+ghost use Rattle.text_judge.specs.Passes.{GoOnOrEnd, with_next};
+ghost use Rattle.text_judge.specs.Watches.{AreWatched, EndsWatch, IsWatched, WatchTogether};
+
+use crate::pass::{Passed, advance};
+use plan_text::PlanSteps;
+use std::alloc::{AllocError, Global};
+use step_memo::Judge;
+use strips_task::{Atom, OpenSteps};
+
+/// What is kept of an atom that is watched: whether it is true, and which step changed that last, counted from 1.
+#[derive(Clone, Copy, Debug)]
+pub(crate) struct Watch {
+    pub(crate) is_true: bool,
+    pub(crate) last: Option<usize>,
+}
+
+/// Begins to watch atoms, before the first step.
+pub(crate) fn watch_all(
+    alloc: Global,
+    judge: &Judge<'_>,
+    atoms: &[Atom],
+) -> Result<Vec<Watch>, AllocError>
+    requires { HasTaken judge.now [] }
+    ensures one_each { IfOk result (λ watches. length watches.items ≡ length atoms.now) }
+    ensures watched { IfOk result (λ watches. AreWatched judge.now.task.task [] atoms.now watches.items) }
+{
+    let mut watches = Vec::with_capacity(alloc, atoms.len())?;
+    for atom in atoms {
+        watches.push(Watch {
+            is_true: judge.holds(atom),
+            last: None,
+        })?;
+    }
+    Ok(watches)
+}
+
+/// Takes the steps of a text one after the other, as `pass` does, and notes after each what has become of the atoms.
+pub(crate) fn watch_steps(
+    alloc: Global,
+    judge: &mut Judge<'_>,
+    step: &mut OpenSteps,
+    walk: &mut PlanSteps<'_>,
+    atoms: &[Atom],
+    watches: &mut [Watch],
+) -> Result<Passed, AllocError>
+    requires { WatchTogether walk.old judge.old atoms.now watches.old }
+    ensures task { judge.new.task ≡ judge.old.task }
+    ensures text { walk.new.text ≡ walk.old.text }
+    ensures passed { IfOk result (λ passed. EndsWatch passed walk.new judge.new atoms.now watches.new) }
+{
+    'steps: loop {
+        if let Some(passed) = advance(alloc, judge, step, walk)? {
+            return Ok(passed);
+        }
+        note(judge, atoms, watches);
+    }
+}
+
+/// Notes what has become of the atoms, behind the same steps as before or one more.
+fn note(judge: &Judge<'_>, atoms: &[Atom], watches: &mut [Watch])
+    requires { length watches.old ≡ length atoms.now }
+    ensures watched { (steps : List StepText) (next : Option StepText) → HasTaken judge.now (with_next steps next)
+        → AreWatched judge.now.task.task steps atoms.now watches.old → AreWatched judge.now.task.task (with_next steps next) atoms.now watches.new }
+{
+    let count = judge.steps();
+    for place in 0..atoms.len() {
+        watches[place] = noted(watches[place], judge.holds(&atoms[place]), count);
+    }
+}
+
+/// What is kept of an atom that is now true or not, after so many steps.
+fn noted(watch: Watch, is_true: bool, count: usize) -> Watch
+    ensures { (parts : TaskParts) (steps : List StepText) (next : Option StepText) (atom : Atom) → IsWatched parts steps atom watch
+        → is_true ≡ state_after parts (with_next steps next) (length (with_next steps next)) atom → count ≡ length (with_next steps next)
+        → IsWatched parts (with_next steps next) atom result }
+{
+    if is_true == watch.is_true {
+        return watch;
+    }
+    Watch {
+        is_true,
+        last: Some(count),
+    }
+}
+
+/// The last changes of the atoms that were watched.
+pub(crate) fn changes_of(alloc: Global, watches: &[Watch]) -> Result<Vec<Option<usize>>, AllocError>
+    ensures one_each { IfOk result (λ changes. length changes.items ≡ length watches.now) }
+    ensures changes { IfOk result (λ changes. (parts : TaskParts) (steps : List StepText) (atoms : List Atom) → AreWatched parts steps atoms watches.now
+        → AreLastChanges parts steps atoms changes.items) }
+{
+    let mut changes = Vec::with_capacity(alloc, watches.len())?;
+    for watch in watches {
+        changes.push(watch.last)?;
+    }
+    Ok(changes)
+}

@@ -1,0 +1,5 @@
+(define (problem lamp-1)
+  (:domain lamp)
+  (:objects hall attic - room box - thing)
+  (:init (here hall) (= (far hall attic) 2.5) (= (total-cost) 1))
+  (:goal (and (lit hall) (here attic))))
