@@ -1,7 +1,7 @@
 """Rooms: temporary copies of a crate with the libraries below it, in which rt can work while it works elsewhere in the repository too.
 
-A run of rt keeps all others out of its crate and of the libraries below it. In rooms, several run side by side. A room has links to the files of the
-libraries, with what was built of them, so it takes no memory and hardly any time.
+While rt runs on a crate, no other run can use that crate or the libraries below it. In rooms, several runs go on side by side. A room has links to the
+files of the libraries, and to what was built of them, so it takes no memory and hardly any time.
 """
 import fcntl
 import os
