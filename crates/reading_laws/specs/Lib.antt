@@ -1,0 +1,3 @@
+pub mod TextTrees
+pub mod TypedLists
+pub mod TypeCycles
