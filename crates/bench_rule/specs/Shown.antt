@@ -39,6 +39,7 @@ abbrev pub stages : List ℕ → List (maybe.Option Content) → List AcceptedPl
 stages (word ∷ words) (home ∷ homes) (job ∷ jobs) = stage_at word home ∷ stages words homes jobs
 stages _ _ _ = []
 
+-- the intake that a bench shows: the jobs and closings of the owner, the stages of the jobs, and what was emitted
 abbrev pub shown : Bench → Intake
 shown bench = record {
   jobs = (owner_of bench.views).jobs;

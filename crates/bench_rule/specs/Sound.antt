@@ -81,6 +81,7 @@ pub record Book : Type 0 where
   pub lifted : Bool
   pub shut : Bool
 
+-- the parts of the owner's view that the bench keeps count of
 abbrev pub book_of : View → Book
 book_of view = record { jobs = view.jobs; closed = view.closed; emitted = view.emitted; seats_out = view.seats_out; lifted = view.lifted; shut = view.shut }
 
@@ -94,6 +95,7 @@ pub record OwnerIs (bench : Bench) (view : View) (book : Book) : Type 0 where
   pub role : view.role ≡ Owner
   pub knows : book_of view ≡ book
 
+-- a bench of which all threads and slots agree
 pub record Sound (setting : Setting) (bench : Bench) : Type 0 where
   pub book : Book
   pub owner : (view : View) × OwnerIs bench view book

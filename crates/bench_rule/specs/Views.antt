@@ -102,6 +102,7 @@ worker_count Owner = 0
 worker_count Worker = 1
 worker_count Spent = 0
 
+-- 1 for a worker's view, and 0 for another
 abbrev pub counts_as_worker : View → ℕ
 counts_as_worker view = worker_count view.role
 
@@ -124,6 +125,7 @@ pub record IsNext (view : View) (slot : ℕ) (job : AcceptedPlan) : Type 0 where
   pub next : rank view.jobs job.planner slot ≡ slice_index view.emitted job.planner
   pub planner_within : job.planner < length view.emitted
 
+-- a job held in a slot
 abbrev pub held_with : ℕ → AcceptedPlan → Held
 held_with slot job = record { slot = slot; job = job }
 

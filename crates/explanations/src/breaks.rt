@@ -1,7 +1,7 @@
 //! Where a text stops being a plan: the first word, parenthesis or byte that may not be at its place.
 
 use crate::places::Range;
-use pddl_tokens::{Cursor, TextFault, Token, TokenKind};
+use pddl_tokens::{Cursor, Token, TokenKind};
 use pddl_words::{WordKind, billionths, word_kind};
 
 /// How many steps a plan may have.
@@ -70,8 +70,7 @@ pub(crate) fn break_of(text: &[u8]) -> Option<Break> {
                 None => return Some(reading.at_token(token)),
             },
             Ok(None) => return reading.at_end(text.len()),
-            Err(TextFault::BadByte { at }) => return Some(reading.at_byte(at as usize)),
-            Err(TextFault::TooLong) => return None,
+            Err(byte) => return Some(reading.at_byte(byte.at as usize)),
         }
     }
 }

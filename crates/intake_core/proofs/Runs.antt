@@ -1,11 +1,11 @@
 -- How far a replay has come, and what holds of its history.
 
-use Rattle.std.proofs.Common.{◌≡◌, ◌++◌, ℕ, List, [], ◌∷◌, length, take, drop, Option, Some, None, ap, sym, ◌∙◌, subst, refl, zero, suc, append_assoc, append-nil, arith}
+use Rattle.std.proofs.Common.{◌≡◌, ◌++◌, ℕ, List, [], ◌∷◌, length, map, take, drop, Option, Some, None, ap, sym, ◌∙◌, subst, refl, zero, suc, append_assoc, append-nil, arith}
 use Rattle.std.specs.Prelude.{slice_get, option_map, IfSome, Result, Ok, Err, OnOk, is_err, false}
 use Rattle.std.proofs.Math.Seq.{take-append_seam}
 use Rattle.plan_cost.specs.declared.costs.CostedTask.{CostedTask}
 use Rattle.intake_rules.specs.declared.reply.Reply.{Reply}
-use Rattle.intake_rules.specs.Findings.{IsRight}
+use Rattle.intake_rules.specs.Findings.{IsRight, right_finding}
 use Rattle.intake_rules.specs.History.{History, IsLawful, TakesLeast, IsRightFinish, HasRightFindings}
 use Rattle.intake_rules.specs.Intake.{empty_intake}
 use Rattle.intake_rules.specs.Jobs.{AcceptedPlan}
@@ -14,22 +14,22 @@ use Rattle.intake_rules.proofs.Lawful.{lawful_prefix}
 use Rattle.intake_rules.proofs.Refused.{refusals_change_nothing, refused_after_close, refused_doubled, refused_strange}
 use Rattle.intake_rules.proofs.InOrder.{verdicts_in_order, whole_list_once_closed, complete_is_whole}
 use Rattle.intake_core.specs.declared.replaying.Step.{Step}
-use Rattle.intake_core.specs.declared.replaying.Step.TheVariants as step
+use Rattle.intake_core.specs.Asked.{Asked, asked, to_submit, to_close, to_take, to_hand_back, to_finish, to_emit}
 use Rattle.intake_core.specs.Histories.{Leaves}
 use Rattle.intake_core.specs.State.{DeskState, desk_reply, desk_after}
-use Rattle.intake_core.specs.Replays.{found, event_of, replayed, replies_of, history_of, Headline}
+use Rattle.intake_core.specs.Replays.{event_of, replayed, replies_of, history_of, Headline}
 use Rattle.intake_core.proofs.Going.{goes-on, begins}
 
 -- the desk that steps were asked of, the steps that are left and the replies so far
 pub record RunsOn (task : CostedTask) (whole : List Reply) (desk : DeskState) (left : List Step) (replies : List Reply) : Type 0 where
   pub task_is : desk.task ≡ task
-  pub whole_is : whole ≡ replies ++ replies_of (replayed desk left)
+  pub whole_is : whole ≡ replies ++ replies_of (replayed desk (map asked left))
 
-pub runs-begin : (task : CostedTask) (desk : DeskState) (steps : List Step) → desk.task ≡ task → RunsOn task (replies_of (replayed desk steps)) desk steps []
+pub runs-begin : (task : CostedTask) (desk : DeskState) (steps : List Step) → desk.task ≡ task → RunsOn task (replies_of (replayed desk (map asked steps))) desk steps []
 runs-begin task desk steps same = record { task_is = same; whole_is = refl }
 
 pub runs-more : (task : CostedTask) (whole : List Reply) (desk new : DeskState) (step : Step) (left : List Step) (replies more : List Reply) (answer : Reply)
-    → RunsOn task whole desk (step ∷ left) replies → new ≡ desk_after desk (event_of desk step) (desk_reply desk (event_of desk step)) → answer ≡ desk_reply desk (event_of desk step)
+    → RunsOn task whole desk (step ∷ left) replies → new ≡ desk_after desk (event_of desk (asked step)) (desk_reply desk (event_of desk (asked step))) → answer ≡ desk_reply desk (event_of desk (asked step))
     → more ≡ replies ++ answer ∷ [] → RunsOn task whole new left more
 unfolding replayed
 runs-more task whole desk new step left replies more answer runs state reply pushed =
@@ -37,10 +37,10 @@ runs-more task whole desk new step left replies more answer runs state reply pus
       task_is = ap (λ d. d.task) state ∙ runs.task_is;
       whole_is =
           runs.whole_is
-          ∙ sym (append_assoc replies (desk_reply desk (event_of desk step) ∷ []) (replies_of (replayed (desk_after desk (event_of desk step) (desk_reply desk (event_of desk step))) left)))
-          ∙ ap (λ a. (replies ++ a ∷ []) ++ replies_of (replayed (desk_after desk (event_of desk step) (desk_reply desk (event_of desk step))) left)) (sym reply)
-          ∙ ap (λ rs. rs ++ replies_of (replayed (desk_after desk (event_of desk step) (desk_reply desk (event_of desk step))) left)) (sym pushed)
-          ∙ ap (λ d. more ++ replies_of (replayed d left)) (sym state);
+          ∙ sym (append_assoc replies (desk_reply desk (event_of desk (asked step)) ∷ []) (replies_of (replayed (desk_after desk (event_of desk (asked step)) (desk_reply desk (event_of desk (asked step)))) (map asked left))))
+          ∙ ap (λ a. (replies ++ a ∷ []) ++ replies_of (replayed (desk_after desk (event_of desk (asked step)) (desk_reply desk (event_of desk (asked step)))) (map asked left))) (sym reply)
+          ∙ ap (λ rs. rs ++ replies_of (replayed (desk_after desk (event_of desk (asked step)) (desk_reply desk (event_of desk (asked step)))) (map asked left))) (sym pushed)
+          ∙ ap (λ d. more ++ replies_of (replayed d (map asked left))) (sym state);
     }
 
 pub runs-end : (task : CostedTask) (whole : List Reply) (desk : DeskState) (replies : List Reply) → RunsOn task whole desk [] replies → replies ≡ whole
@@ -49,10 +49,10 @@ runs-end task whole desk replies runs = sym (runs.whole_is ∙ append-nil replie
 
 pub runs-part : (task : CostedTask) (whole : List Reply) (desk : DeskState) (left : List Step) (replies : List Reply) → RunsOn task whole desk left replies → replies ≡ take (length replies) whole
 runs-part task whole desk left replies runs =
-    sym (ap (take (length replies)) runs.whole_is ∙ take-append_seam replies (replies_of (replayed desk left)))
+    sym (ap (take (length replies)) runs.whole_is ∙ take-append_seam replies (replies_of (replayed desk (map asked left))))
 
 -- a history that leaves a desk, with what the steps then make of it, is lawful and gives out the least jobs
-leaves-replayed : (planners : ℕ) (steps : List Step) (history : History) (desk : DeskState) → Leaves planners history desk
+leaves-replayed : (planners : ℕ) (steps : List Asked) (history : History) (desk : DeskState) → Leaves planners history desk
     → IsLawful planners desk.places (history ++ replayed desk steps) × TakesLeast planners (history ++ replayed desk steps)
 unfolding replayed
 leaves-replayed planners [] history desk leaves =
@@ -65,20 +65,20 @@ leaves-replayed planners (step ∷ steps) history desk leaves =
     subst P (append_assoc history ((event_of desk step, answer) ∷ []) (replayed new steps))
     (leaves-replayed planners steps (history ++ (event_of desk step, answer) ∷ []) new (goes-on desk new (event_of desk step) answer refl refl planners history leaves))
 
-right-found : (task : CostedTask) (job : Option AcceptedPlan) → IfSome (option_map (found task) job) (IsRight task)
+right-found : (task : CostedTask) (job : Option AcceptedPlan) → IfSome (option_map (right_finding task) job) (IsRight task)
 right-found task None = tt
 right-found task (Some job) = (refl, refl)
 
-right-event : (desk : DeskState) (step : Step) → IsRightFinish desk.task (event_of desk step)
-right-event desk (step.Submit planner plan) = tt
-right-event desk (step.Close planner) = tt
-right-event desk step.Take = tt
-right-event desk (step.HandBack job) = tt
-right-event desk (step.Finish job of) = right-found desk.task (slice_get desk.intake.jobs of)
-right-event desk (step.Emit planner) = tt
+right-event : (desk : DeskState) (step : Asked) → IsRightFinish desk.task (event_of desk step)
+right-event desk (to_submit planner plan) = tt
+right-event desk (to_close planner) = tt
+right-event desk to_take = tt
+right-event desk (to_hand_back job) = tt
+right-event desk (to_finish job of) = right-found desk.task (slice_get desk.intake.jobs of)
+right-event desk (to_emit planner) = tt
 
 -- each finding that the steps hand in is right
-right-replayed : (steps : List Step) (desk : DeskState) → HasRightFindings desk.task (replayed desk steps)
+right-replayed : (steps : List Asked) (desk : DeskState) → HasRightFindings desk.task (replayed desk steps)
 unfolding replayed
 right-replayed [] desk place event answer e = absurd (cc)
 right-replayed (step ∷ steps) desk zero event answer e =
@@ -97,7 +97,7 @@ get-take (y ∷ ys) (suc n) zero x e = e
 get-take (y ∷ ys) (suc n) (suc k) x e = get-take ys n k x e
 
 -- what holds of the history of every replay
-pub headline : (task : CostedTask) (planners places : ℕ) (steps : List Step) → Headline task planners places (history_of task planners places steps)
+pub headline : (task : CostedTask) (planners places : ℕ) (steps : List Asked) → Headline task planners places (history_of task planners places steps)
 headline task planners places steps =
     let desk : DeskState = record { task = task; places = places; intake = empty_intake planners } in
     let history = history_of task planners places steps in

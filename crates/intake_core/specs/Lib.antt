@@ -1,3 +1,4 @@
+pub mod Asked
 pub mod Faults
 pub mod Histories
 pub mod Replays

@@ -1,45 +1,40 @@
 -- What a list of steps makes of a desk.
 
 use Rattle.std.specs.Prelude.{ℕ, List, [], ◌∷◌, map, take, slice_get, option_map}
-use Rattle.std.specs.Arc.{arc_value}
 use Rattle.plan_cost.specs.declared.costs.CostedTask.{CostedTask}
 use Rattle.intake_rules.specs.declared.finding.Finding.{Finding}
 use Rattle.intake_rules.specs.declared.reply.Reply.{Reply}
-use Rattle.intake_rules.specs.Findings.{verdict_of, counted_cost}
+use Rattle.intake_rules.specs.Findings.{right_finding}
 use Rattle.intake_rules.specs.History.{History, IsLawful, TakesLeast}
 use Rattle.intake_rules.specs.Intake.{empty_intake}
 use Rattle.intake_rules.specs.Jobs.{AcceptedPlan}
 use Rattle.intake_rules.specs.Laws.{VerdictsInOrder, RefusalsChangeNothing, RefusedAfterClose, RefusedDoubled, RefusedStrange, WholeListOnceClosed, CompleteIsWhole}
 use Rattle.intake_rules.specs.Rules.{Event, submit, close, take_job, hand_back, finish, emit}
-use Rattle.intake_core.specs.declared.replaying.Step.{Step}
-use Rattle.intake_core.specs.declared.replaying.Step.TheVariants as step
+use Rattle.intake_core.specs.Asked.{Asked, to_submit, to_close, to_take, to_hand_back, to_finish, to_emit}
 use Rattle.intake_core.specs.State.{DeskState, desk_reply, desk_after}
 
--- the right finding of a job
-abbrev pub found : CostedTask → AcceptedPlan → Finding
-found task job = record { job = job; verdict = verdict_of task job.plan; cost = counted_cost task job.plan }
-
 -- what a step asks of a desk: a finish hands in the right finding of the job that it names, if there is one
-abbrev pub event_of : DeskState → Step → Event
-event_of desk (step.Submit planner plan) = submit planner (arc_value plan)
-event_of desk (step.Close planner) = close planner
-event_of desk step.Take = take_job
-event_of desk (step.HandBack job) = hand_back job
-event_of desk (step.Finish job of) = finish job (option_map (found desk.task) (slice_get desk.intake.jobs of))
-event_of desk (step.Emit planner) = emit planner
+abbrev pub event_of : DeskState → Asked → Event
+event_of desk (to_submit planner plan) = submit planner plan
+event_of desk (to_close planner) = close planner
+event_of desk to_take = take_job
+event_of desk (to_hand_back job) = hand_back job
+event_of desk (to_finish job of) = finish job (option_map (right_finding desk.task) (slice_get desk.intake.jobs of))
+event_of desk (to_emit planner) = emit planner
 
 -- the events of the steps, each with the reply of the desk as the steps before left it
-unfoldable pub replayed : DeskState → List Step → History
+unfoldable pub replayed : DeskState → List Asked → History
 replayed desk [] = []
 replayed desk (step ∷ steps) =
     (event_of desk step, desk_reply desk (event_of desk step))
     ∷ replayed (desk_after desk (event_of desk step) (desk_reply desk (event_of desk step))) steps
 
+-- the replies of a history, in order
 abbrev pub replies_of : History → List Reply
 replies_of history = map (λ pair. pair.1) history
 
 -- the events and replies of the steps at a new desk
-abbrev pub history_of : CostedTask → ℕ → ℕ → List Step → History
+abbrev pub history_of : CostedTask → ℕ → ℕ → List Asked → History
 history_of task planners places steps = replayed (record { task = task; places = places; intake = empty_intake planners }) steps
 
 -- what holds of every history of a desk

@@ -12,12 +12,15 @@ use Rattle.intake_core.specs.declared.place.Place.{Place}
 use Rattle.intake_core.specs.declared.place.Planner.{Planner}
 use Rattle.place_set.specs.Members.{is_member}
 
+-- the jobs of the rows
 abbrev pub jobs_in : List Place → List AcceptedPlan
 jobs_in table = map (λ row. row.job) table
 
+-- the stages of the rows
 abbrev pub stages_in : List Place → List Stage
 stages_in table = map (λ row. row.stage) table
 
+-- for each row the next job of its planner, if there is one
 abbrev pub links_in : List Place → List (Option ℕ)
 links_in table = map (λ row. row.behind) table
 
@@ -34,6 +37,7 @@ intake_in table planners = record {
 abbrev pub line_of : ℕ → List AcceptedPlan → List ℕ
 line_of planner jobs = map (λ job. job.number) (jobs_of planner jobs)
 
+-- the last of some numbers
 abbrev pub last_of : List ℕ → Option ℕ
 last_of numbers = slice_get numbers (length numbers - 1)
 
@@ -44,6 +48,7 @@ pub record IsLine (jobs : List AcceptedPlan) (links : List (Option ℕ)) (planne
   pub told : row.emitted ≤ length (line_of planner jobs)
   pub along : (k j : ℕ) → slice_get (line_of planner jobs) k ≡ Some j → slice_index_or links j None ≡ slice_get (line_of planner jobs) (suc k)
 
+-- whether a job is waiting, if there is such a job
 abbrev pub waits : Option Stage → Bool
 waits (Some stage) = is_waiting_stage stage
 waits None = false
@@ -78,6 +83,7 @@ abbrev pub linked : List (Option ℕ) → Option ℕ → ℕ → List (Option �
 linked links (Some last) number = set links last (Some number)
 linked links None number = links
 
+-- the first number, or else the second
 abbrev pub or_else : Option ℕ → ℕ → Option ℕ
 or_else (Some next) number = Some next
 or_else None number = Some number
@@ -86,6 +92,7 @@ or_else None number = Some number
 abbrev pub joined : Planner → ℕ → Planner
 joined row number = record row { next = or_else row.next number; last = Some number }
 
+-- whether a job is finished, if there is such a job
 abbrev pub rests : Option Stage → Bool
 rests (Some (Finished finding)) = true
 rests _ = false

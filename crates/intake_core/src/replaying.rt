@@ -1,8 +1,10 @@
 //! The replay: a list of steps is asked of a new desk.
-ghost use Rattle.std.specs.Prelude.{◌≡◌, ◌≤◌, IfOk, IfErr, take, length, OnOk, option_map, slice_get};
+ghost use Rattle.std.specs.Prelude.{◌≡◌, ◌≤◌, IfOk, IfErr, take, length, map, OnOk, option_map, slice_get};
 ghost use Rattle.intake_rules.specs.Rules.{finish};
+ghost use Rattle.intake_core.specs.Asked.{asked};
 ghost use Rattle.intake_core.specs.Faults.{so_far};
-ghost use Rattle.intake_core.specs.Replays.{event_of, replayed, replies_of, history_of, Headline, found};
+ghost use Rattle.intake_core.specs.Replays.{event_of, replayed, replies_of, history_of, Headline};
+ghost use Rattle.intake_rules.specs.Findings.{right_finding};
 ghost use Rattle.intake_core.specs.State.{desk_reply, desk_after};
 
 use crate::Desk;
@@ -76,9 +78,9 @@ pub fn replay(
 ) -> Result<ReplyList, ReplayFault>
     requires planners { planners ≤ 64 }
     requires places { places ≤ 65536 }
-    ensures replies { IfOk result (λ replies. replies ≡ replies_of (history_of task.now planners places steps)) }
-    ensures fault { IfErr result (λ fault. so_far fault ≡ take (length (so_far fault)) (replies_of (history_of task.now planners places steps))) }
-    ensures headline { Headline task.now planners places (history_of task.now planners places steps) }
+    ensures replies { IfOk result (λ replies. replies ≡ replies_of (history_of task.now planners places (map asked steps))) }
+    ensures fault { IfErr result (λ fault. so_far fault ≡ take (length (so_far fault)) (replies_of (history_of task.now planners places (map asked steps)))) }
+    ensures headline { Headline task.now planners places (history_of task.now planners places (map asked steps)) }
 {
     match Desk::make(alloc, task, planners, places) {
         Err(AllocError) => Err(ReplayFault::OutOfMemory {
@@ -96,8 +98,8 @@ fn run(
     steps: StepsToRun,
 ) -> Result<ReplyList, ReplayFault>
     requires { desk.task ≡ task.now }
-    ensures replies { IfOk result (λ replies. replies ≡ replies_of (replayed desk steps)) }
-    ensures fault { IfErr result (λ fault. so_far fault ≡ take (length (so_far fault)) (replies_of (replayed desk steps))) }
+    ensures replies { IfOk result (λ replies. replies ≡ replies_of (replayed desk (map asked steps))) }
+    ensures fault { IfErr result (λ fault. so_far fault ≡ take (length (so_far fault)) (replies_of (replayed desk (map asked steps)))) }
 {
     let mut left = VecDeque::from_vec(steps.into_vec());
     let mut replies = Seq::new(alloc);
@@ -120,8 +122,8 @@ fn answer(
     step: Step,
 ) -> Result<Reply, AllocError>
     requires { desk.old.task ≡ task.now }
-    ensures reply { IfOk result (λ reply. reply ≡ desk_reply desk.old (event_of desk.old step)) }
-    ensures state { OnOk result (desk.new ≡ desk_after desk.old (event_of desk.old step) (desk_reply desk.old (event_of desk.old step))) }
+    ensures reply { IfOk result (λ reply. reply ≡ desk_reply desk.old (event_of desk.old (asked step))) }
+    ensures state { OnOk result (desk.new ≡ desk_after desk.old (event_of desk.old (asked step)) (desk_reply desk.old (event_of desk.old (asked step)))) }
 {
     Ok(match step {
         Step::Submit { planner, plan } => match desk.submit(planner, plan) {
@@ -157,8 +159,8 @@ fn answer_finish(
     of: u32,
 ) -> Result<Reply, AllocError>
     requires { desk.old.task ≡ task.now }
-    ensures reply { IfOk result (λ reply. reply ≡ desk_reply desk.old (finish job (option_map (found desk.old.task) (slice_get desk.old.intake.jobs of)))) }
-    ensures state { OnOk result (desk.new ≡ desk_after desk.old (finish job (option_map (found desk.old.task) (slice_get desk.old.intake.jobs of))) (desk_reply desk.old (finish job (option_map (found desk.old.task) (slice_get desk.old.intake.jobs of))))) }
+    ensures reply { IfOk result (λ reply. reply ≡ desk_reply desk.old (finish job (option_map (right_finding desk.old.task) (slice_get desk.old.intake.jobs of)))) }
+    ensures state { OnOk result (desk.new ≡ desk_after desk.old (finish job (option_map (right_finding desk.old.task) (slice_get desk.old.intake.jobs of))) (desk_reply desk.old (finish job (option_map (right_finding desk.old.task) (slice_get desk.old.intake.jobs of))))) }
 {
     let Some(judged) = desk.job(of) else {
         return Ok(Reply::Refused(Refusal::UnknownJob));

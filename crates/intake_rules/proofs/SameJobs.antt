@@ -3,7 +3,8 @@
 use Rattle.std.proofs.Common.{◌≡◌, ◌↔◌, ◌&&◌, Bool, true, false, refl, ap, sym, ◌∙◌, nat_eq}
 use Rattle.std.specs.Cmp.{unsigned_Decides}
 use mathlib.Core.Bool.{true≢false}
-use Rattle.strips_task.specs.Plans.{plan_eq, plan_same, plans_equivalence}
+use Rattle.strips_task.specs.Plans.{plan_eq}
+use Rattle.strips_task.specs.PlanEquality.{plan_same, plans_equivalence}
 use Rattle.intake_rules.specs.Jobs.{AcceptedPlan, job_eq}
 
 both : (a b : Bool) → (a && b) ≡ true → (a ≡ true) × (b ≡ true)

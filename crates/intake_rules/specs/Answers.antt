@@ -8,26 +8,32 @@ use Rattle.intake_rules.specs.declared.reply.Reply.TheVariants.{Accepted, Closed
 use Rattle.intake_rules.specs.declared.given_back.SubmitRefused.{SubmitRefused}
 use Rattle.intake_rules.specs.declared.given_back.FinishRefused.{FinishRefused}
 
+-- the reply to a submission
 abbrev pub submit_reply : Result ℕ SubmitRefused → Reply
 submit_reply (Ok number) = Accepted number
 submit_reply (Err refused) = Refused refused.refusal
 
+-- the reply to a closing
 abbrev pub close_reply : Result (Unit {0}) Refusal → Reply
 close_reply (Ok done) = ClosedNow
 close_reply (Err refusal) = Refused refusal
 
+-- the reply to a taking
 abbrev pub take_reply : Option ℕ → Reply
 take_reply (Some number) = Taken number
 take_reply None = NoJob
 
+-- the reply to a handing back
 abbrev pub hand_back_reply : Result (Unit {0}) Refusal → Reply
 hand_back_reply (Ok done) = Returned
 hand_back_reply (Err refusal) = Refused refusal
 
+-- the reply to a finish
 abbrev pub finish_reply : Result (Unit {0}) FinishRefused → Reply
 finish_reply (Ok done) = Finished
 finish_reply (Err refused) = Refused refused.refusal
 
+-- the reply to an emitting
 abbrev pub emit_answer : Result Finding Refusal → Reply
 emit_answer (Ok finding) = Emitted finding
 emit_answer (Err refusal) = Refused refusal

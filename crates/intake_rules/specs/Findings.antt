@@ -7,6 +7,7 @@ use Rattle.plan_cost.specs.declared.costs.Cost.{Cost}
 use Rattle.plan_cost.specs.declared.costs.CostedTask.{CostedTask}
 use Rattle.plan_cost.specs.Assessments.{assessment}
 use Rattle.intake_rules.specs.declared.finding.Finding.{Finding}
+use Rattle.intake_rules.specs.Jobs.{AcceptedPlan}
 
 -- the verdict of a plan, by a name behind which nobody needs to look who takes plans in and gives them out
 unfoldable pub verdict_of : CostedTask → Plan → Verdict
@@ -19,3 +20,7 @@ counted_cost task plan = (assessment task plan).cost
 -- a finding is right for a task if its verdict and its cost are those of its job's plan
 abbrev pub IsRight : CostedTask → Finding → Type 0
 IsRight task finding = (finding.verdict ≡ verdict_of task finding.job.plan) × (finding.cost ≡ counted_cost task finding.job.plan)
+
+-- the right finding of a job
+abbrev pub right_finding : CostedTask → AcceptedPlan → Finding
+right_finding task job = record { job = job; verdict = verdict_of task job.plan; cost = counted_cost task job.plan }

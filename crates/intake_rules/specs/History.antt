@@ -36,6 +36,7 @@ jobs history = numbered_from 0 (filter_map accepted_by history)
 unfoldable pub accepted : ℕ → History → List Plan
 accepted planner history = map (λ job. job.plan) (jobs_of planner (jobs history))
 
+-- the event closed the planner
 abbrev pub closes : ℕ → Event × Reply → Bool
 closes planner (close other, reply.ClosedNow) = nat_eq other planner
 closes planner _ = false
@@ -44,6 +45,7 @@ closes planner _ = false
 unfoldable pub is_closed : ℕ → History → Bool
 is_closed planner history = list_any (closes planner) history
 
+-- the finding that the event emitted for the planner
 abbrev pub emitted_by : ℕ → Event × Reply → Option Finding
 emitted_by planner (emit other, reply.Emitted finding) = (if nat_eq other planner then Some finding else None)
 emitted_by planner _ = None
@@ -52,6 +54,7 @@ emitted_by planner _ = None
 unfoldable pub emitted : ℕ → History → List Finding
 emitted planner history = filter_map (emitted_by planner) history
 
+-- the finding that finished the job
 abbrev pub finished_by : ℕ → Event × Reply → Option Finding
 finished_by job (finish other (Some finding), reply.Finished) = (if nat_eq other job then Some finding else None)
 finished_by job _ = None
@@ -60,13 +63,16 @@ finished_by job _ = None
 unfoldable pub finding_of : ℕ → History → Option Finding
 finding_of job history = slice_get (filter_map (finished_by job) history) 0
 
+-- the job is finished
 abbrev pub is_finished : ℕ → History → Bool
 is_finished job history = is_some (finding_of job history)
 
+-- the event took the job
 abbrev pub takes : ℕ → Event × Reply → Bool
 takes job (take_job, reply.Taken other) = nat_eq other job
 takes job _ = false
 
+-- the event handed the job back
 abbrev pub returns : ℕ → Event × Reply → Bool
 returns job (hand_back other, reply.Returned) = nat_eq other job
 returns job _ = false
@@ -75,6 +81,7 @@ returns job _ = false
 unfoldable pub is_out : ℕ → History → Bool
 is_out job history = not (is_finished job history) && nat_eq (length (filter (takes job) history)) (suc (length (filter (returns job) history)))
 
+-- the event emitted the job's finding
 abbrev pub emits : ℕ → Event × Reply → Bool
 emits job (emit planner, reply.Emitted finding) = nat_eq finding.job.number job
 emits job _ = false
@@ -117,6 +124,7 @@ abbrev pub TakesLeast : ℕ → History → Type 0
 TakesLeast planners history = (place job : ℕ)
     → slice_get history place ≡ Some (take_job, reply.Taken job) → least_waiting (left_by planners (take place history)) ≡ Some job
 
+-- a finish with a finding hands in one that is right for the task
 abbrev pub IsRightFinish : CostedTask → Event → Type 0
 IsRightFinish task (finish job finding) = IfSome finding (IsRight task)
 IsRightFinish task _ = ⊤

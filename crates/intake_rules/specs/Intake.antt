@@ -18,19 +18,24 @@ pub record Intake : Type 0 where
 abbrev pub empty_intake : ℕ → Intake
 empty_intake planners = record { jobs = []; stages = []; closed = replicate planners false; emitted = replicate planners 0 }
 
+-- there is a planner of this number
 abbrev pub has_planner : Intake → ℕ → Bool
 has_planner intake planner = nat_lt planner (length intake.closed)
 
+-- the planner is closed
 abbrev pub is_closed_in : Intake → ℕ → Bool
 is_closed_in intake planner = slice_index_or intake.closed planner false
 
+-- there is a job of this number
 abbrev pub has_job : Intake → ℕ → Bool
 has_job intake job = nat_lt job (length intake.jobs)
 
+-- the stage of a job that waits
 abbrev pub is_waiting_stage : Stage → Bool
 is_waiting_stage Waiting = true
 is_waiting_stage _ = false
 
+-- the stage of a job that was taken and is not finished
 abbrev pub is_out_stage : Stage → Bool
 is_out_stage Out = true
 is_out_stage _ = false
@@ -49,6 +54,7 @@ stage_of intake job = slice_index_or intake.stages job Waiting
 abbrev pub least_waiting : Intake → Option ℕ
 least_waiting intake = position_from is_waiting_stage 0 intake.stages
 
+-- the job is of the planner
 abbrev pub is_of : ℕ → AcceptedPlan → Bool
 is_of planner job = nat_eq job.planner planner
 

@@ -4,6 +4,7 @@ use Rattle.std.specs.Prelude.{ℕ, Bool, ◌&&◌, nat_eq}
 use Rattle.strips_task.specs.declared.plans.Plan.{Plan}
 use Rattle.strips_task.specs.Plans.{plan_eq}
 
+-- a plan that was accepted, with the number of its job and its planner
 pub record AcceptedPlan : Type 0 where
   pub number : ℕ
   pub planner : ℕ

@@ -49,6 +49,7 @@ hand_back_refusal intake job = first_that_applies
     ∷ (not (is_out_stage (stage_of intake job)), refusal.NotOut)
     ∷ [])
 
+-- there is such a job, and the other is the same
 abbrev pub is_same_job : Option AcceptedPlan → AcceptedPlan → Bool
 is_same_job None other = false
 is_same_job (Some job) other = job_eq job other
@@ -85,6 +86,7 @@ abbrev pub emit_reply : Intake → ℕ → Reply
 emit_reply intake planner =
     (if has_planner intake planner then emit_reply_of intake planner (next_job intake planner) else reply.Refused refusal.NoPlanner)
 
+-- the refusal, if there is one, or else the reply
 abbrev pub refused_or : Option Refusal → Reply → Reply
 refused_or (Some why) done = reply.Refused why
 refused_or None done = done

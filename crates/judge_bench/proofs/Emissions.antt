@@ -15,7 +15,8 @@ use Rattle.intake_rules.specs.Jobs.{AcceptedPlan}
 use Rattle.bench_rule.specs.declared.views.Setting.{Setting}
 use Rattle.bench_rule.specs.declared.views.View.{View}
 use Rattle.bench_rule.specs.Views.{first_view, with_emission, with_posted}
-use Rattle.judge_bench.specs.Findings.{by_planner, kept, nothing_kept, of_planner, right_finding}
+use Rattle.judge_bench.specs.Findings.{by_planner, kept, nothing_kept, of_planner}
+use Rattle.intake_rules.specs.Findings.{right_finding}
 use Rattle.judge_bench.specs.Keeping.{KeptFindings, emitted_of}
 use Rattle.judge_bench.specs.Seats.{accepted_intake}
 use Rattle.judge_bench.proofs.ByPlanner.{nothing_found}

@@ -8,7 +8,8 @@ use Rattle.plan_cost.specs.declared.costs.CostedTask.{CostedTask}
 use Rattle.intake_rules.specs.declared.finding.Finding.{Finding}
 use Rattle.intake_rules.specs.Intake.{is_of, jobs_of}
 use Rattle.intake_rules.specs.Jobs.{AcceptedPlan}
-use Rattle.judge_bench.specs.Findings.{of_planner, right_finding}
+use Rattle.judge_bench.specs.Findings.{of_planner}
+use Rattle.intake_rules.specs.Findings.{right_finding}
 use Rattle.judge_bench.specs.Kept.{Numbered}
 use Rattle.judge_bench.specs.Submissions.{SubmissionParts, jobs_from}
 

@@ -4,13 +4,8 @@ use Rattle.std.specs.Prelude.{ℕ, List, [], ◌∷◌, ◌++◌, map, filter, n
 use Rattle.std.specs.List.{range_with_len}
 use Rattle.plan_cost.specs.declared.costs.CostedTask.{CostedTask}
 use Rattle.intake_rules.specs.declared.finding.Finding.{Finding}
-use Rattle.intake_rules.specs.Findings.{verdict_of, counted_cost}
-use Rattle.intake_rules.specs.Jobs.{AcceptedPlan}
+use Rattle.intake_rules.specs.Findings.{right_finding}
 use Rattle.judge_bench.specs.Submissions.{SubmissionParts, jobs_from}
-
--- the right finding of a job
-abbrev pub right_finding : CostedTask → AcceptedPlan → Finding
-right_finding task job = record { job = job; verdict = verdict_of task job.plan; cost = counted_cost task job.plan }
 
 -- the findings of the jobs of a planner, in order
 abbrev pub of_planner : List Finding → ℕ → List Finding

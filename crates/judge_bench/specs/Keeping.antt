@@ -9,7 +9,7 @@ use Rattle.intake_rules.specs.Jobs.{AcceptedPlan}
 use Rattle.bench_rule.specs.declared.views.View.{View}
 use Rattle.bench_rule.specs.Plays.{SeemsWaiting}
 use Rattle.bench_rule.specs.Views.{times, with_emission}
-use Rattle.judge_bench.specs.Findings.{right_finding}
+use Rattle.intake_rules.specs.Findings.{right_finding}
 use Rattle.judge_bench.specs.Seats.{accepted_intake, with_misses}
 use Rattle.judge_bench.specs.Submissions.{SubmissionParts, jobs_from}
 

@@ -2,7 +2,8 @@
 ghost use Rattle.std.specs.Prelude.{◌≡◌, ◌<◌, ◌≤◌, ◌+◌, ℕ, List, [], All, IfOk, OnOk, OnErr, length, map, replicate, false, slice_index};
 ghost use Rattle.bench_rule.specs.Views.{HoldsJob, with_finished, with_handed_back, with_posted};
 ghost use Rattle.intake_rules.specs.Intake.{jobs_of};
-ghost use Rattle.judge_bench.specs.Findings.{by_planner, right_finding};
+ghost use Rattle.judge_bench.specs.Findings.{by_planner};
+ghost use Rattle.intake_rules.specs.Findings.{right_finding};
 ghost use Rattle.judge_bench.specs.Keeping.{AcceptsAll, AllKnown, KeptFindings, KeptNext, NoneWaits, OnlyAccepts, OnlyEmits, with_all_closed, with_more_finished};
 ghost use Rattle.judge_bench.specs.Kept.{Numbered};
 ghost use Rattle.judge_bench.specs.Seats.{SitsAt};

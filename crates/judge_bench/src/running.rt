@@ -1,6 +1,7 @@
 //! A run: plans in, findings out.
 ghost use Rattle.std.specs.Prelude.{◌≡◌, ◌≢◌, ◌<◌, ◌≤◌, [], All, IfOk, IfErr, OnOk, ℕ, length, map, vec_len, vec_capacity};
-ghost use Rattle.judge_bench.specs.Findings.{by_planner, findings_of, right_finding};
+ghost use Rattle.judge_bench.specs.Findings.{by_planner, findings_of};
+ghost use Rattle.intake_rules.specs.Findings.{right_finding};
 ghost use Rattle.judge_bench.specs.Keeping.{KeptFindings};
 ghost use Rattle.judge_bench.specs.Kept.{Numbered};
 ghost use Rattle.judge_bench.specs.Runs.{AllAccepted, FoundOrHeld, IsReady, MayRun};

@@ -3,7 +3,6 @@ pub mod Planners
 pub mod Reading
 pub mod Refusals
 pub mod ReplayAnswers
-pub mod Replaying
 pub mod RunAnswers
 pub mod Submitted
 pub mod TextFaults
@@ -12,3 +11,4 @@ pub mod Writing
 pub mod Tallies
 pub mod PlanCounts
 pub mod Files
+pub mod Texts

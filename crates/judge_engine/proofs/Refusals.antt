@@ -9,10 +9,12 @@ use Rattle.pddl_reader.specs.Texts.{domain_in_text, problem_in_text}
 use Rattle.pddl_syntax.specs.Trees.{text_fault}
 use Rattle.plan_cost.specs.declared.costs.CostedTask.{CostedTask}
 use Rattle.pddl_syntax.specs.declared.dialect.Dialect.{Dialect}
+use Rattle.judge_engine.specs.declared.fault.Input.{Input}
 use Rattle.judge_engine.specs.declared.fault.JudgeFault.{JudgeFault}
 use Rattle.judge_engine.specs.declared.fault.JudgeFault.TheVariants.{TooLarge, TooManyPlanners, Domain, Problem, TooManyPlans, Steps, OutOfMemory, NoThread, Held}
 use Rattle.judge_engine.specs.Bundle.{BundleValue}
-use Rattle.judge_engine.specs.Answer.{too_large, task_in, plan_count, most_planners, most_plans}
+use Rattle.explanations.specs.AllValid.{task_in}
+use Rattle.judge_engine.specs.Answer.{too_large, plan_count, most_planners, most_plans}
 use Rattle.judge_bench.specs.declared.running.RunFault.{RunFault}
 use Rattle.judge_bench.specs.declared.running.RunFault.TheVariants as run
 use Rattle.judge_engine.specs.Refusal.{IsOfTexts, ReadingCallsFor, TextsCallForIn, IsFaultOf, refusal_of_run}
@@ -74,7 +76,7 @@ module _ (dialect : Dialect) (domain problem : List ℕ) (bundles : List BundleV
       → ReadingCallsFor dialect domain problem fault → TextsCallForIn dialect domain problem bundles fault
   read_cause (Domain fault) none few h = (sym none, few, h)
   read_cause (Problem fault) none few h = (sym none, few, h)
-  read_cause (TooLarge place) none few h = absurd h
+  read_cause (TooLarge large) none few h = absurd h
   read_cause TooManyPlanners none few h = absurd h
   read_cause TooManyPlans none few h = absurd h
   read_cause (Steps fault) none few h = absurd h
@@ -90,25 +92,25 @@ module _ (dialect : Dialect) (domain problem : List ℕ) (bundles : List BundleV
       subst (TextsCallForIn dialect domain problem bundles) (sym plans.0) (sym none, few, (task, is), plans.1)
 
   -- the place of a text that is too large is told, and no other
-  pub large_told : {T : Type 0} (place : ℕ) → Some place ≡ too_large domain problem bundles
-      → (n : ℕ) → (◌≡◌ {A = Result T JudgeFault} (Err (TooLarge place)) (Err (TooLarge n))) ↔ (too_large domain problem bundles ≡ Some n)
+  pub large_told : {T : Type 0} (place : Input) → Some place ≡ too_large domain problem bundles
+      → (n : Input) → (◌≡◌ {A = Result T JudgeFault} (Err (TooLarge place)) (Err (TooLarge n))) ↔ (too_large domain problem bundles ≡ Some n)
   large_told {T} place is n = (
     λ same. let told : TooLarge place ≡ TooLarge n = same_error {T = T} (TooLarge place) (TooLarge n) same in
         let equal : place ≡ n = cc in sym is ∙ ap Some equal,
-    λ at. let both : Some place ≡ Some n = is ∙ at in let equal : place ≡ n = cc in ap (λ (k : ℕ). Err (TooLarge k)) equal,
+    λ at. let both : Some place ≡ Some n = is ∙ at in let equal : place ≡ n = cc in ap (λ (k : Input). Err (TooLarge k)) equal,
   )
 
   -- where there is none, that is not told
   pub no_large_told : {T : Type 0} (result : Result T JudgeFault) → None ≡ too_large domain problem bundles
-      → IfErr result (λ fault. (n : ℕ) → fault ≢ TooLarge n)
-      → (n : ℕ) → (result ≡ Err (TooLarge n)) ↔ (too_large domain problem bundles ≡ Some n)
+      → IfErr result (λ fault. (n : Input) → fault ≢ TooLarge n)
+      → (n : Input) → (result ≡ Err (TooLarge n)) ↔ (too_large domain problem bundles ≡ Some n)
   no_large_told result none other n = (
-    λ same. absurd (err_at (λ fault. (n : ℕ) → fault ≢ TooLarge n) result (TooLarge n) same other n refl),
-    λ at. let clash : ◌≡◌ {A = Option ℕ} None (Some n) = none ∙ at in cc,
+    λ same. absurd (err_at (λ fault. (n : Input) → fault ≢ TooLarge n) result (TooLarge n) same other n refl),
+    λ at. let clash : ◌≡◌ {A = Option Input} None (Some n) = none ∙ at in cc,
   )
 
   -- the readers tell no size
-  pub read_no_size : (fault : JudgeFault) → (fault ≢ OutOfMemory → ReadingCallsFor dialect domain problem fault) → (n : ℕ) → fault ≢ TooLarge n
+  pub read_no_size : (fault : JudgeFault) → (fault ≢ OutOfMemory → ReadingCallsFor dialect domain problem fault) → (n : Input) → fault ≢ TooLarge n
   read_no_size fault cause n is =
       subst (ReadingCallsFor dialect domain problem) is (cause (λ memory. let clash : TooLarge n ≡ OutOfMemory = sym is ∙ memory in cc))
 
@@ -122,7 +124,7 @@ pub not_memory : (fault : JudgeFault) → IsOfTexts fault → fault ≢ OutOfMem
 not_memory fault in_texts memory = subst IsOfTexts memory in_texts
 
 -- where nothing in the texts but too many plans is told, no size is
-pub plans_no_size : {P : Type 0} (fault : JudgeFault) → (IsOfTexts fault → (fault ≡ TooManyPlans) × P) → (n : ℕ) → fault ≢ TooLarge n
+pub plans_no_size : {P : Type 0} (fault : JudgeFault) → (IsOfTexts fault → (fault ≡ TooManyPlans) × P) → (n : Input) → fault ≢ TooLarge n
 plans_no_size fault told n is =
     let plans = told (subst IsOfTexts (sym is) tt) in
     let clash : TooManyPlans ≡ TooLarge n = sym plans.0 ∙ is in cc

@@ -5,7 +5,9 @@ use Rattle.std.proofs.lemmas.Bool.{le-leb, lt-leb}
 use Rattle.std.specs.Option.{option_map}
 use Rattle.plan_cost.specs.declared.costs.CostedTask.{CostedTask}
 use Rattle.pddl_syntax.specs.declared.dialect.Dialect.{Dialect}
-use Rattle.judge_engine.specs.Answer.{answer_as, task_in, planner_of, too_large, plan_count, most_planners, most_plans}
+use Rattle.explanations.specs.AllValid.{task_in}
+use Rattle.judge_engine.specs.Answer.{answer_as, planner_of, too_large, plan_count, most_planners, most_plans}
+use Rattle.judge_engine.specs.declared.fault.Input.{Input}
 use Rattle.judge_engine.specs.Bundle.{BundleValue}
 use Rattle.report_text.specs.declared.format.Format.{Format}
 use Rattle.report_text.specs.Format.{report}
@@ -29,8 +31,8 @@ module _ (dialect : Dialect) (format : Format) (domain problem : List ℕ) (bund
   by sizes planners plans s p q = (λ j. by_limits (s j) (p j) (q j))
 
   -- where a text is too large there is none
-  pub none_if_large : (place : ℕ) → Some place ≡ too_large domain problem bundles → answer_as dialect format domain problem bundles ≡ None
-  none_if_large place e =
+  pub none_if_large : (large : Input) → Some large ≡ too_large domain problem bundles → answer_as dialect format domain problem bundles ≡ None
+  none_if_large large e =
       by false (nat_le (length bundles) most_planners) (nat_le (plan_count bundles) most_plans) (ap is_none (sym e)) refl refl
 
   -- nor where there are too many planners

@@ -10,7 +10,8 @@ use Rattle.std.proofs.lemmas.List.FromFn.{get_or-map-range_with_len, length-map-
 use Rattle.plan_cost.specs.declared.costs.CostedTask.{CostedTask}
 use Rattle.intake_rules.specs.declared.finding.Finding.{Finding}
 use Rattle.intake_rules.specs.Findings.{verdict_of, counted_cost}
-use Rattle.judge_bench.specs.Findings.{findings_of, of_planner, right_finding}
+use Rattle.judge_bench.specs.Findings.{findings_of, of_planner}
+use Rattle.intake_rules.specs.Findings.{right_finding}
 use Rattle.judge_bench.specs.Submissions.{SubmissionParts, jobs_from}
 use Rattle.plan_text.specs.Bundle.{parts}
 use Rattle.judge_engine.specs.Answer.{judged, planner_of, plan_count}

@@ -1,26 +1,29 @@
 -- The answer to the input bytes: what the report of a run has to be.
 
-use Rattle.std.specs.Prelude.{ℕ, Bool, List, ◌∷◌, length, map, nat_lt, nat_le, ◌&&◌, Option, None, is_none, if◌then◌else◌}
+use Rattle.std.specs.Prelude.{ℕ, Bool, List, ◌∷◌, length, map, nat_lt, nat_le, ◌&&◌, Option, None, Some, is_none, if◌then◌else◌}
 use Rattle.std.specs.List.{position_from, sum_by}
-use Rattle.std.specs.Option.{option_map, option_and_then}
+use Rattle.std.specs.Option.{option_map}
 use Rattle.plan_cost.specs.declared.costs.CostedTask.{CostedTask}
 use Rattle.plan_cost.specs.Assessments.{assessment}
 use Rattle.plan_text.specs.Bundle.{parts}
 use Rattle.plan_text.specs.PlanReading.{plan_of}
 use Rattle.pddl_syntax.specs.declared.dialect.Dialect.{Dialect}
 use Rattle.pddl_syntax.specs.declared.dialect.Dialect.TheVariants.{Strips}
-use Rattle.pddl_reader.specs.Texts.{domain_in_text, problem_in_text}
+use Rattle.explanations.specs.AllValid.{task_in}
 use Rattle.judge_engine.specs.declared.inlet.TheConstants.{FILE_LIMIT}
+use Rattle.judge_engine.specs.declared.fault.Input.{Input}
+use Rattle.judge_engine.specs.declared.fault.Input.TheVariants as input
 use Rattle.judge_engine.specs.Bundle.{BundleValue}
 use Rattle.report_text.specs.declared.format.Format.{Format}
 use Rattle.report_text.specs.declared.format.Format.TheVariants.{Lines}
 use Rattle.report_text.specs.Format.{report}
 use Rattle.report_text.specs.Report.{Judged, Planner}
 
--- the limits of a run
+-- how many planners a run may have
 abbrev pub most_planners : ℕ
 most_planners = 64
 
+-- how many plans a run may have
 abbrev pub most_plans : ℕ
 most_plans = 65536
 
@@ -40,9 +43,12 @@ planner_of task bundle = record { name = bundle.name; plans = map (judged task) 
 abbrev pub is_over_limit : List ℕ → Bool
 is_over_limit text = nat_lt FILE_LIMIT (length text)
 
--- the place of the first text that is over the limit of a file: the domain, the problem, then the planners' files
-unfoldable pub too_large : List ℕ → List ℕ → List BundleValue → Option ℕ
-too_large domain problem bundles = position_from is_over_limit 0 (domain ∷ problem ∷ map (λ bundle. bundle.bytes) bundles)
+-- the first input that is over the limit of a file: the domain, the problem, then the planners' files
+unfoldable pub too_large : List ℕ → List ℕ → List BundleValue → Option Input
+too_large domain problem bundles =
+    (if is_over_limit domain then Some input.Domain
+    else if is_over_limit problem then Some input.Problem
+    else option_map input.Plans (position_from is_over_limit 0 (map (λ bundle. bundle.bytes) bundles)))
 
 -- how many plans the planners' files hold
 unfoldable pub plan_count : List BundleValue → ℕ
@@ -53,10 +59,6 @@ abbrev pub is_within_limits : List ℕ → List ℕ → List BundleValue → Boo
 is_within_limits domain problem bundles =
     is_none (too_large domain problem bundles)
     && (nat_le (length bundles) most_planners && nat_le (plan_count bundles) most_plans)
-
--- the task that a domain text and a problem text stand for in a dialect
-unfoldable pub task_in : Dialect → List ℕ → List ℕ → Option CostedTask
-task_in dialect domain problem = option_and_then (λ value. problem_in_text dialect value problem) (domain_in_text dialect domain)
 
 -- the report of a run in a format, if the run is within its limits and the domain and the problem stand for a task in the dialect
 unfoldable pub answer_as : Dialect → Format → List ℕ → List ℕ → List BundleValue → Option (List ℕ)

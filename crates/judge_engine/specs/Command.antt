@@ -1,6 +1,7 @@
--- The words of the command line.
+-- What the words of the command line ask for.
 
-use Rattle.std.specs.Prelude.{ℕ, Bool, false, List, [], ◌∷◌, Option, Some, None, codes, bytes_eq, if◌then◌else◌}
+use Rattle.std.specs.Prelude.{◌≡◌, ℕ, Bool, true, List, Option, Some, None, codes, bytes_eq, if◌then◌else◌}
+use Rattle.command_words.specs.CommandLine.{arguments, has_command, operands, value_of}
 use Rattle.pddl_syntax.specs.declared.dialect.Dialect.{Dialect}
 use Rattle.pddl_syntax.specs.declared.dialect.Dialect.TheVariants.{Strips, Ipc}
 use Rattle.report_text.specs.declared.format.Format.{Format}
@@ -17,6 +18,47 @@ format_named name =
 
 -- the words of a command line, the first of which is the program's name, ask for an explanation
 abbrev pub asks_to_explain : List (List ℕ) → Bool
-asks_to_explain [] = false
-asks_to_explain (program ∷ []) = false
-asks_to_explain (program ∷ command ∷ words) = bytes_eq command (codes "explain")
+asks_to_explain words = has_command (codes "explain") words
+
+-- the dialect that is named, or else STRIPS
+abbrev pub dialect_or_default : Option (List ℕ) → Option Dialect
+dialect_or_default None = Some Strips
+dialect_or_default (Some name) = dialect_named name
+
+-- the dialect of the option `--dialect`
+abbrev pub dialect_asked : List (List ℕ) → Option Dialect
+dialect_asked words = dialect_or_default (value_of (codes "--dialect") words)
+
+-- the format that is named, or else lines
+abbrev pub format_or_default : Option (List ℕ) → Option Format
+format_or_default None = Some Lines
+format_or_default (Some name) = format_named name
+
+-- the format of the option `--format`
+abbrev pub format_asked : List (List ℕ) → Option Format
+format_asked words = format_or_default (value_of (codes "--format") words)
+
+-- the command line asks to judge plans in a dialect and a format: those of the files with these names
+pub record AsksToJudge (words : List (List ℕ)) (dialect : Dialect) (format : Format) (domain problem : List ℕ) (plans : List (List ℕ)) : Type 0 where
+  pub command : has_command (codes "judge") words ≡ true
+  pub in_dialect : dialect_asked (arguments words) ≡ Some dialect
+  pub in_format : format_asked (arguments words) ≡ Some format
+  pub of_domain : value_of (codes "--domain") (arguments words) ≡ Some domain
+  pub of_problem : value_of (codes "--problem") (arguments words) ≡ Some problem
+  pub of_plans : operands (arguments words) ≡ plans
+
+-- the command line asks to replay the steps of a file
+pub record AsksToReplay (words : List (List ℕ)) (dialect : Dialect) (domain problem steps : List ℕ) : Type 0 where
+  pub command : has_command (codes "replay") words ≡ true
+  pub in_dialect : dialect_asked (arguments words) ≡ Some dialect
+  pub of_domain : value_of (codes "--domain") (arguments words) ≡ Some domain
+  pub of_problem : value_of (codes "--problem") (arguments words) ≡ Some problem
+  pub of_steps : value_of (codes "--steps") (arguments words) ≡ Some steps
+
+-- the command line asks to explain what is wrong with a domain, a problem, and plans
+pub record AsksToExplain (words : List (List ℕ)) (dialect : Dialect) (domain problem : List ℕ) (plans : List (List ℕ)) : Type 0 where
+  pub command : has_command (codes "explain") words ≡ true
+  pub in_dialect : dialect_asked (arguments words) ≡ Some dialect
+  pub of_domain : value_of (codes "--domain") (arguments words) ≡ Some domain
+  pub of_problem : value_of (codes "--problem") (arguments words) ≡ Some problem
+  pub of_plans : operands (arguments words) ≡ plans

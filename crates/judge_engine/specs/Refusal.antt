@@ -13,12 +13,13 @@ use Rattle.pddl_syntax.specs.Trees.{text_fault}
 use Rattle.plan_cost.specs.declared.costs.CostedTask.{CostedTask}
 use Rattle.judge_engine.specs.declared.fault.JudgeFault.{JudgeFault}
 use Rattle.judge_engine.specs.declared.fault.JudgeFault.TheVariants.{TooLarge, TooManyPlanners, Domain, Problem, TooManyPlans, Steps, OutOfMemory, NoThread, Held}
-use Rattle.judge_engine.specs.Answer.{too_large, task_in, plan_count, most_planners, most_plans}
+use Rattle.explanations.specs.AllValid.{task_in}
+use Rattle.judge_engine.specs.Answer.{too_large, plan_count, most_planners, most_plans}
 use Rattle.judge_engine.specs.Bundle.{BundleValue}
 
 -- the fault lies in the texts, and not in the run over them
 abbrev pub IsOfTexts : JudgeFault → Type 0
-IsOfTexts (TooLarge place) = ⊤
+IsOfTexts (TooLarge large) = ⊤
 IsOfTexts TooManyPlanners = ⊤
 IsOfTexts (Domain fault) = ⊤
 IsOfTexts (Problem fault) = ⊤
@@ -45,7 +46,7 @@ abbrev pub ReadingCallsFor : Dialect → List ℕ → List ℕ → JudgeFault �
 ReadingCallsFor dialect domain problem (Domain fault) = IsFaultOf domain (domain_in_text dialect domain) fault
 ReadingCallsFor dialect domain problem (Problem fault) =
     (value : DomainValue) × (domain_in_text dialect domain ≡ Some value) × IsFaultOf problem (problem_in_text dialect value problem) fault
-ReadingCallsFor dialect domain problem (TooLarge place) = ⊥
+ReadingCallsFor dialect domain problem (TooLarge large) = ⊥
 ReadingCallsFor dialect domain problem TooManyPlanners = ⊥
 ReadingCallsFor dialect domain problem TooManyPlans = ⊥
 ReadingCallsFor dialect domain problem (Steps fault) = ⊥
@@ -56,7 +57,7 @@ ReadingCallsFor dialect domain problem (Held job) = ⊥
 -- the refusal that the texts of a run call for in a dialect, the first of: a text that is too large, too many planners, what is wrong in
 -- the domain or the problem, too many plans
 abbrev pub TextsCallForIn : Dialect → List ℕ → List ℕ → List BundleValue → JudgeFault → Type 0
-TextsCallForIn dialect domain problem bundles (TooLarge place) = too_large domain problem bundles ≡ Some place
+TextsCallForIn dialect domain problem bundles (TooLarge large) = too_large domain problem bundles ≡ Some large
 TextsCallForIn dialect domain problem bundles TooManyPlanners = (too_large domain problem bundles ≡ None) × (most_planners < length bundles)
 TextsCallForIn dialect domain problem bundles (Domain fault) =
     (too_large domain problem bundles ≡ None) × (length bundles ≤ most_planners) × ReadingCallsFor dialect domain problem (Domain fault)

@@ -1,11 +1,15 @@
 -- A run over files.
 
 use Rattle.std.specs.Io.KnownBytes.{Appends}
-use Rattle.std.specs.Prelude.{◌≡◌, ℕ, List, [], ◌∷◌, Option, Some}
+use Rattle.std.specs.Prelude.{◌≡◌, ◌⊎◌, ℕ, true, List, [], ◌∷◌, map, Option, Some, codes, bytes_eq, if◌then◌else◌}
+use Rattle.std.specs.List.{AllZip}
 use Rattle.pddl_syntax.specs.declared.dialect.Dialect.{Dialect}
 use Rattle.report_text.specs.declared.format.Format.{Format}
+use Rattle.explanations.specs.declared.source.SourceText.{SourceText}
+use Rattle.explanations.specs.AllValid.{all_valid_for, task_in}
 use Rattle.judge_engine.specs.Answer.{answer_as}
 use Rattle.judge_engine.specs.Bundle.{BundleValue}
+use Rattle.judge_engine.specs.Command.{AsksToJudge, AsksToReplay, AsksToExplain}
 use Rattle.judge_engine.specs.Outlet.{AppendsFront}
 use Rattle.judge_engine.specs.ReplayAnswer.{replay_answer_in}
 
@@ -63,3 +67,53 @@ pub record CutsReplay (dialect : Dialect) (MayHold : List ℕ → List ℕ → T
   pub report : List ℕ
   pub is_report : IsReplayOver dialect MayHold domain problem steps report
   pub went_out : AppendsFront old new report
+
+-- a file of plans as `explain` reads it: the word `-` is standard input
+abbrev pub file_named : List ℕ → List ℕ
+file_named name = if bytes_eq name (codes "-") then codes "/dev/stdin" else name
+
+-- the texts that the files of plans with these names may hold, in their order
+abbrev pub AreTexts : (List ℕ → List ℕ → Type 0) → List (List ℕ) → List (List ℕ) → Type 0
+AreTexts MayHold names texts = AllZip (λ name text. MayHold (file_named name) text) names texts
+
+-- all plans of what the files with these names may hold are valid for the domain and the problem that the others may hold
+pub record AreAllValidOver (dialect : Dialect) (MayHold : List ℕ → List ℕ → Type 0) (domain problem : List ℕ) (plans : List (List ℕ)) : Type 0 where
+  pub domain_text : List ℕ
+  pub problem_text : List ℕ
+  pub files : List SourceText
+  pub of_domain : MayHold domain domain_text
+  pub of_problem : MayHold problem problem_text
+  pub of_plans : AreTexts MayHold plans (map (λ file. file.bytes.now) files)
+  pub are_valid : all_valid_for (task_in dialect domain_text problem_text) files ≡ true
+
+-- the report that a command line asks for went out, and nothing else
+pub record WritesJudged (MayHold : List ℕ → List ℕ → Type 0) (words : List (List ℕ)) (old new : Option (List ℕ)) : Type 0 where
+  pub dialect : Dialect
+  pub format : Format
+  pub domain : List ℕ
+  pub problem : List ℕ
+  pub plans : List (List ℕ)
+  pub asked : AsksToJudge words dialect format domain problem plans
+  pub written : WritesReport dialect format MayHold domain problem plans old new
+
+-- the replay that a command line asks for went out, and nothing else
+pub record WritesReplayed (MayHold : List ℕ → List ℕ → Type 0) (words : List (List ℕ)) (old new : Option (List ℕ)) : Type 0 where
+  pub dialect : Dialect
+  pub domain : List ℕ
+  pub problem : List ℕ
+  pub steps : List ℕ
+  pub asked : AsksToReplay words dialect domain problem steps
+  pub written : WritesReplay dialect MayHold domain problem steps old new
+
+-- all plans are valid of which a command line asks for an explanation
+pub record AreExplainedValid (MayHold : List ℕ → List ℕ → Type 0) (words : List (List ℕ)) : Type 0 where
+  pub dialect : Dialect
+  pub domain : List ℕ
+  pub problem : List ℕ
+  pub plans : List (List ℕ)
+  pub asked : AsksToExplain words dialect domain problem plans
+  pub valid : AreAllValidOver dialect MayHold domain problem plans
+
+-- what a command line asks for went out; of an explanation, that all plans are valid
+abbrev pub Answers : (List ℕ → List ℕ → Type 0) → List (List ℕ) → Option (List ℕ) → Option (List ℕ) → Type 0
+Answers MayHold words old new = WritesJudged MayHold words old new ⊎ WritesReplayed MayHold words old new ⊎ AreExplainedValid MayHold words

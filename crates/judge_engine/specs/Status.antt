@@ -6,7 +6,7 @@ use Rattle.judge_engine.specs.declared.fault.JudgeFault.TheVariants.{TooLarge, T
 
 -- 1 where an input is refused, 3 where memory or threads are missing
 abbrev pub status_of : JudgeFault → ℕ
-status_of (TooLarge place) = 1
+status_of (TooLarge large) = 1
 status_of TooManyPlanners = 1
 status_of (Domain fault) = 1
 status_of (Problem fault) = 1

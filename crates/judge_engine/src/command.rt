@@ -1,18 +1,18 @@
 //! The command line.
 //!
-//! [`parse`] turns the words of the command line into a [`Request`]. The words are read by `clap`, whose texts carry no promise here.
+//! [`parse`] turns the words of the command line into a [`Request`]. `clap` says which command lines there are, and its texts carry no promise here.
 
-ghost use Rattle.std.specs.Prelude.{◌≡◌, false, map, IfOk};
+ghost use Rattle.std.specs.Prelude.{◌≡◌, true, codes, map, IfOk, IfSome};
 ghost use Rattle.std.specs.String.{string_bytes};
-ghost use Rattle.judge_engine.specs.Command.{asks_to_explain, dialect_named, format_named};
-ghost use Rattle.judge_engine.specs.Requests.{IsNoExplanation};
+ghost use Rattle.command_words.specs.CommandLine.{has_command};
+ghost use Rattle.judge_engine.specs.Requests.{IsAskedFor};
 
+use crate::options::{dialect_asked, format_asked};
 use crate::requests::Request;
 pub use crate::requests::{ExplainRequest, JudgeRequest, ReplayRequest};
 use clap::error::ErrorKind;
 use clap::{Arg, ArgAction, Command, Error, value_parser};
-use pddl_reader::Dialect;
-use report_text::Format;
+use command_words::{arguments, asks_for_help, has_command, operands, value_of};
 use std::alloc::{AllocError, Global};
 
 /// The most threads that may judge.
@@ -42,6 +42,7 @@ Exit status:
   2  the command line was refused
   3  memory ran out, or a thread could not be started
   4  the report could not be written
+explain ends with 0 only if the texts are read and all plans are valid, and with 1 if something is wrong.
 
 Example:
   plan_judge judge --domain domain.pddl --problem problem.pddl planner-1 planner-2
@@ -134,126 +135,143 @@ Example:
 
 Documents, in the folder docs of the repository: TUTORIAL.md, SPECIFICATION.md.";
 
-/// What the words of a command line ask for; the first is the program's name. Only where the second is `explain` something is to be explained.
+/// What the words of a command line ask for; the first is the program's name.
+///
+/// `clap` says whether there is such a command line; what it asks for is read from its words.
 pub(crate) fn parse<'a>(alloc: Global, words: &'a [String]) -> Result<Request<'a>, AllocError>
-    ensures { IfOk result (λ request. asks_to_explain (map string_bytes words.now) ≡ false → IsNoExplanation request) }
+    ensures { IfOk result (IsAskedFor (map string_bytes words.now)) }
 {
     match program(alloc)?.try_get_matches_from(words) {
         Ok(matches) => {
-            if let Some(judge) = matches.subcommand_matches("judge")
-                && let Some(domain) = judge.get_str("domain")
-                && let Some(problem) = judge.get_str("problem")
-                && let Some(plans) = judge.get_strs("plans")
-                && let Some(dialect) = judge.get_str("dialect")
-                && let Some(dialect) = dialect_named(dialect)
-                && let Some(format) = judge.get_str("format")
-                && let Some(format) = format_named(format)
-                && let Some(workers) = judge.get_one::<u32>("workers")
-                && 1 <= workers
-                && workers <= MOST_WORKERS
-            {
-                return Ok(Request::Judge(JudgeRequest {
-                    domain,
-                    problem,
-                    plans: plans.to_vec(alloc)?,
-                    dialect,
-                    format,
-                    workers,
-                }));
-            }
-            if let Some(replay) = matches.subcommand_matches("replay")
-                && let Some(domain) = replay.get_str("domain")
-                && let Some(problem) = replay.get_str("problem")
-                && let Some(steps) = replay.get_str("steps")
-                && let Some(dialect) = replay.get_str("dialect")
-                && let Some(dialect) = dialect_named(dialect)
-            {
-                return Ok(Request::Replay(ReplayRequest {
-                    domain,
-                    problem,
-                    steps,
-                    dialect,
-                }));
-            }
-            if asks_to_explain(words)
-                && let Some(explain) = matches.subcommand_matches("explain")
-                && let Some(domain) = explain.get_str("domain")
-                && let Some(problem) = explain.get_str("problem")
-                && let Some(dialect) = explain.get_str("dialect")
-                && let Some(dialect) = dialect_named(dialect)
-            {
-                let plans = match explain.get_strs("plans") {
-                    Some(plans) => plans.to_vec(alloc)?,
-                    None => Vec::new(alloc),
-                };
-                return Ok(Request::Explain(ExplainRequest {
-                    domain,
-                    problem,
-                    plans,
-                    dialect,
-                    trace: explain.get_flag("trace"),
-                }));
+            let workers = match matches.subcommand_matches("judge") {
+                Some(judge) => judge.get_one::<u32>("workers"),
+                None => None,
+            };
+            let trace = match matches.subcommand_matches("explain") {
+                Some(explain) => explain.get_flag("trace"),
+                None => false,
+            };
+            if let Some(request) = request_of(alloc, words, workers, trace)? {
+                return Ok(request);
             }
             let text = String::from_str(alloc, "a command is missing; try --help\n")?;
             Ok(Request::Refused(text))
         }
         Err(error) => {
-            let request = refusal(alloc, error)?;
+            let request = refusal(alloc, words, error)?;
             Ok(request)
         }
     }
 }
 
-/// Whether the second word is `explain`.
-fn asks_to_explain(words: &[String]) -> bool
-    ensures { result ≡ asks_to_explain (map string_bytes words.now) }
+/// What the words of a command line ask for, if they name a command with all that it needs.
+fn request_of<'a>(
+    alloc: Global,
+    words: &'a [String],
+    workers: Option<u32>,
+    trace: bool,
+) -> Result<Option<Request<'a>>, AllocError>
+    ensures { IfOk result (λ request. IfSome request (IsAskedFor (map string_bytes words.now))) }
 {
-    match words {
-        [_, word, ..] => word.as_str() == "explain",
-        _ => false,
+    if has_command(words, "judge") {
+        return judge_request(alloc, words, workers);
     }
+    if has_command(words, "replay") {
+        return Ok(replay_request(words));
+    }
+    if has_command(words, "explain") {
+        return explain_request(alloc, words, trace);
+    }
+    Ok(None)
 }
 
-/// The dialect with a name.
-fn dialect_named(name: &str) -> Option<Dialect>
-    ensures { result ≡ dialect_named name.now }
+/// What the command `judge` asks for.
+fn judge_request<'a>(
+    alloc: Global,
+    words: &'a [String],
+    workers: Option<u32>,
+) -> Result<Option<Request<'a>>, AllocError>
+    requires { has_command (codes "judge") (map string_bytes words.now) ≡ true }
+    ensures { IfOk result (λ request. IfSome request (IsAskedFor (map string_bytes words.now))) }
 {
-    if name == "strips" {
-        Some(Dialect::Strips)
-    } else if name == "ipc" {
-        Some(Dialect::Ipc)
-    } else {
-        None
+    let arguments = arguments(words);
+    if let Some(domain) = value_of(arguments, "--domain")
+        && let Some(problem) = value_of(arguments, "--problem")
+        && let Some(dialect) = dialect_asked(arguments)
+        && let Some(format) = format_asked(arguments)
+        && let Some(workers) = workers
+        && 1 <= workers
+        && workers <= MOST_WORKERS
+    {
+        let plans = operands(alloc, arguments)?;
+        return Ok(Some(Request::Judge(JudgeRequest {
+            domain,
+            problem,
+            plans,
+            dialect,
+            format,
+            workers,
+        })));
     }
+    Ok(None)
 }
 
-/// The format with a name.
-fn format_named(name: &str) -> Option<Format>
-    ensures { result ≡ format_named name.now }
+/// What the command `replay` asks for.
+fn replay_request<'a>(words: &'a [String]) -> Option<Request<'a>>
+    requires { has_command (codes "replay") (map string_bytes words.now) ≡ true }
+    ensures { IfSome result (IsAskedFor (map string_bytes words.now)) }
 {
-    if name == "lines" {
-        Some(Format::Lines)
-    } else if name == "tsv" {
-        Some(Format::Table)
-    } else if name == "json" {
-        Some(Format::Json)
-    } else {
-        None
+    let arguments = arguments(words);
+    let domain = value_of(arguments, "--domain")?;
+    let problem = value_of(arguments, "--problem")?;
+    let steps = value_of(arguments, "--steps")?;
+    let dialect = dialect_asked(arguments)?;
+    Some(Request::Replay(ReplayRequest {
+        domain,
+        problem,
+        steps,
+        dialect,
+    }))
+}
+
+/// What the command `explain` asks for.
+fn explain_request<'a>(
+    alloc: Global,
+    words: &'a [String],
+    trace: bool,
+) -> Result<Option<Request<'a>>, AllocError>
+    requires { has_command (codes "explain") (map string_bytes words.now) ≡ true }
+    ensures { IfOk result (λ request. IfSome request (IsAskedFor (map string_bytes words.now))) }
+{
+    let arguments = arguments(words);
+    if let Some(domain) = value_of(arguments, "--domain")
+        && let Some(problem) = value_of(arguments, "--problem")
+        && let Some(dialect) = dialect_asked(arguments)
+    {
+        let plans = operands(alloc, arguments)?;
+        return Ok(Some(Request::Explain(ExplainRequest {
+            domain,
+            problem,
+            plans,
+            dialect,
+            trace,
+        })));
     }
+    Ok(None)
 }
 
 /// What a command line asks for that names no run: help, or nothing that there is.
-fn refusal<'a>(alloc: Global, error: Error) -> Result<Request<'a>, AllocError>
-    ensures { IfOk result (λ request. IsNoExplanation request) }
+fn refusal<'a>(alloc: Global, words: &[String], error: Error) -> Result<Request<'a>, AllocError>
+    ensures { IfOk result (IsAskedFor (map string_bytes words.now)) }
 {
     if error.kind() == ErrorKind::OutOfMemory {
         return Err(AllocError);
     }
     let text = format!(in alloc; "{error}")?;
-    if error.use_stderr() {
-        Ok(Request::Refused(text))
-    } else {
+    if !error.use_stderr() && asks_for_help(words) {
         Ok(Request::Show(text))
+    } else {
+        Ok(Request::Refused(text))
     }
 }
 

@@ -6,14 +6,16 @@ ghost use Rattle.std.specs.Prelude.{◌≡◌, ◌≢◌, ◌↔◌, ◌+◌, �
 ghost use Rattle.judge_bench.specs.Findings.{findings_of};
 ghost use Rattle.pddl_syntax.specs.declared.fault.ReadFault as read_fault;
 ghost use Rattle.pddl_syntax.specs.Trees.{text_fault};
-ghost use Rattle.judge_engine.specs.Answer.{answer, answer_as, answer_in, task_in, planner_of, too_large, plan_count, most_planners, most_plans};
+ghost use Rattle.explanations.specs.AllValid.{task_in};
+ghost use Rattle.judge_engine.specs.Answer.{answer, answer_as, answer_in, planner_of, too_large, plan_count, most_planners, most_plans};
 ghost use Rattle.judge_engine.specs.Plans.{plans_of_files};
 ghost use Rattle.judge_engine.specs.Refusal.{IsOfTexts, ReadingCallsFor, TextsCallFor, TextsCallForIn};
 ghost use Rattle.report_text.specs.Format.{report};
+ghost use Rattle.judge_engine.specs.declared.fault.Input.{Input};
 ghost use Rattle.judge_engine.specs.declared.fault.JudgeFault.TheVariants.{OutOfMemory, TooLarge, TooManyPlanners, TooManyPlans, Domain, Held};
 
 use crate::bundle::Bundle;
-use crate::fault::JudgeFault;
+use crate::fault::{Input, JudgeFault};
 use crate::inlet::FILE_LIMIT;
 use crate::planner::push_planner;
 use crate::plans::cut_plans;
@@ -52,7 +54,7 @@ pub fn judge_bytes<R: Threads + Wait + Sync, G: Gate + Sync>(
     ensures held { IfErr result (λ fault. (job : ℕ) → fault ≡ Held job → G.may_hold gate.now job) }
 
     // What takes no memory to find is always told.
-    ensures large { (place : ℕ) → (result ≡ Err (TooLarge place)) ↔ (too_large domain.now problem.now bundles.now ≡ Some place) }
+    ensures large { (large : Input) → (result ≡ Err (TooLarge large)) ↔ (too_large domain.now problem.now bundles.now ≡ Some large) }
     ensures planners { too_large domain.now problem.now bundles.now ≡ None → most_planners < length bundles.now → result ≡ Err TooManyPlanners }
     ensures domain_text { (e : read_fault.ReadFault) → too_large domain.now problem.now bundles.now ≡ None → length bundles.now ≤ most_planners
         → text_fault domain.now ≡ Some e → result ≡ Err (Domain e) }
@@ -89,7 +91,7 @@ pub fn judge_bytes_in<R: Threads + Wait + Sync, G: Gate + Sync>(
     ensures held { IfErr result (λ fault. (job : ℕ) → fault ≡ Held job → G.may_hold gate.now job) }
 
     // What takes no memory to find is always told.
-    ensures large { (place : ℕ) → (result ≡ Err (TooLarge place)) ↔ (too_large domain.now problem.now bundles.now ≡ Some place) }
+    ensures large { (large : Input) → (result ≡ Err (TooLarge large)) ↔ (too_large domain.now problem.now bundles.now ≡ Some large) }
     ensures planners { too_large domain.now problem.now bundles.now ≡ None → most_planners < length bundles.now → result ≡ Err TooManyPlanners }
     ensures domain_text { (e : read_fault.ReadFault) → too_large domain.now problem.now bundles.now ≡ None → length bundles.now ≤ most_planners
         → text_fault domain.now ≡ Some e → result ≡ Err (Domain e) }
@@ -141,13 +143,13 @@ pub fn judge_bytes_as<R: Threads + Wait + Sync, G: Gate + Sync>(
     ensures held { IfErr result (λ fault. (job : ℕ) → fault ≡ Held job → G.may_hold gate.now job) }
 
     // What takes no memory to find is always told.
-    ensures large { (place : ℕ) → (result ≡ Err (TooLarge place)) ↔ (too_large domain.now problem.now bundles.now ≡ Some place) }
+    ensures large { (large : Input) → (result ≡ Err (TooLarge large)) ↔ (too_large domain.now problem.now bundles.now ≡ Some large) }
     ensures planners { too_large domain.now problem.now bundles.now ≡ None → most_planners < length bundles.now → result ≡ Err TooManyPlanners }
     ensures domain_text { (e : read_fault.ReadFault) → too_large domain.now problem.now bundles.now ≡ None → length bundles.now ≤ most_planners
         → text_fault domain.now ≡ Some e → result ≡ Err (Domain e) }
 {
     match too_large(domain, problem, bundles) {
-        Some(place) => Err(JudgeFault::TooLarge(place)),
+        Some(large) => Err(JudgeFault::TooLarge(large)),
         None => {
             if bundles.len() > MOST_PLANNERS {
                 return Err(JudgeFault::TooManyPlanners);
@@ -160,19 +162,19 @@ pub fn judge_bytes_as<R: Threads + Wait + Sync, G: Gate + Sync>(
     }
 }
 
-/// The place of the first text that is over the limit of a file: 0 is the domain, 1 the problem, and 2 + k the k-th file from 0.
-fn too_large(domain: &[u8], problem: &[u8], bundles: &[Bundle]) -> Option<usize>
+/// The first input that is over the limit of a file.
+fn too_large(domain: &[u8], problem: &[u8], bundles: &[Bundle]) -> Option<Input>
     ensures { result ≡ too_large domain.now problem.now bundles.now }
 {
     if domain.len() > FILE_LIMIT {
-        return Some(0);
+        return Some(Input::Domain);
     }
     if problem.len() > FILE_LIMIT {
-        return Some(1);
+        return Some(Input::Problem);
     }
     for (number, bundle) in bundles.iter().enumerate() {
         if bundle.bytes().len() > FILE_LIMIT {
-            return Some(number + 2);
+            return Some(Input::Plans(number));
         }
     }
     None
@@ -190,7 +192,7 @@ pub(crate) fn read_task(
     ensures refusal { IfErr result (λ fault. fault ≢ OutOfMemory → task_in dialect domain.now problem.now ≡ None) }
     ensures cause { IfErr result (λ fault. fault ≢ OutOfMemory → ReadingCallsFor dialect domain.now problem.now fault) }
     ensures domain_text { (e : read_fault.ReadFault) → text_fault domain.now ≡ Some e → result ≡ Err (Domain e) }
-    ensures reader { IfErr result (λ fault. (place : ℕ) → fault ≢ TooLarge place) }
+    ensures reader { IfErr result (λ fault. (large : Input) → fault ≢ TooLarge large) }
 {
     let domain = match read_domain_in(alloc, seed, dialect, domain) {
         Ok(domain) => domain,

@@ -1,4 +1,8 @@
 //! The command `explain`: the texts of the files that it names, and what is to be said of them.
+ghost use Rattle.std.specs.Prelude.{◌≡◌, ◌≤◌, List, true, map, length, IfOk};
+ghost use Rattle.explanations.specs.AllValid.{all_valid_for, task_in};
+ghost use Rattle.judge_engine.specs.Run.{AreAllValidOver, AreTexts, file_named};
+
 use crate::Seed;
 use crate::command::ExplainRequest;
 use crate::inlet::{Absence, FILE_LIMIT, InFault, Sources};
@@ -48,7 +52,10 @@ pub(crate) fn explain_files<S: Sources>(
     files: &ExplainRequest<'_>,
     sources: &S,
     colors: bool,
-) -> Result<Explained, AllocError> {
+) -> Result<Explained, AllocError>
+    ensures { IfOk result (λ explained. explained.all_valid ≡ true
+        → AreAllValidOver files.now.dialect (S.may_hold sources.now) files.now.domain.now files.now.problem.now (map (λ name. name.now) files.now.plans.items)) }
+{
     match explanation_of(alloc, seed, files, sources, colors) {
         Ok(Explanation { text, all_valid }) => Ok(Explained {
             report: Report::from_bytes(text.into_bytes()),
@@ -76,7 +83,10 @@ fn explanation_of<S: Sources>(
     files: &ExplainRequest<'_>,
     sources: &S,
     colors: bool,
-) -> Result<Explanation, Unread> {
+) -> Result<Explanation, Unread>
+    ensures { IfOk result (λ explanation. explanation.all_valid ≡ true
+        → AreAllValidOver files.now.dialect (S.may_hold sources.now) files.now.domain.now files.now.problem.now (map (λ name. name.now) files.now.plans.items)) }
+{
     let domain = read(alloc, sources, files.domain, files.domain)?;
     let problem = read(alloc, sources, files.problem, files.problem)?;
     let plans = read_plans(alloc, sources, files.plans.as_slice())?;
@@ -96,11 +106,11 @@ fn explain_read(
     domain: &NamedText,
     problem: &NamedText,
     plans: &[NamedText],
-) -> Result<Explanation, AllocError> {
-    let mut sources = Vec::with_capacity(alloc, plans.len())?;
-    for plan in plans {
-        sources.push(source(plan))?;
-    }
+) -> Result<Explanation, AllocError>
+    ensures { IfOk result (λ explanation. (files : List SourceText) × (map (λ file. file.bytes.now) files ≡ map (λ plan. plan.bytes.items) plans.now)
+        × (explanation.all_valid ≡ all_valid_for (task_in options.dialect domain.now.bytes.items problem.now.bytes.items) files)) }
+{
+    let sources = sources_of(alloc, plans)?;
     explain(
         alloc,
         seed,
@@ -111,8 +121,21 @@ fn explain_read(
     )
 }
 
+/// The files of plans as the explanation takes them.
+fn sources_of<'a>(alloc: Global, plans: &'a [NamedText]) -> Result<Vec<SourceText<'a>>, AllocError>
+    ensures { IfOk result (λ sources. map (λ file. file.bytes.now) sources.items ≡ map (λ plan. plan.bytes.items) plans.now) }
+{
+    let mut sources = Vec::with_capacity(alloc, plans.len())?;
+    for plan in plans {
+        sources.push(source(plan))?;
+    }
+    Ok(sources)
+}
+
 /// A file as the explanation takes it.
-fn source(file: &NamedText) -> SourceText<'_> {
+fn source(file: &NamedText) -> SourceText<'_>
+    ensures { result.bytes.now ≡ file.now.bytes.items }
+{
     SourceText {
         name: file.name.as_bytes(),
         bytes: file.bytes.as_slice(),
@@ -124,26 +147,31 @@ fn read_plans<S: Sources>(
     alloc: Global,
     sources: &S,
     names: &[&str],
-) -> Result<Vec<NamedText>, Unread> {
+) -> Result<Vec<NamedText>, Unread>
+    ensures { IfOk result (λ plans. AreTexts (S.may_hold sources.now) (map (λ name. name.now) names.now) (map (λ plan. plan.bytes.items) plans.items)) }
+{
     let mut plans = Vec::with_capacity(alloc, names.len())?;
     for name in names {
-        let file = if *name == STANDARD_INPUT {
-            STANDARD_INPUT_FILE
-        } else {
-            name
-        };
-        plans.push(read(alloc, sources, name, file)?)?;
+        plans.push(read(alloc, sources, name, file_named(name))?)?;
     }
     Ok(plans)
 }
 
+/// The file of plans with a name.
+fn file_named(name: &str) -> &str
+    ensures { result.now ≡ file_named name.now }
+{
+    if name == STANDARD_INPUT {
+        STANDARD_INPUT_FILE
+    } else {
+        name
+    }
+}
+
 /// The text of a file that is called by a name.
-fn read<S: Sources>(
-    alloc: Global,
-    sources: &S,
-    name: &str,
-    file: &str,
-) -> Result<NamedText, Unread> {
+fn read<S: Sources>(alloc: Global, sources: &S, name: &str, file: &str) -> Result<NamedText, Unread>
+    ensures { IfOk result (λ text. S.may_hold sources.now file.now text.bytes.items) }
+{
     match sources.text(file) {
         Ok(bytes) if bytes.len() <= FILE_LIMIT => Ok(NamedText {
             name: String::from_str(alloc, name)?,

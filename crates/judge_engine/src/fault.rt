@@ -6,38 +6,40 @@ use judge_bench::RunFault;
 use pddl_reader::ReadFault;
 use std::alloc::{AllocError, AllocFailed};
 pub use steps_text::{StepsFault, StepsFaultKind};
-use thiserror::Error;
+
+/// An input of a run or of a replay. They are read in this order, but for the last: a replay has steps and no plans.
+#[derive(Clone, Copy, Debug, PartialEq, Eq)]
+pub enum Input {
+    /// The domain.
+    Domain,
+    /// The problem.
+    Problem,
+    /// The file of plans with this index.
+    Plans(usize),
+    /// The steps of a replay.
+    Steps,
+}
 
 /// Why a run gives no report. Of several causes the first in this order is told; the last three may come in another order.
-#[derive(Clone, Copy, Debug, PartialEq, Eq, Error)]
+#[derive(Clone, Copy, Debug, PartialEq, Eq)]
 pub enum JudgeFault {
-    /// A text is longer than 16,777,216 bytes: 0 is the domain, 1 the problem, and 2 + k the k-th file of plans, counted from 0, or 2 the
-    /// steps of a replay. The least such number is told.
-    #[error("text {0} is too large")]
-    TooLarge(usize),
+    /// This input is longer than 16,777,216 bytes, and none before it is.
+    TooLarge(Input),
     /// There are more than 64 planners.
-    #[error("more than 64 planners")]
     TooManyPlanners,
     /// The domain is refused.
-    #[error("the domain is refused")]
     Domain(ReadFault),
     /// The problem is refused.
-    #[error("the problem is refused")]
     Problem(ReadFault),
     /// There are more than 65,536 plans.
-    #[error("more than 65536 plans")]
     TooManyPlans,
     /// The steps of a replay are refused.
-    #[error("the steps are refused")]
     Steps(StepsFault),
     /// Memory ran out.
-    #[error("out of memory")]
     OutOfMemory,
     /// A thread could not be started.
-    #[error("no thread")]
     NoThread,
     /// A gate held the job with this number.
-    #[error("job {0} is held")]
     Held(u32),
 }
 

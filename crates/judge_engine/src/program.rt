@@ -3,17 +3,18 @@
 //! [`main_with`] does all that `main` does, over sources and outlets that are handed in, so that tests can make them fail.
 ghost use Rattle.std.specs.Prelude.{◌≡◌, ◌↔◌, ◌⊎◌, ◌<◌, ◌≤◌, true, false, map, IfOk};
 ghost use Rattle.std.specs.String.{string_bytes};
+ghost use Rattle.command_words.specs.CommandLine.{asks_for_help};
 ghost use Rattle.judge_engine.specs.Command.{asks_to_explain};
 ghost use Rattle.std.specs.Io.KnownBytes.{Appends};
 ghost use Rattle.judge_engine.specs.Outlet.{AppendsFront};
-ghost use Rattle.judge_engine.specs.Run.{IsReportOver, WritesReport, CutsReport, IsReplayOver, WritesReplay, CutsReplay, IsFile, AreFiles};
+ghost use Rattle.judge_engine.specs.Run.{Answers, AreAllValidOver, IsReportOver, WritesReport, CutsReport, IsReplayOver, WritesReplay, CutsReplay, IsFile, AreFiles};
 
 use crate::Seed;
 use crate::bundle::Bundle;
 use crate::command::{ExplainRequest, JudgeRequest, ReplayRequest, parse};
 use crate::engine::judge_bytes_as;
 use crate::explain::explain_files;
-use crate::fault::JudgeFault;
+use crate::fault::{Input, JudgeFault};
 use crate::inlet::{InFault, Sources};
 use crate::outlet::{Outlet, write_bytes, write_report};
 use crate::replay::replay_bytes_in;
@@ -70,6 +71,7 @@ pub fn main_with<R: AllocGlobal + Threads + Wait + Sync, S: Sources + Sync, O: O
 ) -> u8
     requires { O.failed out.old ≡ false }
     ensures status { result ≤ 4 }
+    ensures written { result ≡ 0 → asks_for_help (map string_bytes words.now) ≡ false → Answers (S.may_hold sources.now) (map string_bytes words.now) (O.taken out.old) (O.taken out.new) }
     ensures unwritten { (result ≡ 4) ↔ (O.failed out.new ≡ true) }
     ensures untouched { asks_to_explain (map string_bytes words.now) ≡ false → 0 < result → result < 4 → out.new ≡ out.old }
 {
@@ -146,6 +148,7 @@ pub fn explain_with<S: Sources, O: Outlet, E: Outlet>(
 ) -> u8
     requires { O.failed out.old ≡ false }
     ensures status { result ≤ 4 }
+    ensures valid { result ≡ 0 → AreAllValidOver files.now.dialect (S.may_hold sources.now) files.now.domain.now files.now.problem.now (map (λ name. name.now) files.now.plans.items) }
     ensures unwritten { (result ≡ 4) ↔ (O.failed out.new ≡ true) }
     ensures lacking { result ≡ 3 → out.new ≡ out.old }
 {
@@ -236,8 +239,12 @@ fn judge_files<R: AllocGlobal + Threads + Wait + Sync, S: Sources + Sync>(
     ) {
         Ok(report) => Ok(report),
         Err(fault) => {
-            let large = large_file(files, fault);
-            Err(stop_for(alloc, fault, large, domain.as_slice(), problem.as_slice())?)
+            let names = Names {
+                domain: files.domain,
+                problem: files.problem,
+                others: files.plans.as_slice(),
+            };
+            Err(stop_for(alloc, fault, names, domain.as_slice(), problem.as_slice())?)
         }
     }
 }
@@ -264,8 +271,12 @@ fn replay_files<S: Sources>(
     ) {
         Ok(report) => Ok(report),
         Err(fault) => {
-            let large = large_replay_file(files, fault);
-            Err(stop_for(alloc, fault, large, domain.as_slice(), problem.as_slice())?)
+            let names = Names {
+                domain: files.domain,
+                problem: files.problem,
+                others: &[files.steps],
+            };
+            Err(stop_for(alloc, fault, names, domain.as_slice(), problem.as_slice())?)
         }
     }
 }
@@ -320,18 +331,42 @@ fn read<S: Sources>(alloc: Global, sources: &S, name: &str) -> Result<Vec<u8>, S
     }
 }
 
-/// What is told where a run gives no report. A text that is too large is that of the file of this name.
+/// The names of the files of a run: `others` are the planners' files, or the steps of a replay.
+#[derive(Clone, Copy)]
+struct Names<'a> {
+    domain: &'a str,
+    problem: &'a str,
+    others: &'a [&'a str],
+}
+
+impl<'a> Names<'a> {
+    /// The name of the file of an input.
+    fn of(self, input: Input) -> &'a str {
+        let index = match input {
+            Input::Domain => return self.domain,
+            Input::Problem => return self.problem,
+            Input::Plans(index) => index,
+            Input::Steps => 0,
+        };
+        match self.others.get(index) {
+            Some(name) => name,
+            None => "a file",
+        }
+    }
+}
+
+/// What is told where a run gives no report.
 fn stop_for(
     alloc: Global,
     fault: JudgeFault,
-    large: &str,
+    names: Names<'_>,
     domain: &[u8],
     problem: &[u8],
 ) -> Result<Stop, AllocError> {
     let mut text = Text::new(alloc);
     match fault {
-        JudgeFault::TooLarge(_) => {
-            text.push(large.as_bytes())?;
+        JudgeFault::TooLarge(input) => {
+            text.push(names.of(input).as_bytes())?;
             text.push(b" is too large")?;
         }
         JudgeFault::TooManyPlanners => text.push(b"more than 64 planners")?,
@@ -353,27 +388,6 @@ fn stop_for(
         Ok(Stop::Input(text.into_bytes()))
     } else {
         Ok(Stop::Lacking(text.into_bytes()))
-    }
-}
-
-/// The name of the file whose text is too large: 0 is the domain, 1 the problem, and 2 + k the k-th file of plans.
-fn large_file<'a>(files: &JudgeRequest<'a>, fault: JudgeFault) -> &'a str {
-    match fault {
-        JudgeFault::TooLarge(0) => files.domain,
-        JudgeFault::TooLarge(place) if place > 1 => match files.plans.get(place - 2) {
-            Some(name) => name,
-            None => files.problem,
-        },
-        _ => files.problem,
-    }
-}
-
-/// The name of the file whose text is too large: 0 is the domain, 1 the problem, and 2 the steps.
-fn large_replay_file<'a>(files: &ReplayRequest<'a>, fault: JudgeFault) -> &'a str {
-    match fault {
-        JudgeFault::TooLarge(0) => files.domain,
-        JudgeFault::TooLarge(2) => files.steps,
-        _ => files.problem,
     }
 }
 

@@ -5,12 +5,12 @@
 ghost use Rattle.std.specs.Prelude.{◌≡◌, ◌≢◌, ◌≤◌, ◌⊎◌, length, IfNone, IfOk, IfErr, Some, None, Err};
 ghost use Rattle.steps_text.specs.StepsTexts.{steps_text};
 ghost use Rattle.steps_text.specs.Telling.{value_of};
-ghost use Rattle.judge_engine.specs.ReplayAnswer.{replay_answer, replay_answer_in, replay_of, replies_to, too_large_for_replay, ReplayCallsFor, ReplayCallsForIn};
+ghost use Rattle.judge_engine.specs.ReplayAnswer.{IsLawfulReplay, replay_answer, replay_answer_in, replay_of, replies_to, too_large_for_replay, ReplayCallsFor, ReplayCallsForIn};
 ghost use Rattle.judge_engine.specs.ReplayText.{reply_lines};
 ghost use Rattle.judge_engine.specs.declared.fault.JudgeFault.TheVariants.{OutOfMemory, Steps};
 
 use crate::engine::read_task;
-use crate::fault::JudgeFault;
+use crate::fault::{Input, JudgeFault};
 use crate::inlet::FILE_LIMIT;
 use crate::replies::text_of;
 use crate::report::Report;
@@ -31,6 +31,7 @@ pub fn replay_bytes(
     steps: &[u8],
 ) -> Result<Report, JudgeFault>
     ensures answer { IfOk result (λ report. replay_answer domain.now problem.now steps.now ≡ Some report) }
+    ensures lawful { IfOk result (IsLawfulReplay Dialect.Strips domain.now problem.now steps.now) }
     ensures refusal { IfErr result (λ fault. fault ≢ OutOfMemory → replay_answer domain.now problem.now steps.now ≡ None) }
     ensures cause { IfErr result (λ fault. fault ≢ OutOfMemory → ReplayCallsFor domain.now problem.now steps.now fault) }
 {
@@ -42,7 +43,7 @@ pub fn replay_bytes(
 /// All texts are read before a step is run, and all lines are made before anything is written. Tables of names and atoms hash with the
 /// seed; the lines are the same with any. A replay without lines is refused for the first cause in the order of `JudgeFault`. Running out
 /// of memory can come in place of any cause but that a text is too large.
-#[tactic(auto, using(crate::proofs::ReplayAnswers::too_large_text, crate::proofs::ReplayAnswers::no_task, crate::proofs::ReplayAnswers::of_task, crate::proofs::ReplayAnswers::faulty_steps))]
+#[tactic(auto, using(crate::proofs::ReplayAnswers::too_large_text, crate::proofs::ReplayAnswers::no_task, crate::proofs::ReplayAnswers::of_task, crate::proofs::ReplayAnswers::faulty_steps, crate::proofs::ReplayAnswers::lawful_replay))]
 pub fn replay_bytes_in(
     alloc: Global,
     seed: Seed,
@@ -52,11 +53,12 @@ pub fn replay_bytes_in(
     steps: &[u8],
 ) -> Result<Report, JudgeFault>
     ensures answer { IfOk result (λ report. replay_answer_in dialect domain.now problem.now steps.now ≡ Some report) }
+    ensures lawful { IfOk result (IsLawfulReplay dialect domain.now problem.now steps.now) }
     ensures refusal { IfErr result (λ fault. fault ≢ OutOfMemory → replay_answer_in dialect domain.now problem.now steps.now ≡ None) }
     ensures cause { IfErr result (λ fault. fault ≢ OutOfMemory → ReplayCallsForIn dialect domain.now problem.now steps.now fault) }
 {
     match too_large(domain, problem, steps) {
-        Some(place) => Err(JudgeFault::TooLarge(place)),
+        Some(large) => Err(JudgeFault::TooLarge(large)),
         None => match read_task(alloc, seed, dialect, domain, problem) {
             Ok(task) => match replay_for(alloc, task, steps) {
                 Ok(report) => Ok(report),
@@ -67,20 +69,20 @@ pub fn replay_bytes_in(
     }
 }
 
-/// The place of the first text that is over the limit of a file: 0 is the domain, 1 the problem, and 2 the steps.
+/// The first input that is over the limit of a file.
 #[tactic(auto, unfolding(crate::specs::ReplayAnswer::too_large_for_replay))]
-fn too_large(domain: &[u8], problem: &[u8], steps: &[u8]) -> Option<usize>
-    ensures place { result ≡ too_large_for_replay domain.now problem.now steps.now }
+fn too_large(domain: &[u8], problem: &[u8], steps: &[u8]) -> Option<Input>
+    ensures first { result ≡ too_large_for_replay domain.now problem.now steps.now }
     ensures within { IfNone result (length steps.now ≤ 16777216) }
 {
     if domain.len() > FILE_LIMIT {
-        return Some(0);
+        return Some(Input::Domain);
     }
     if problem.len() > FILE_LIMIT {
-        return Some(1);
+        return Some(Input::Problem);
     }
     if steps.len() > FILE_LIMIT {
-        return Some(2);
+        return Some(Input::Steps);
     }
     None
 }
@@ -111,7 +113,6 @@ fn replay_text(alloc: Global, task: &CostedTask, steps: &[u8]) -> Result<Report,
 }
 
 /// The lines that a new desk for a task answers to steps.
-#[tactic(auto, using(crate::proofs::Replaying::same_history))]
 fn run(alloc: Global, task: &CostedTask, read: StepsText) -> Result<Report, AllocError>
     requires planners { read.planners ≤ 64 }
     requires places { read.places ≤ 65536 }

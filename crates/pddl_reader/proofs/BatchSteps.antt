@@ -7,7 +7,7 @@ use Rattle.pddl_syntax.specs.declared.syntax.LiteralSyntax.{LiteralSyntax}
 use Rattle.pddl_syntax.specs.Forms.{literal_form}
 use Rattle.pddl_syntax.specs.Optional.{through}
 use Rattle.pddl_syntax.specs.Syntax.{LiteralForm}
-use Rattle.pddl_reader.specs.Problem.{literal_forms}
+use Rattle.pddl_reader.specs.Parts.{literal_forms}
 use Rattle.pddl_reader.proofs.Through.{through_behind, behind_some}
 
 pub no_forms : literal_forms [] ≡ []

@@ -5,7 +5,7 @@ use Rattle.std.specs.Map.{keys_of}
 use Rattle.pddl_reader.specs.declared.resolution.domain.Rest.{Rest}
 use Rattle.pddl_reader.specs.Assembled.{domain_joined}
 use Rattle.pddl_reader.specs.Domain.{DomainValue}
-use Rattle.pddl_reader.specs.Domains.{IsDomain}
+use Rattle.pddl_reader.specs.DomainTables.{IsDomain}
 use Rattle.pddl_reader.specs.Objects.{Objects, objects_from}
 use Rattle.pddl_reader.specs.Problem.{domain_extended}
 use Rattle.pddl_syntax.specs.Syntax.{NameGroup}

@@ -16,8 +16,8 @@ use Rattle.strips_task.specs.declared.actions.Pattern.{Pattern}
 use Rattle.strips_task.specs.declared.tasks.TaskParts.{TaskParts}
 use Rattle.strips_task.specs.WellFormed.{are_variables, term_types, is_fitting, are_fitting, is_pattern, is_object, is_known, is_formula, is_action}
 use Rattle.strips_task.proofs.Numbered.{slice_get-more}
-use Rattle.pddl_reader.specs.Domain.{DomainValue, bare_task}
-use Rattle.pddl_reader.specs.Domains.{IsDomain}
+use Rattle.pddl_reader.specs.Domain.{DomainValue}
+use Rattle.pddl_reader.specs.DomainTables.{bare_task, IsDomain}
 use Rattle.pddl_reader.specs.Objects.{Objects}
 use Rattle.pddl_reader.specs.Problem.{domain_over}
 use Rattle.pddl_reader.proofs.KeptObjects.{AreObjects, IsFront}

@@ -31,7 +31,7 @@ second_holds true b h = absurd (true≢false (sym h))
 second_holds false b h = h
 
 -- the first entry with the name is the one at its place
-entry_numbered : {V : Type 0} (at : ℕ) (entries : List (List ℕ × V)) (place : ℕ) (name : List ℕ) (value : V) →
+pub entry_numbered : {V : Type 0} (at : ℕ) (entries : List (List ℕ × V)) (place : ℕ) (name : List ℕ) (value : V) →
     are_distinct (keys_of entries) ≡ true → slice_get entries place ≡ Some (name, value) →
     position_from (bytes_eq name) at (keys_of entries) ≡ Some (at + place)
 unfolding are_distinct

@@ -16,7 +16,8 @@ use Rattle.pddl_syntax.specs.declared.dialect.Dialect.{Dialect}
 use Rattle.pddl_syntax.specs.Keywords.{object_word}
 use Rattle.pddl_syntax.specs.Optional.{guard, through}
 use Rattle.pddl_syntax.specs.Syntax.{NameGroup}
-use Rattle.pddl_reader.specs.TypeOrder.{TypeNames, TypeParents, numbered, under, counts_as_parent, declared_under, tables_of, type_declared, parent_numbered, group_declared, object_alone, types_declared, parent_name, parent_number, parents_of, is_tree, is_under_itself, numbers_cycle, names_cycle, declares_cycle, ordered, types_of}
+use Rattle.pddl_reader.specs.TypeOrder.{TypeNames, TypeParents, numbered, under, counts_as_parent, declared_under, tables_of, type_declared, parent_numbered, group_declared, object_alone, types_declared, parent_name, parent_number, parents_of, is_tree, ordered, types_of}
+use Rattle.pddl_reader.specs.TypeCycles.{is_under_itself, numbers_cycle, names_cycle, declares_cycle}
 use Rattle.pddl_reader.proofs.Items.{item_steps}
 use Rattle.pddl_reader.proofs.TableSteps.{value_unnamed, value_numbered}
 use Rattle.pddl_syntax.proofs.Guards.{guard_held}

@@ -28,8 +28,8 @@ use Rattle.pddl_reader.proofs.FittingAtoms.{known_of, vocabulary_of, pattern_fit
 use Rattle.pddl_reader.proofs.KnownTerms.{term_known}
 use Rattle.pddl_reader.proofs.KeptVariables.{places_kept, parameters_kept, parameters_paired}
 use Rattle.pddl_reader.proofs.Through.{through_keeps}
-use Rattle.pddl_reader.specs.Domain.{DomainValue, declared_predicate, vocabulary_by, action_by, with_predicate, predicates_from, may_have, with_function, functions_from, no_effects, changed, with_change, increased, with_effect, effects_of, action_doing, action_with, action_meant, Actions, no_actions, tables_with, declared_action, with_action_of, actions_from, head, head_typed, head_of, domain_value, domain_with, bare_task}
-use Rattle.pddl_reader.specs.Domains.{IsDomain}
+use Rattle.pddl_reader.specs.Domain.{DomainValue, declared_predicate, vocabulary_by, action_by, with_predicate, predicates_from, may_have, with_function, functions_from, no_effects, changed, with_change, increased, with_effect, effects_of, action_doing, action_with, action_meant, Actions, no_actions, tables_with, declared_action, with_action_of, actions_from, head, head_typed, head_of, domain_value, domain_with}
+use Rattle.pddl_reader.specs.DomainTables.{bare_task, IsDomain}
 use Rattle.pddl_reader.specs.Functions.{with_increase}
 use Rattle.pddl_reader.specs.Objects.{Objects, objects_from}
 use Rattle.pddl_reader.specs.TypeOrder.{types_of}

@@ -12,7 +12,8 @@ use Rattle.strips_task.specs.WellFormed.{IsWellFormed, term_types, is_pattern, i
 use Rattle.pddl_syntax.specs.Optional.{followed_by}
 use Rattle.pddl_reader.specs.declared.resolution.initial.InitialState.{InitialState}
 use Rattle.pddl_reader.specs.Declarations.{Known, ground_of, object_number}
-use Rattle.pddl_reader.specs.Domain.{DomainValue, bare_task}
+use Rattle.pddl_reader.specs.Domain.{DomainValue}
+use Rattle.pddl_reader.specs.DomainTables.{bare_task}
 use Rattle.pddl_reader.specs.Functions.{with_value_of}
 use Rattle.pddl_reader.specs.Problem.{vocabulary_in, ground_condition, ground_equality_by, ground_condition_of, ground_conditions_of, no_initial, with_atom, given_atoms, given_values, with_initial, initial_of, task_named}
 use Rattle.pddl_syntax.specs.Syntax.{LiteralForm, atom_literal, equality_literal, increase_literal, value_literal}

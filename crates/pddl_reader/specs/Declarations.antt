@@ -66,6 +66,7 @@ fitted_all fit [] (word ∷ words) = None
 fitted_all fit (place ∷ places) [] = None
 fitted_all fit (place ∷ places) (word ∷ words) = followed_by (fit place word) (fitted_all fit places words)
 
+-- what the words stand for, each fitting its place, if there are such places
 unfoldable pub fitted_places : {A : Type 0} → (List ℕ → List ℕ → Option A) → Option (List (List ℕ)) → List (List ℕ) → Option (List A)
 fitted_places fit None words = None
 fitted_places fit (Some places) words = fitted_all fit places words
@@ -85,6 +86,7 @@ unfoldable pub term_fitted : Known → List (List ℕ) → List ℕ → Option T
 term_fitted known params place None = None
 term_fitted known params place (Some term) = guard (is_fitting known.parents (types_of_term known params term) place) (Some term)
 
+-- the term that a word stands for, if its type fits the place
 unfoldable pub term_in_place : Known → Parameters → List ℕ → List ℕ → Option Term
 term_in_place known parameters place word = term_fitted known parameters.types place (term_named known parameters word)
 
@@ -93,12 +95,15 @@ unfoldable pub object_fitted : Known → List ℕ → Option ℕ → Option ℕ
 object_fitted known place None = None
 object_fitted known place (Some number) = guard (is_fitting known.parents (types_of_term known [] (Object number)) place) (Some number)
 
+-- the object that a word names, if its type fits the place
 unfoldable pub object_in_place : Known → List ℕ → List ℕ → Option ℕ
 object_in_place known place word = object_fitted known place (object_number known.objects word)
 
+-- a pattern of a predicate and terms
 abbrev pub pattern_with : ℕ → List Term → Pattern
 pattern_with number terms = record { pred = number; terms = terms }
 
+-- a pattern of a predicate, if it is known, and of the terms that the words stand for
 unfoldable pub pattern_by : Known → Parameters → List (List ℕ) → Option ℕ → Option Pattern
 pattern_by known parameters words None = None
 pattern_by known parameters words (Some number) =
@@ -108,9 +113,11 @@ pattern_by known parameters words (Some number) =
 unfoldable pub pattern_of : Known → Parameters → AtomForm → Option Pattern
 pattern_of known parameters atom = pattern_by known parameters atom.terms (predicate_number known.predicates atom)
 
+-- a ground atom of a predicate and objects
 abbrev pub ground_with : ℕ → List ℕ → Atom
 ground_with number args = record { pred = number; args = args }
 
+-- a ground atom of a predicate, if it is known, and of the objects that the words name
 unfoldable pub ground_by : Known → List (List ℕ) → Option ℕ → Option Atom
 ground_by known words None = None
 ground_by known words (Some number) =

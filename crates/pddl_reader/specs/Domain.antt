@@ -8,7 +8,6 @@ use Rattle.pddl_words.specs.Words.{folded}
 use Rattle.strips_task.specs.declared.actions.Action.{Action}
 use Rattle.strips_task.specs.declared.actions.Cond.{Cond}
 use Rattle.strips_task.specs.declared.actions.Pattern.{Pattern}
-use Rattle.strips_task.specs.declared.tasks.TaskParts.{TaskParts}
 use Rattle.strips_task.specs.WellFormed.{most_predicates, most_actions}
 use Rattle.plan_cost.specs.declared.amounts.Amount.{Amount}
 use Rattle.pddl_reader.specs.declared.resolution.actions.ActionTables.{ActionTables}
@@ -100,11 +99,13 @@ action_doing params pre effects = record {
   increases = effects.increases;
 }
 
+-- an action with its precondition and its effects, if there are both
 unfoldable pub action_with : List (List ℕ) → Option (List Cond) → Option Effects → Option CostedAction
 action_with params None effects = None
 action_with params (Some pre) None = None
 action_with params (Some pre) (Some effects) = Some (action_doing params pre effects)
 
+-- the action over these parameters, if there are such parameters
 unfoldable pub action_by : Vocabulary → ActionForm → Option Parameters → Option CostedAction
 action_by vocabulary action None = None
 action_by vocabulary action (Some parameters) =
@@ -118,6 +119,7 @@ action_meant types vocabulary action = action_by vocabulary action (parameters_o
 abbrev pub Actions : Type 0
 Actions = List (List ℕ × Action)
 
+-- tables without an entry
 abbrev pub no_actions : ActionTables
 no_actions = record { actions = []; increases = [] }
 
@@ -147,6 +149,7 @@ unfoldable pub head_typed : DomainForm → Option KnownTypes → Option Head
 head_typed domain None = None
 head_typed domain (Some types) = option_map (head domain.name types) (objects_from (keys_of types.names) [] domain.constants)
 
+-- the types, objects and predicates that a domain declares, if they are declared correctly
 unfoldable pub head_of : Dialect → DomainForm → Option Head
 head_of dialect domain = head_typed domain (types_of dialect domain.types)
 
@@ -175,6 +178,7 @@ domain_with domain head (Some predicates) (Some functions) =
     option_map (domain_value head predicates functions)
     (actions_from (keys_of head.types) (vocabulary_by head predicates functions) no_actions domain.actions)
 
+-- the domain over these declarations, if there are such declarations
 unfoldable pub domain_headed : DomainForm → Option Head → Option DomainValue
 domain_headed domain None = None
 domain_headed domain (Some head) =
@@ -183,16 +187,3 @@ domain_headed domain (Some head) =
 -- the domain that syntax stands for: types, constants, predicates, functions and actions are declared in turn
 unfoldable pub domain_of : Dialect → DomainForm → Option DomainValue
 domain_of dialect domain = domain_headed domain (head_of dialect domain)
-
--- a task of the domain that asks and gives nothing
-abbrev pub bare_task : DomainValue → TaskParts
-bare_task domain = record {
-  domain = domain.name;
-  problem = [];
-  parents = domain.parents;
-  objects = domain.objects;
-  preds = domain.predicates;
-  actions = domain.actions;
-  init = [];
-  goal = [];
-}

@@ -75,6 +75,7 @@ value_given values value (Some function) = guard (is_not_another (given_over (va
 unfoldable pub with_value_of : Known → List (Atom × ℕ) → ValueForm → Option (List (Atom × ℕ))
 with_value_of functions values form = value_given values form.value (ground_of functions form.function)
 
+-- the costs of a task: what each action adds, the values of functions, and what the cost is at the start
 abbrev pub costs_with : List (List Amount) → List (Atom × ℕ) → ℕ → Costs
 costs_with increases values number = record { total_cost = number; increases = increases; values = values }
 

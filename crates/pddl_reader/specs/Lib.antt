@@ -1,13 +1,14 @@
 pub mod Parts
 pub mod Tables
 pub mod TypeOrder
+pub mod TypeCycles
 pub mod Objects
 pub mod Variables
 pub mod Declarations
 pub mod Functions
 pub mod Resolved
 pub mod Domain
-pub mod Domains
+pub mod DomainTables
 pub mod Problem
 pub mod Texts
 pub mod Assembled

@@ -31,6 +31,7 @@ unfoldable pub objects_typed : Option ℕ → Objects → List (List ℕ) → Op
 objects_typed None objects words = None
 objects_typed (Some type) objects words = through (object_declared type) objects words
 
+-- the objects so far and those of a group, if its type is known
 unfoldable pub objects_grouped : List (List ℕ) → Objects → NameGroup → Option Objects
 objects_grouped types objects group = objects_typed (type_number types group.type) objects group.names
 

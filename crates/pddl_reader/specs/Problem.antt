@@ -1,6 +1,6 @@
 -- The task that a domain and the syntax of a problem stand for (PDDL 2.1, Fox and Long 2003, section 2).
 
-use Rattle.std.specs.Prelude.{ℕ, Bool, true, false, List, [], ◌∷◌, ◌++◌, map, Option, Some, None}
+use Rattle.std.specs.Prelude.{ℕ, Bool, true, false, List, [], ◌∷◌, ◌++◌, Option, Some, None}
 use Rattle.std.specs.Option.{option_map}
 use Rattle.pddl_words.specs.Words.{folded}
 use Rattle.strips_task.specs.declared.atoms.Atom.{Atom}
@@ -8,8 +8,6 @@ use Rattle.strips_task.specs.declared.atoms.GroundFormula.TheVariants as asked
 use Rattle.strips_task.specs.declared.atoms.GroundCond.{GroundCond}
 use Rattle.strips_task.specs.declared.tasks.TaskParts.{TaskParts}
 use Rattle.plan_cost.specs.declared.costs.CostedTask.{CostedTask}
-use Rattle.pddl_syntax.specs.declared.syntax.LiteralSyntax.{LiteralSyntax}
-use Rattle.pddl_syntax.specs.Forms.{literal_form}
 use Rattle.pddl_syntax.specs.Optional.{followed_by, through}
 use Rattle.pddl_reader.specs.declared.resolution.initial.InitialState.{InitialState}
 use Rattle.pddl_reader.specs.Declarations.{Known, ground_of, object_number}
@@ -40,10 +38,6 @@ ground_condition_of known (value_literal value) = None
 unfoldable pub ground_conditions_of : Known → List LiteralForm → Option (List GroundCond)
 ground_conditions_of known [] = Some []
 ground_conditions_of known (literal ∷ literals) = followed_by (ground_condition_of known literal) (ground_conditions_of known literals)
-
--- literals as the definitions see them
-unfoldable pub literal_forms : List LiteralSyntax → List LiteralForm
-literal_forms ls = map literal_form ls
 
 -- a problem before any of its initial literals is known
 abbrev pub no_initial : InitialState

@@ -1,7 +1,7 @@
 -- The types of a domain and their order (PDDL 2.1, Fox and Long 2003, section 2: types form a tree below `object`).
 
-use Rattle.std.specs.Prelude.{◌≡◌, ◌<◌, ◌↔◌, IsTrue, ℕ, zero, suc, Bool, true, false, ◌&&◌, nat_eq, nat_lt, not, is_some, List, [], ◌∷◌, ◌++◌, map, length, slice_index, Option, Some, None, unwrap_or, if◌then◌else◌}
-use Rattle.std.specs.List.{list_all, list_any}
+use Rattle.std.specs.Prelude.{◌≡◌, ◌<◌, ◌↔◌, IsTrue, ℕ, zero, suc, Bool, true, ◌&&◌, nat_eq, nat_lt, not, is_some, List, [], ◌∷◌, ◌++◌, map, length, slice_index, Option, Some, None, unwrap_or, if◌then◌else◌}
+use Rattle.std.specs.List.{list_all}
 use Rattle.std.specs.Str.{bytes_eq}
 use Rattle.pddl_words.specs.Words.{folded}
 use Rattle.strips_task.specs.Names.{number_named}
@@ -46,6 +46,7 @@ unfoldable pub declared_under : Dialect → TypeParents → List ℕ → List �
 declared_under dialect parents name parent =
     (if counts_as_parent dialect parent then under (value_named parents name) parents name parent else Some parents)
 
+-- the names of types and their parents, if there are both
 unfoldable pub tables_of : Option TypeNames → Option TypeParents → Option TypeTables
 tables_of None parents = None
 tables_of (Some names) None = None
@@ -105,22 +106,6 @@ IsTreeTested = (parents : List ℕ) → IsTrue (is_tree parents) ↔ IsTypeTree 
 -- in a tree no type but `object` stands some parents above itself
 abbrev pub HasNoCycles : Type 0
 HasNoCycles = (parents : List ℕ) → IsTypeTree parents → (type steps : ℕ) → type < length parents → ancestor parents (suc steps) type ≡ type → type ≡ 0
-
--- whether a type but `object` stands above its own parent, so that a chain of parents returns to it
-unfoldable pub is_under_itself : List ℕ → ℕ → Bool
-is_under_itself parents type = nat_lt 0 type && is_below parents (slice_index parents type) type
-
-unfoldable pub numbers_cycle : List ℕ → Option ℕ → Bool
-numbers_cycle parents None = false
-numbers_cycle parents (Some type) = is_under_itself parents type
-
--- whether a word names a type under itself
-unfoldable pub names_cycle : TypeNames → List ℕ → List ℕ → Bool
-names_cycle names parents word = numbers_cycle parents (number_named names (folded word))
-
--- whether a group declares a type under itself
-unfoldable pub declares_cycle : Dialect → TypeNames → List ℕ → NameGroup → Bool
-declares_cycle dialect names parents group = counts_as_parent dialect (folded group.type) && list_any (names_cycle names parents) group.names
 
 -- the types with their order, where their parents form a tree
 unfoldable pub ordered : Option TypeTables → Option KnownTypes

@@ -49,6 +49,7 @@ parameter_number names word = position_from (is_same_word word) 0 names
 unfoldable pub parameter_named : List (List ℕ) → List ℕ → Option (List (List ℕ))
 parameter_named names word = guard (nat_lt (length names) most_variables && is_none (parameter_number names word)) (Some (names ++ word ∷ []))
 
+-- parameters and those of a group, if its variables and its types are there
 unfoldable pub parameters_with : Parameters → List (List ℕ) → Option (List (List ℕ)) → Option (List ℕ) → Option Parameters
 parameters_with parameters variables None types = None
 parameters_with parameters variables (Some names) None = None
@@ -59,6 +60,7 @@ unfoldable pub group_named : List (List ℕ) → Parameters → VariableGroup �
 group_named types parameters group =
     parameters_with parameters group.variables (through parameter_named parameters.names group.variables) (alternatives_of types group.types)
 
+-- no parameters
 abbrev pub no_parameters : Parameters
 no_parameters = record { names = []; types = [] }
 

@@ -10,6 +10,8 @@
 //! let task = read_problem_in(alloc, Dialect::Ipc, domain, problem_text)?;    // a CostedTask
 //! ```
 //!
+//! [`read_plan`] and [`Parts`] of `plan_text` are passed on, so that a reader of plans needs this crate alone.
+//!
 //! A text passes through three layers. The first two are the crate `pddl_syntax`: a pass that finds bad bytes and wrong parentheses, and
 //! the grammar, which keeps tables of slices of the text. The third is [`resolution`] here: it looks the names up and makes the domain and
 //! the task.
@@ -21,6 +23,7 @@ mod resolution;
 
 pub use pddl_syntax::{Dialect, FaultKind, ReadFault};
 pub use plan_cost::CostedTask;
+pub use plan_text::{Parts, read_plan};
 pub use readers::{read_domain, read_domain_in, read_problem, read_problem_in};
 pub use resolution::domain::Domain;
 pub use strips_task::Seed;

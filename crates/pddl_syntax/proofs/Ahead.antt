@@ -6,12 +6,12 @@ use Rattle.pddl_tokens.specs.declared.spans.Span.{Span}
 use Rattle.pddl_tokens.specs.declared.spans.Token.{Token}
 use Rattle.pddl_tokens.specs.declared.spans.TokenKind.{TokenKind}
 use Rattle.pddl_tokens.specs.declared.spans.TokenKind.TheVariants.{Left, Right, Word}
-use Rattle.pddl_tokens.specs.declared.spans.TextFault.{TextFault}
-use Rattle.pddl_tokens.specs.declared.spans.TextFault.TheVariants.{TooLong, BadByte}
+use Rattle.pddl_tokens.specs.declared.spans.BadByte.{BadByte}
 use Rattle.pddl_tokens.specs.Tokens.{Piece, token, bad, pieces, Takes}
 use Rattle.pddl_tokens.proofs.Counts.{few_pieces}
 use Rattle.pddl_syntax.specs.Trees.{Trees, text_fault}
-use Rattle.pddl_syntax.specs.Levels.{Levels, before_word, before_left, before_right, around, levels, or_end, here, behind}
+use Rattle.pddl_syntax.specs.Levels.{Levels, before_word, before_left, before_right, around, levels, or_end, here}
+use Rattle.pddl_syntax.specs.Walking.{behind}
 use Rattle.pddl_syntax.specs.Sizes.{size, sizes, ahead}
 use Rattle.pddl_syntax.proofs.Balanced.{short_without_fault}
 use Rattle.pddl_syntax.proofs.LevelSteps.{word_step, left_step, right_step}
@@ -65,10 +65,9 @@ behind_token Right span text more h =
     let e = right_step span text more h in
     omega (arith, ap size e.0, ap ahead e.1, ahead_behind (here (token Right span text ∷ more)).below)
 
-pub no_more_ahead : (step : Result (Option Token) TextFault) (old new : List Piece) → Takes step old new → IsSome (levels old) → ahead (here new) ≤ ahead (here old)
+pub no_more_ahead : (step : Result (Option Token) BadByte) (old new : List Piece) → Takes step old new → IsSome (levels old) → ahead (here new) ≤ ahead (here old)
 no_more_ahead (Ok (Some t)) old new takes h =
     let P : List Piece → Type 0 = λ ps. IsSome (levels ps) → ahead (here new) ≤ ahead (here ps) in
     subst P (sym takes) (behind_token t.kind t.span t.text.now new) h
 no_more_ahead (Ok None) old new takes h = omega (arith, ap (λ ps. ahead (here ps)) (takes.1 ∙ sym takes.0))
-no_more_ahead (Err (BadByte at)) old new takes h = omega (arith, ap (λ ps. ahead (here ps)) takes.1)
-no_more_ahead (Err TooLong) old new takes h = absurd takes
+no_more_ahead (Err byte) old new takes h = omega (arith, ap (λ ps. ahead (here ps)) takes.1)

@@ -9,7 +9,8 @@ use Rattle.pddl_syntax.specs.declared.heads.LiteralHead.TheVariants as head
 use Rattle.pddl_words.specs.Words.{is_name}
 use Rattle.pddl_words.specs.Kinds.{is_same_word}
 use Rattle.pddl_words.specs.DecimalReading.{billionths_of}
-use Rattle.pddl_syntax.specs.Heads.{formula_head, literal_head, is_any, is_term}
+use Rattle.pddl_syntax.specs.Heads.{formula_head, literal_head, is_term}
+use Rattle.pddl_syntax.specs.Presence.{is_any}
 use Rattle.pddl_syntax.specs.Keywords.{total_cost_word}
 use Rattle.pddl_syntax.specs.Optional.{guard, followed_by, with_front}
 use Rattle.pddl_syntax.specs.Trees.{Trees, none, word, list, begins_with_list}

@@ -6,12 +6,12 @@ use Rattle.pddl_tokens.specs.declared.spans.Span.{Span}
 use Rattle.pddl_tokens.specs.declared.spans.Token.{Token}
 use Rattle.pddl_tokens.specs.declared.spans.TokenKind.{TokenKind}
 use Rattle.pddl_tokens.specs.declared.spans.TokenKind.TheVariants.{Left, Right, Word}
-use Rattle.pddl_tokens.specs.declared.spans.TextFault.{TextFault}
-use Rattle.pddl_tokens.specs.declared.spans.TextFault.TheVariants.{TooLong, BadByte}
+use Rattle.pddl_tokens.specs.declared.spans.BadByte.{BadByte}
 use Rattle.pddl_tokens.specs.Tokens.{Piece, token, bad}
 use Rattle.pddl_tokens.specs.Tokens.{Takes}
 use Rattle.pddl_syntax.specs.Trees.{Trees, none, word, list, begins_with_list}
-use Rattle.pddl_syntax.specs.Levels.{Levels, before_word, before_left, before_right, levels, or_end, here, behind}
+use Rattle.pddl_syntax.specs.Levels.{Levels, before_word, before_left, before_right, levels, or_end, here}
+use Rattle.pddl_syntax.specs.Walking.{behind}
 
 -- the levels before a word, where there are some behind it
 word_step_by : (text : List ℕ) (after : Option Levels) → IsSome (option_map (before_word text) after) →
@@ -78,12 +78,11 @@ some_behind_token Left span text more h = some_behind_left (levels more) h
 some_behind_token Right span text more h = some_behind_map before_right (levels more) h
 
 -- where there are levels before a step of the cursor, there are levels behind it
-pub goes_on : (step : Result (Option Token) TextFault) (old new : List Piece) → Takes step old new → IsSome (levels old) → IsSome (levels new)
+pub goes_on : (step : Result (Option Token) BadByte) (old new : List Piece) → Takes step old new → IsSome (levels old) → IsSome (levels new)
 unfolding levels
 goes_on (Ok (Some t)) old new takes h = some_behind_token t.kind t.span t.text.now new (let P : List Piece → Type 0 = λ ps. IsSome (levels ps) in subst P takes h)
 goes_on (Ok None) old new takes h = let P : List Piece → Type 0 = λ ps. IsSome (levels ps) in subst P (sym takes.1) refl
-goes_on (Err (BadByte at)) old new takes h = let P : List Piece → Type 0 = λ ps. IsSome (levels ps) in subst P (sym takes.1) h
-goes_on (Err TooLong) old new takes h = absurd takes
+goes_on (Err byte) old new takes h = let P : List Piece → Type 0 = λ ps. IsSome (levels ps) in subst P (sym takes.1) h
 
 pub list_first : (k f : Trees) → begins_with_list (list k f) ≡ true
 unfolding begins_with_list

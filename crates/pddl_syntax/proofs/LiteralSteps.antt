@@ -13,7 +13,7 @@ use Rattle.pddl_syntax.specs.Heads.{is_and, formula_head, literal_head, scope_at
 use Rattle.pddl_syntax.specs.Optional.{with_front, joined, followed_by}
 use Rattle.pddl_tokens.specs.Tokens.{pieces, pieces_from}
 use Rattle.pddl_syntax.specs.Trees.{Trees, none, word, list, fault_from, text_fault}
-use Rattle.pddl_syntax.specs.Levels.{behind}
+use Rattle.pddl_syntax.specs.Walking.{behind}
 use Rattle.pddl_syntax.specs.Syntax.{LiteralForm, alone, literal_of, formula_in, conjuncts_of, lists_of, init_item_in}
 use Rattle.pddl_syntax.specs.Presence.{is_formula, are_initial}
 use Rattle.pddl_syntax.specs.Remaining.{ReadsNext, TakesNext, literals_in, literals_left}

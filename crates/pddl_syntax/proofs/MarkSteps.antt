@@ -2,7 +2,8 @@
 
 use Rattle.std.proofs.Common.{◌≡◌, ℕ, ◌+◌, ◌-◌, ◌<◌, ◌≤◌, ◌==◌, ◌&&◌, nat_le, Bool, true, false, not, cond, List, [], ◌∷◌, ◌++◌, length, get_or, drop, Some, refl, sym, ap, ◌∙◌, drop-cons, add-one, arith}
 use Rattle.std.specs.List.{prefix_len}
-use Rattle.pddl_tokens.specs.Bytes.{class_of, is_other_blank, is_line_end_class, is_comment_byte}
+use Rattle.pddl_tokens.specs.Bytes.{class_of, is_other_blank}
+use Rattle.pddl_tokens.specs.Cut.{is_line_end_class, is_comment_byte}
 use Rattle.pddl_tokens.specs.Front.{pieces_at}
 use Rattle.pddl_tokens.specs.Tokens.{Place, between, in_word, pieces_from, begins, place_after}
 use Rattle.pddl_tokens.proofs.Steps.{line_end_step, blank_step, comment_step, left_step, right_step, bad_step, run_not_empty}

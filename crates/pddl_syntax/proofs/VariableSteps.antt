@@ -12,7 +12,8 @@ use Rattle.pddl_syntax.specs.Heads.{is_dash, is_variable}
 use Rattle.pddl_syntax.specs.Keywords.{object_word}
 use Rattle.pddl_syntax.specs.Optional.{guard, followed_by, with_front}
 use Rattle.pddl_syntax.specs.Trees.{Trees, none, word, list}
-use Rattle.pddl_syntax.specs.Syntax.{VariableGroup, either_in, last_variables, variable_group, typed_variables, variables_typed, Typing, typing, typing_of}
+use Rattle.pddl_syntax.specs.Syntax.{VariableGroup, either_in, last_variables, variable_group, typed_variables, variables_typed}
+use Rattle.pddl_syntax.specs.TypesAhead.{Typing, typing, typing_of}
 use Rattle.pddl_syntax.proofs.ListsOf.{front_none}
 use Rattle.pddl_syntax.specs.Sizes.{size}
 use Rattle.pddl_syntax.proofs.Guards.{guard_held}

@@ -69,10 +69,6 @@ is_term place.Effect w = is_name w || is_variable w
 is_term place.Initial w = is_name w
 is_term place.Goal w = is_name w
 
--- any word, where it is known that it may stand
-abbrev pub is_any : List ℕ → Bool
-is_any w = true
-
 -- what a word heads where a formula, an effect, an initial atom, a function or the declaration of a predicate or a function is due
 unfoldable pub formula_head : List ℕ → FormulaHead
 formula_head w =

@@ -3,24 +3,31 @@
 use Rattle.std.specs.Prelude.{ℕ, List, Bool, ◌||◌, codes}
 use Rattle.pddl_words.specs.Kinds.{is_same_word}
 
+-- what begins a domain and a problem
 abbrev pub define_word : List ℕ
 define_word = codes "define"
 
+-- what comes before a domain's name
 abbrev pub domain_word : List ℕ
 domain_word = codes "domain"
 
+-- what comes before a problem's name
 abbrev pub problem_word : List ℕ
 problem_word = codes "problem"
 
+-- what joins conditions or effects
 abbrev pub and_word : List ℕ
 and_word = codes "and"
 
+-- what negates an atom
 abbrev pub not_word : List ℕ
 not_word = codes "not"
 
+-- what begins a choice of types
 abbrev pub either_word : List ℕ
 either_word = codes "either"
 
+-- the type that is above all others
 abbrev pub object_word : List ℕ
 object_word = codes "object"
 
@@ -44,48 +51,63 @@ number_word = codes "number"
 abbrev pub dash_word : List ℕ
 dash_word = codes "-"
 
+-- the section that says what a text uses
 abbrev pub requirements_keyword : List ℕ
 requirements_keyword = codes ":requirements"
 
+-- the section of types
 abbrev pub types_keyword : List ℕ
 types_keyword = codes ":types"
 
+-- the section of a domain's objects
 abbrev pub constants_keyword : List ℕ
 constants_keyword = codes ":constants"
 
+-- the section of a problem's objects
 abbrev pub objects_keyword : List ℕ
 objects_keyword = codes ":objects"
 
+-- the section that says what to minimise
 abbrev pub metric_keyword : List ℕ
 metric_keyword = codes ":metric"
 
+-- a section of PDDL 1.2 that is read over
 abbrev pub length_keyword : List ℕ
 length_keyword = codes ":length"
 
+-- the section of predicates
 abbrev pub predicates_keyword : List ℕ
 predicates_keyword = codes ":predicates"
 
+-- the section of functions
 abbrev pub functions_keyword : List ℕ
 functions_keyword = codes ":functions"
 
+-- what begins an action
 abbrev pub action_keyword : List ℕ
 action_keyword = codes ":action"
 
+-- an action's parameters
 abbrev pub parameters_keyword : List ℕ
 parameters_keyword = codes ":parameters"
 
+-- an action's precondition
 abbrev pub precondition_keyword : List ℕ
 precondition_keyword = codes ":precondition"
 
+-- an action's effect
 abbrev pub effect_keyword : List ℕ
 effect_keyword = codes ":effect"
 
+-- the section that names a problem's domain
 abbrev pub domain_keyword : List ℕ
 domain_keyword = codes ":domain"
 
+-- the section of initial literals
 abbrev pub init_keyword : List ℕ
 init_keyword = codes ":init"
 
+-- the section of the goal
 abbrev pub goal_keyword : List ℕ
 goal_keyword = codes ":goal"
 

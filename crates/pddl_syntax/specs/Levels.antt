@@ -45,11 +45,6 @@ or_end (Some found) = found
 unfoldable pub here : List Piece → Levels
 here tokens = or_end (levels tokens)
 
--- the levels behind the `)` of the list in which one stands
-unfoldable pub behind : List Trees → Levels
-behind [] = record { top = none; below = [] }
-behind (others ∷ below) = record { top = others; below = below }
-
 -- the trees that a text spells
 unfoldable pub trees : List ℕ → Trees
 trees text = (here (pieces text)).top

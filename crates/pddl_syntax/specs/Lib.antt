@@ -10,6 +10,7 @@ pub mod Keywords
 pub mod Heads
 pub mod Optional
 pub mod Syntax
+pub mod TypesAhead
 pub mod Presence
 pub mod Reading
 pub mod Forms

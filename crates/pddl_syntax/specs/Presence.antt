@@ -1,6 +1,6 @@
 -- Whether trees have a piece of syntax, as a walk tests it that keeps nothing of it.
 
-use Rattle.std.specs.Prelude.{ℕ, List, Bool, is_some}
+use Rattle.std.specs.Prelude.{ℕ, List, Bool, is_some, true}
 use Rattle.pddl_syntax.specs.declared.dialect.Dialect.{Dialect}
 use Rattle.pddl_syntax.specs.declared.heads.Scope.{Scope}
 use Rattle.pddl_syntax.specs.Trees.{Trees}
@@ -61,3 +61,7 @@ are_conjuncts scope trees = is_some (conjuncts_of scope trees)
 -- whether there are initial atoms
 unfoldable pub are_initial : Dialect → Trees → Bool
 are_initial dialect trees = is_some (lists_of (init_item_in dialect) trees)
+
+-- any word, where it is known that it may stand
+abbrev pub is_any : List ℕ → Bool
+is_any w = true

@@ -11,8 +11,10 @@ use Rattle.pddl_syntax.specs.Trees.{Trees, word, list}
 use Rattle.pddl_syntax.specs.declared.walk.Word.{Word}
 use Rattle.smallvec.specs.SmallVec.{SmallVec}
 use Rattle.pddl_syntax.specs.Forms.{name_forms}
-use Rattle.pddl_syntax.specs.Syntax.{leading_name, leading_word, typing, typing_of}
-use Rattle.pddl_syntax.specs.Levels.{Levels, behind}
+use Rattle.pddl_syntax.specs.Syntax.{leading_name, leading_word}
+use Rattle.pddl_syntax.specs.TypesAhead.{typing, typing_of}
+use Rattle.pddl_syntax.specs.Levels.{Levels}
+use Rattle.pddl_syntax.specs.Walking.{behind}
 
 -- a fault is want of memory, which has no place, or it says that the fact holds
 abbrev pub Refuses : ReadFault → Type 0 → Type 0

@@ -7,7 +7,8 @@ use Rattle.pddl_syntax.specs.declared.syntax.LiteralSyntax.{LiteralSyntax}
 use Rattle.pddl_syntax.specs.ReadFault.{out_of_memory}
 use Rattle.pddl_syntax.specs.Optional.{joined, followed_by}
 use Rattle.pddl_syntax.specs.Trees.{Trees, none, word, list}
-use Rattle.pddl_syntax.specs.Levels.{Levels, behind}
+use Rattle.pddl_syntax.specs.Levels.{Levels}
+use Rattle.pddl_syntax.specs.Walking.{behind}
 use Rattle.pddl_syntax.specs.Forms.{literal_form}
 use Rattle.pddl_syntax.specs.Syntax.{LiteralForm, formula_in, conjuncts_of}
 
@@ -23,6 +24,7 @@ unfoldable pub literals_left : Scope → ℕ → Trees → List Trees → Option
 literals_left scope zero top below = Some []
 literals_left scope (suc depth) top below = joined (literals_in scope top) (literals_left scope depth (behind below).top (behind below).below)
 
+-- the literals that are left, from the place of the walk on
 abbrev pub remaining : Scope → ℕ → Levels → Option (List LiteralForm)
 remaining scope depth levels = literals_left scope depth levels.top levels.below
 

@@ -4,6 +4,7 @@ use Rattle.std.specs.Prelude.{ℕ, ◌+◌, List, [], ◌∷◌}
 use Rattle.pddl_syntax.specs.Trees.{Trees, none, word, list}
 use Rattle.pddl_syntax.specs.Levels.{Levels}
 
+-- how many words and lists there are, at all depths
 abbrev pub size : Trees → ℕ
 size none = 0
 size (word w others) = 1 + size others

@@ -232,19 +232,6 @@ unfoldable mutual
       followed_by (variable_group variables (guard (is_name w) (Some (w ∷ [])))) (typed_variables [] others)
   variables_typed variables (list inside others) = followed_by (variable_group variables (either_in inside)) (typed_variables [] others)
 
--- the types at the front, and what follows them
-pub record Typing : Type 0 where
-  pub types : List (List ℕ)
-  pub others : Trees
-
-abbrev pub typing : Trees → List (List ℕ) → Typing
-typing others types = record { types = types; others = others }
-
-unfoldable pub typing_of : Trees → Option Typing
-typing_of none = None
-typing_of (word w others) = guard (is_name w) (Some (typing others (w ∷ [])))
-typing_of (list inside others) = option_map (typing others) (either_in inside)
-
 -- an atom of a predicate and terms
 abbrev pub atom_with : List ℕ → List (List ℕ) → AtomForm
 atom_with predicate terms = record { predicate = predicate; terms = terms }
@@ -418,12 +405,15 @@ unfoldable mutual
 unfoldable pub no_parts : ActionParts
 no_parts = record { parameters = None; precondition = None; effect = None }
 
+-- the parts of an action with its parameters
 abbrev pub with_parameters : ActionParts → List VariableGroup → ActionParts
 with_parameters given value = record given { parameters = Some value }
 
+-- the parts of an action with its precondition
 abbrev pub with_precondition : ActionParts → List LiteralForm → ActionParts
 with_precondition given value = record given { precondition = Some value }
 
+-- the parts of an action with its effect
 abbrev pub with_effect : ActionParts → List LiteralForm → ActionParts
 with_effect given value = record given { effect = Some value }
 
@@ -471,21 +461,27 @@ action_of dialect (list inside others) = None
 unfoldable pub no_domain_sections : DomainSections
 no_domain_sections = record { requirements = false; types = None; constants = None; predicates = None; functions = None; actions = [] }
 
+-- the sections of a domain with `:requirements`
 abbrev pub with_requirements : DomainSections → DomainSections
 with_requirements given = record given { requirements = true }
 
+-- the sections of a domain with its types
 abbrev pub with_types : DomainSections → List NameGroup → DomainSections
 with_types given value = record given { types = Some value }
 
+-- the sections of a domain with its constants
 abbrev pub with_constants : DomainSections → List NameGroup → DomainSections
 with_constants given value = record given { constants = Some value }
 
+-- the sections of a domain with its predicates
 abbrev pub with_predicates : DomainSections → List PredicateForm → DomainSections
 with_predicates given value = record given { predicates = Some value }
 
+-- the sections of a domain with its functions
 abbrev pub with_functions : DomainSections → List PredicateForm → DomainSections
 with_functions given value = record given { functions = Some value }
 
+-- the sections of a domain with one more action
 abbrev pub with_action : DomainSections → ActionForm → DomainSections
 with_action given value = record given { actions = given.actions ++ value ∷ [] }
 
@@ -540,6 +536,7 @@ domain_form name sections = record {
   actions = sections.actions;
 }
 
+-- a domain of a name and sections, if there are both
 unfoldable pub domain_by : Option (List ℕ) → Option DomainSections → Option DomainForm
 domain_by None sections = None
 domain_by (Some name) sections = option_map (domain_form name) sections
@@ -564,24 +561,31 @@ domain_syntax dialect (list inside others) = ended others (domain_in dialect ins
 unfoldable pub no_problem_sections : ProblemSections
 no_problem_sections = record { domain = None; requirements = false; objects = None; init = None; goal = None; metric = false; length = false }
 
+-- the sections of a problem with its domain's name
 abbrev pub with_domain : ProblemSections → List ℕ → ProblemSections
 with_domain given value = record given { domain = Some value }
 
+-- the sections of a problem with `:requirements`
 abbrev pub with_problem_requirements : ProblemSections → ProblemSections
 with_problem_requirements given = record given { requirements = true }
 
+-- the sections of a problem with its objects
 abbrev pub with_objects : ProblemSections → List NameGroup → ProblemSections
 with_objects given value = record given { objects = Some value }
 
+-- the sections of a problem with `:metric`
 abbrev pub with_metric : ProblemSections → ProblemSections
 with_metric given = record given { metric = true }
 
+-- the sections of a problem with `:length`
 abbrev pub with_length : ProblemSections → ProblemSections
 with_length given = record given { length = true }
 
+-- the sections of a problem with its initial literals
 abbrev pub with_init : ProblemSections → List LiteralForm → ProblemSections
 with_init given value = record given { init = Some value }
 
+-- the sections of a problem with its goal
 abbrev pub with_goal : ProblemSections → List LiteralForm → ProblemSections
 with_goal given value = record given { goal = Some value }
 
@@ -636,6 +640,7 @@ problem_form name given (Some domain) None = None
 problem_form name given (Some domain) (Some goal) =
     Some (record { name = name; domain = domain; objects = unwrap_or given.objects []; init = unwrap_or given.init []; goal = goal })
 
+-- a problem of a name and sections, if there are both
 unfoldable pub problem_by : Option (List ℕ) → Option ProblemSections → Option ProblemForm
 problem_by None sections = None
 problem_by (Some name) None = None

@@ -1,10 +1,15 @@
 -- One step of a walk over the trees of a text.
 
-use Rattle.std.specs.Prelude.{◌≡◌}
+use Rattle.std.specs.Prelude.{◌≡◌, List, [], ◌∷◌}
 use Rattle.pddl_syntax.specs.declared.walk.Item.{Item}
 use Rattle.pddl_syntax.specs.declared.walk.Item.TheVariants.{Open, Close, Text}
-use Rattle.pddl_syntax.specs.Trees.{none, word, list}
-use Rattle.pddl_syntax.specs.Levels.{Levels, behind}
+use Rattle.pddl_syntax.specs.Trees.{none, word, list, Trees}
+use Rattle.pddl_syntax.specs.Levels.{Levels}
+
+-- the levels behind the `)` of the list in which one stands
+unfoldable pub behind : List Trees → Levels
+behind [] = record { top = none; below = [] }
+behind (others ∷ below) = record { top = others; below = below }
 
 -- the walk steps into a list
 abbrev pub Opens : Levels → Levels → Type 0

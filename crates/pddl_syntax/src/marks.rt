@@ -2,7 +2,7 @@
 
 ghost use Rattle.std.specs.Prelude.{◌≡◌, ◌+◌, ◌<◌, ◌≤◌, ℕ, true, length, slice_index};
 ghost use Rattle.std.specs.List.{prefix_len};
-ghost use Rattle.pddl_tokens.specs.Bytes.{is_comment_byte};
+ghost use Rattle.pddl_tokens.specs.Cut.{is_comment_byte};
 ghost use Rattle.pddl_tokens.specs.Front.{pieces_at};
 ghost use Rattle.pddl_syntax.specs.Marks.{mark_of};
 ghost use Rattle.pddl_syntax.specs.Trees.{fault_from};

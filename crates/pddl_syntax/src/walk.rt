@@ -10,7 +10,7 @@ ghost use Rattle.pddl_syntax.specs.Trees.{begins_with_list, text_fault};
 ghost use Rattle.pddl_syntax.specs.Levels.{here, levels};
 ghost use Rattle.pddl_syntax.specs.Sizes.{ahead};
 
-use pddl_tokens::{Cursor, Span, TextFault, TokenKind};
+use pddl_tokens::{Cursor, Span, TokenKind};
 
 /// A word of a text with its place.
 #[derive(Clone, Copy, Debug)]

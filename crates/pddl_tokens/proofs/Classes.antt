@@ -2,8 +2,8 @@
 
 use Rattle.std.proofs.Common.{◌≡◌, ◌≢◌, ℕ, ◌≤◌, true, false, not, refl, arith}
 use Rattle.pddl_tokens.specs.declared.bytes.ByteClass.TheVariants as c
-use Rattle.pddl_tokens.specs.Bytes.{class_of, is_word_class, is_line_end_class}
-use Rattle.pddl_tokens.specs.Cut.{is_blank}
+use Rattle.pddl_tokens.specs.Bytes.{class_of, is_word_class}
+use Rattle.pddl_tokens.specs.Cut.{is_line_end_class, is_blank}
 
 pub line_end_is : (b : ℕ) → class_of b ≡ c.LineEnd → b ≡ 10
 unfolding class_of

@@ -12,7 +12,8 @@ use Rattle.pddl_words.specs.SpacedWords.{is_space, words_of}
 use Rattle.pddl_tokens.specs.declared.bytes.ByteClass.{ByteClass}
 use Rattle.pddl_tokens.specs.declared.bytes.ByteClass.TheVariants as c
 use Rattle.pddl_tokens.specs.declared.spans.TokenKind.TheVariants.{Left, Right, Word}
-use Rattle.pddl_tokens.specs.Bytes.{class_of, is_word_class, is_word_byte, is_blank_class}
+use Rattle.pddl_tokens.specs.Bytes.{class_of, is_word_class, is_word_byte}
+use Rattle.pddl_tokens.specs.Cut.{is_blank_class}
 use Rattle.pddl_tokens.specs.Tokens.{Piece, token, span, between, pieces_from}
 use Rattle.pddl_tokens.specs.Front.{pieces_at}
 use Rattle.pddl_tokens.specs.Groups.{is_word, IsPlain, word_pieces, group_pieces}

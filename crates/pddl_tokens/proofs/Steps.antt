@@ -6,7 +6,8 @@ use Rattle.std.specs.List.{prefix_len}
 use Rattle.pddl_tokens.specs.declared.bytes.ByteClass.{ByteClass}
 use Rattle.pddl_tokens.specs.declared.bytes.ByteClass.TheVariants as c
 use Rattle.pddl_tokens.specs.declared.spans.TokenKind.TheVariants.{Left, Right, Word}
-use Rattle.pddl_tokens.specs.Bytes.{class_of, is_word_class, is_line_end_class, is_word_byte, is_comment_byte}
+use Rattle.pddl_tokens.specs.Bytes.{class_of, is_word_class, is_word_byte}
+use Rattle.pddl_tokens.specs.Cut.{is_line_end_class, is_comment_byte}
 use Rattle.pddl_tokens.specs.Tokens.{Piece, token, bad, span, Place, between, in_word, in_comment, stopped, pieces_from, begins, place_after, word_at}
 use Rattle.pddl_tokens.specs.Front.{pieces_at}
 

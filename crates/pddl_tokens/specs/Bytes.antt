@@ -1,6 +1,6 @@
 -- What single bytes stand for in a text of PDDL (PDDL 2.1, Fox and Long 2003, appendix A; which bytes are refused is this reader's choice).
 
-use Rattle.std.specs.Prelude.{ℕ, Bool, true, false, ◌==◌, ◌&&◌, ◌||◌, not, nat_le, if◌then◌else◌}
+use Rattle.std.specs.Prelude.{ℕ, Bool, true, false, ◌==◌, ◌&&◌, ◌||◌, nat_le, if◌then◌else◌}
 use Rattle.pddl_tokens.specs.declared.bytes.ByteClass.{ByteClass}
 use Rattle.pddl_tokens.specs.declared.bytes.ByteClass.TheVariants.{LineEnd, Blank, Left, Right, Semicolon, WordByte, Bad}
 
@@ -27,18 +27,3 @@ is_word_class _ = false
 -- a byte that words are made of
 abbrev pub is_word_byte : ℕ → Bool
 is_word_byte b = is_word_class (class_of b)
-
--- whether a class is that of the LF that ends a comment
-abbrev pub is_line_end_class : ByteClass → Bool
-is_line_end_class LineEnd = true
-is_line_end_class _ = false
-
--- a byte that a comment goes on with
-abbrev pub is_comment_byte : ℕ → Bool
-is_comment_byte b = not (is_line_end_class (class_of b))
-
--- whether a class is that of blanks, LF among them
-abbrev pub is_blank_class : ByteClass → Bool
-is_blank_class LineEnd = true
-is_blank_class Blank = true
-is_blank_class _ = false

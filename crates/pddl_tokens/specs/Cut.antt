@@ -1,10 +1,12 @@
 -- How a text is cut into tokens, said without a walk over its bytes (PDDL 2.1, Fox and Long 2003, appendix A).
 
-use Rattle.std.specs.Prelude.{◌≡◌, ◌≢◌, ℕ, ◌+◌, ◌-◌, ◌<◌, ◌≤◌, ◌==◌, ◌||◌, ◌⊎◌, Bool, false, List, [], ◌∷◌, length, slice_index, slice_range, IsTrue}
+use Rattle.std.specs.Prelude.{◌≡◌, ◌≢◌, ℕ, ◌+◌, ◌-◌, ◌<◌, ◌≤◌, ◌==◌, ◌||◌, ◌⊎◌, Bool, false, List, [], ◌∷◌, length, slice_index, slice_range, IsTrue, true, not}
 use Rattle.pddl_tokens.specs.declared.spans.TokenKind.{TokenKind}
 use Rattle.pddl_tokens.specs.declared.spans.TokenKind.TheVariants.{Left, Right, Word}
-use Rattle.pddl_tokens.specs.Bytes.{is_other_blank, is_word_byte}
+use Rattle.pddl_tokens.specs.Bytes.{is_other_blank, is_word_byte, class_of}
 use Rattle.pddl_tokens.specs.Tokens.{Piece, token, bad}
+use Rattle.pddl_tokens.specs.declared.bytes.ByteClass.{ByteClass}
+use Rattle.pddl_tokens.specs.declared.bytes.ByteClass.TheVariants.{LineEnd, Blank}
 
 -- a byte lies in a comment exactly where a `;` (59) stands at or before it with no LF (10) from there up to and with the byte
 pub record LiesInComment (text : List ℕ) (at : ℕ) : Type 0 where
@@ -62,3 +64,18 @@ IsCutInto text from (bad at ∷ ps) =
 IsCutInto text from (token kind span bytes ∷ ps) =
     IsGap text from span.start × IsTokenAt kind text span.start span.end × IsOutsideComments text span.start span.end
     × (bytes ≡ slice_range text span.start span.end) × IsCutInto text span.end ps
+
+-- whether a class is that of the LF that ends a comment
+abbrev pub is_line_end_class : ByteClass → Bool
+is_line_end_class LineEnd = true
+is_line_end_class _ = false
+
+-- a byte that a comment goes on with
+abbrev pub is_comment_byte : ℕ → Bool
+is_comment_byte b = not (is_line_end_class (class_of b))
+
+-- whether a class is that of blanks, LF among them
+abbrev pub is_blank_class : ByteClass → Bool
+is_blank_class LineEnd = true
+is_blank_class Blank = true
+is_blank_class _ = false

@@ -8,8 +8,7 @@ use Rattle.pddl_tokens.specs.declared.spans.Span.{Span}
 use Rattle.pddl_tokens.specs.declared.spans.Token.{Token}
 use Rattle.pddl_tokens.specs.declared.spans.TokenKind.{TokenKind}
 use Rattle.pddl_tokens.specs.declared.spans.TokenKind.TheVariants.{Left, Right, Word}
-use Rattle.pddl_tokens.specs.declared.spans.TextFault.{TextFault}
-use Rattle.pddl_tokens.specs.declared.spans.TextFault.TheVariants.{TooLong, BadByte}
+use Rattle.pddl_tokens.specs.declared.spans.BadByte.{BadByte}
 use Rattle.pddl_tokens.specs.Bytes.{class_of, is_word_byte}
 
 -- what stands in a text: a token with its bytes, or the first bad byte, behind which nothing is read
@@ -87,8 +86,7 @@ abbrev pub piece_of : Token → Piece
 piece_of t = token t.kind t.span t.text.now
 
 -- what one step of a cursor answers, where `old` and `new` are the pieces still to come before and after it
-abbrev pub Takes : Result (Option Token) TextFault → List Piece → List Piece → Type 0
+abbrev pub Takes : Result (Option Token) BadByte → List Piece → List Piece → Type 0
 Takes (Ok (Some t)) old new = old ≡ piece_of t ∷ new
 Takes (Ok None) old new = (old ≡ []) × (new ≡ [])
-Takes (Err (BadByte at)) old new = (old ≡ bad at ∷ []) × (new ≡ old) × (at < 2 ^ 31)
-Takes (Err TooLong) old new = ⊥
+Takes (Err byte) old new = (old ≡ bad byte.at ∷ []) × (new ≡ old) × (byte.at < 2 ^ 31)

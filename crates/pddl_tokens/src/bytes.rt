@@ -1,7 +1,8 @@
 //! The classes of bytes that a text is cut by.
 
 ghost use Rattle.std.specs.Prelude.{◌≡◌};
-ghost use Rattle.pddl_tokens.specs.Bytes.{class_of, is_blank_class, is_word_byte, is_comment_byte};
+ghost use Rattle.pddl_tokens.specs.Bytes.{class_of, is_word_byte};
+ghost use Rattle.pddl_tokens.specs.Cut.{is_blank_class, is_comment_byte};
 
 /// What a byte stands for outside comments.
 #[derive(Clone, Copy, Debug, PartialEq, Eq)]

@@ -14,4 +14,4 @@ mod spans;
 pub use lines::line_of;
 pub use pddl_words::{WordKind, same_folded, word_kind};
 pub use scan::{Cursor, Group};
-pub use spans::{Span, TextFault, Token, TokenKind};
+pub use spans::{BadByte, Span, Token, TokenKind, TooLong};

@@ -2,11 +2,12 @@
 
 ghost use Rattle.std.specs.Prelude.{◌≡◌, ◌+◌, ◌<◌, ◌≤◌, ◌^◌, ◌++◌, length, drop, IfOk, IfErr, IfSome};
 ghost use Rattle.std.specs.List.{prefix_len};
-ghost use Rattle.pddl_tokens.specs.Bytes.{is_word_byte, is_comment_byte};
+ghost use Rattle.pddl_tokens.specs.Bytes.{is_word_byte};
+ghost use Rattle.pddl_tokens.specs.Cut.{is_comment_byte};
 ghost use Rattle.pddl_tokens.specs.Front.{IsFront, pieces_at};
 
 use crate::bytes::{ByteClass, class_of, is_blank, is_comment_byte, is_word_byte};
-use crate::spans::{Span, TextFault, Token, TokenKind};
+use crate::spans::{BadByte, Span, Token, TokenKind, TooLong};
 use memchr::memchr;
 use std::marker::Model;
 
@@ -33,14 +34,14 @@ impl<'a> Cursor<'a> {
 
     /// A cursor at the start of a text.
     #[tactic(auto, unfolding(crate::specs::Tokens::pieces))]
-    pub fn new(text: &'a [u8]) -> Result<Self, TextFault>
+    pub fn new(text: &'a [u8]) -> Result<Self, TooLong>
         ensures ok { IfOk result (λ c. (length text.now < 2 ^ 31) × (c ≡ pieces text.now)) }
-        ensures err { IfErr result (λ e. (2 ^ 31 ≤ length text.now) × (e ≡ TextFault.TooLong)) }
+        ensures err { IfErr result (λ e. 2 ^ 31 ≤ length text.now) }
     {
         if text.len() < 1 << 31 {
             Ok(Cursor { text, at: 0 })
         } else {
-            Err(TextFault::TooLong)
+            Err(TooLong)
         }
     }
 
@@ -57,12 +58,12 @@ impl<'a> Cursor<'a> {
     /// The next token, or `None` where none follows.
     ///
     /// At a bad byte the same fault comes at each further call, and at the end `None` does.
-    pub fn next(&mut self) -> Result<Option<Token<'a>>, TextFault>
+    pub fn next(&mut self) -> Result<Option<Token<'a>>, BadByte>
         ensures { Takes result self.old self.new }
     {
         match first_from(self.text, self.at) {
             Front::End => Ok(None),
-            Front::Bad { at } => Err(TextFault::BadByte { at: at as u32 }),
+            Front::Bad { at } => Err(BadByte { at: at as u32 }),
             Front::Token { kind, start, end } => {
                 self.at = end;
                 Ok(Some(Token {

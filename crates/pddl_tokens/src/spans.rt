@@ -30,11 +30,13 @@ pub struct Token<'a> {
     pub text: &'a [u8],
 }
 
-/// What keeps a text from being read.
+/// A text has 2^31 bytes or more.
 #[derive(Clone, Copy, Debug, PartialEq, Eq)]
-pub enum TextFault {
-    /// The text has 2^31 bytes or more.
-    TooLong,
-    /// The byte at this offset may stand in comments only.
-    BadByte { at: u32 },
+pub struct TooLong;
+
+/// A byte that may only be in comments.
+#[derive(Clone, Copy, Debug, PartialEq, Eq)]
+pub struct BadByte {
+    /// Its offset in the text.
+    pub at: u32,
 }

@@ -9,6 +9,7 @@ use Rattle.pddl_words.specs.Decimals.{digits_value}
 unfoldable pub digits_of : List ℕ → Option ℕ
 digits_of bytes = if nat_le 1 (length bytes) && (nat_le (length bytes) 9 && list_all is_ascii_digit bytes) then Some (digits_value bytes) else None
 
+-- the point of a decimal number
 abbrev pub is_point : ℕ → Bool
 is_point b = b == 46
 

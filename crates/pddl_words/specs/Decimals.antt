@@ -8,6 +8,7 @@ pub record Decimal : Type 0 where
   pub whole : List ℕ
   pub fraction : List ℕ
 
+-- a digit of ASCII
 abbrev pub IsDigit : ℕ → Type 0
 IsDigit b = IsTrue (is_ascii_digit b)
 

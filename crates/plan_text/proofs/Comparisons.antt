@@ -10,8 +10,10 @@ use Rattle.pddl_words.specs.Words.{folded}
 use Rattle.strips_task.specs.declared.plans.Plan.{Plan}
 use Rattle.strips_task.specs.declared.plans.Plan.TheVariants.{Steps, Unreadable}
 use Rattle.strips_task.specs.declared.steps.StepText.{StepText}
-use Rattle.strips_task.specs.Plans.{plan_eq, plan_same, plans_equivalence}
-use Rattle.strips_task.specs.Steps.{step_of, step_eq, step_decides}
+use Rattle.strips_task.specs.Plans.{plan_eq}
+use Rattle.strips_task.specs.PlanEquality.{plan_same, plans_equivalence}
+use Rattle.strips_task.specs.Steps.{step_of, step_eq}
+use Rattle.strips_task.specs.StepEquality.{step_decides}
 use Rattle.plan_text.specs.PlanReading.{plan_of}
 use Rattle.plan_text.specs.Walks.{Walk, HasPassed, GoesBehind, reading_behind}
 use Rattle.plan_text.specs.Faults.{IsReadable, HavePassed, PassSame}

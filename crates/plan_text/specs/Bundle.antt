@@ -24,11 +24,6 @@ is_separator line = starts_with nat_eq line dashes && list_all may_follow_dashes
 unfoldable pub parts : List ℕ → List (List ℕ)
 parts bundle = map concat (slice_split is_separator (lines bundle))
 
--- the parts of what is left of a bundle; none where nothing is left, not even an empty part
-abbrev pub parts_left : Option (List ℕ) → List (List ℕ)
-parts_left None = []
-parts_left (Some rest) = parts rest
-
 -- the parts of a bundle from a place on
 abbrev pub parts_from : List ℕ → ℕ → List (List ℕ)
 parts_from bundle start = parts (drop start bundle)

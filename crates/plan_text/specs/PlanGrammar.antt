@@ -17,6 +17,7 @@ pub data Symbol : Type 0 where
   right : Symbol
   word : List ℕ → Symbol
 
+-- the symbol of a token
 abbrev pub symbol_of : TokenKind → List ℕ → Symbol
 symbol_of Left text = left
 symbol_of Right text = right

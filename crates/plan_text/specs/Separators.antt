@@ -23,3 +23,8 @@ pub record IsFirstPart (place : PartPlace) (bundle : List ℕ) (start : ℕ) : T
   pub within : place.end ≤ length bundle
   pub behind : IfSome place.next (λ next. next ≤ length bundle)
   pub first : parts_from bundle start ≡ slice_range bundle start place.end ∷ parts_behind bundle place.next
+
+-- the parts of what is left of a bundle; none where nothing is left, not even an empty part
+abbrev pub parts_left : Option (List ℕ) → List (List ℕ)
+parts_left None = []
+parts_left (Some rest) = parts rest

@@ -21,7 +21,7 @@ pub struct Parts<'a> {
 impl<'a> Model for Parts<'a> {
     ghost use Rattle.std.specs.Prelude.{ℕ, List};
     ghost use Rattle.std.specs.Option.{option_copied};
-    ghost use Rattle.plan_text.specs.Bundle.{parts_left};
+    ghost use Rattle.plan_text.specs.Separators.{parts_left};
 
     ghost Value = { List (List ℕ) };
 

@@ -7,7 +7,7 @@ ghost use Rattle.plan_text.specs.PlanSteps.{reading, IsReady, LeadsTo, ReadsOn};
 
 use crate::between::{read_left, read_number};
 use crate::want::{Expected, Want};
-use pddl_tokens::{Cursor, TextFault, TokenKind, WordKind, line_of, word_kind};
+use pddl_tokens::{Cursor, TokenKind, WordKind, line_of, word_kind};
 use std::alloc::{AllocError, Global};
 use strips_task::{OpenSteps, Plan};
 
@@ -36,8 +36,7 @@ pub fn read_plan(alloc: Global, text: &[u8]) -> Result<Plan, AllocError>
                 Some(next) => expected = next,
                 None => return Ok(unreadable(text, token.span.start)),
             },
-            Err(TextFault::BadByte { at }) => return Ok(unreadable(text, at)),
-            Err(TextFault::TooLong) => unreachable!(),
+            Err(byte) => return Ok(unreadable(text, byte.at)),
         }
     }
 }

@@ -17,7 +17,7 @@ ghost use Rattle.plan_text.specs.WalkFinds.{ComesNext, IsFound, IsOpened, IsOpen
 
 use crate::between::read_between;
 use crate::want::{Expected, Want};
-use pddl_tokens::{Cursor, Group, TextFault, TokenKind, WordKind, line_of, word_kind};
+use pddl_tokens::{Cursor, Group, TokenKind, WordKind, line_of, word_kind};
 use std::alloc::AllocError;
 use std::marker::Model;
 use strips_task::{MOST_STEPS, OpenSteps};
@@ -342,8 +342,7 @@ fn open_step(text: &[u8], cursor: &mut Cursor<'_>, mut expected: Expected, steps
                     place: token.span.start,
                 },
             },
-            Err(TextFault::BadByte { at }) => return Opening::Fault { place: at },
-            Err(TextFault::TooLong) => unreachable!(),
+            Err(byte) => return Opening::Fault { place: byte.at },
         }
     }
 }
@@ -376,8 +375,7 @@ fn pass_words(text: &[u8], cursor: &mut Cursor<'_>) -> Result<(), u32>
                 Inside::Close => return Ok(()),
                 Inside::Fault => return Err(token.span.start),
             },
-            Err(TextFault::BadByte { at }) => return Err(at),
-            Err(TextFault::TooLong) => unreachable!(),
+            Err(byte) => return Err(byte.at),
         }
     }
 }

@@ -8,6 +8,7 @@ pub record LinesValue : Type 0 where
   pub passed : List ℕ
   pub room : ℕ
 
+-- 1 if the test holds, and else 0
 abbrev pub one_if : Bool → ℕ
 one_if test = cond test 1 0
 

@@ -5,12 +5,15 @@ use Rattle.planner_lines.specs.declared.rows.JobRow.{JobRow}
 use Rattle.planner_lines.specs.declared.rows.PlannerRow.{PlannerRow}
 use Rattle.planner_lines.specs.Lines.{LinesValue, times_among}
 
+-- the planners of the jobs
 abbrev pub planners_in : List JobRow → List ℕ
 planners_in jobs = map (λ row. row.planner) jobs
 
+-- for each job the next of its planner, if there is one
 abbrev pub links_in : List JobRow → List (Option ℕ)
 links_in jobs = map (λ row. row.behind) jobs
 
+-- for each planner how many of its jobs are passed
 abbrev pub passed_in : List PlannerRow → List ℕ
 passed_in rows = map (λ row. row.passed) rows
 
@@ -55,6 +58,7 @@ abbrev pub linked : List (Option ℕ) → Option ℕ → ℕ → List (Option �
 linked links (Some last) number = set links last (Some number)
 linked links None number = links
 
+-- the first number, or else the second
 abbrev pub or_else : Option ℕ → ℕ → Option ℕ
 or_else (Some next) number = Some next
 or_else None number = Some number

@@ -3,3 +3,9 @@ pub mod TextTrees
 pub mod TypedLists
 pub mod VariableLists
 pub mod TreeOrCycle
+pub mod ThroughLists
+pub mod DeclaredTables
+pub mod KeptEntries
+pub mod DeclaredObjects
+pub mod DeclaredTypes
+pub mod ParentNumbers

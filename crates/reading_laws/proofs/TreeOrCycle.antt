@@ -4,7 +4,7 @@ use Rattle.std.proofs.Common.{◌≡◌, ◌≢◌, ℕ, ◌<◌, ◌&&◌, zero
 use Rattle.std.proofs.lemmas.Bool.{and_parts, ltb-true, lt-ltb}
 use Rattle.strips_task.specs.Types.{IsTypeTree, ancestor, is_within, is_below}
 use Rattle.strips_task.proofs.TypeTrees.{below_from_within}
-use Rattle.pddl_reader.specs.TypeOrder.{is_under_itself}
+use Rattle.pddl_reader.specs.TypeCycles.{is_under_itself}
 use Rattle.reading_laws.specs.TypeCycles.{HasCycle, IsTreeOrCycle}
 use Rattle.pddl_reader.proofs.TypeCycles.{tree_without_cycles}
 use Rattle.pddl_reader.proofs.TypeTests.{tree_from}

@@ -1,9 +1,13 @@
 //! What the definitions of the readers mean, in the words of PDDL: each law is the contract of a function that does nothing.
 //!
 //! The laws say that texts are read as they are written: by the trees that their tokens spell, by the groups of a typed list, and by types that
-//! form a tree. No program calls them, so they are a crate of their own, and a change of theirs asks for no other proof.
+//! form a tree. They also say of each list of declarations, as a whole, when it is accepted and what it gives: of predicates, functions and
+//! actions, of which none may be declared twice, and of types and objects, which may be declared again if they are declared alike. No program
+//! calls them, so they are a crate of their own, and a change of theirs asks for no other proof.
 #![tactic(auto)]
 
+ghost use Rattle.reading_laws.specs.DeclaredOnce.{AreObjectsDeclared, AreTypesDeclared};
+ghost use Rattle.reading_laws.specs.DeclaredTables.{AreActionsDeclared, AreFunctionsDeclared, ArePredicatesDeclared};
 ghost use Rattle.reading_laws.specs.TextTrees.{AreTreesSpelled};
 ghost use Rattle.reading_laws.specs.TypeCycles.{IsTreeOrCycle};
 ghost use Rattle.reading_laws.specs.TypedLists.{AreNamesTyped, AreVariablesTyped};
@@ -28,4 +32,35 @@ pub fn typed_variables_are_groups()
 /// of a tree fails although all parents are known, there really is a cycle.
 pub fn types_form_a_tree_or_a_cycle()
     ensures { IsTreeOrCycle }
+{}
+
+/// A list of predicates is accepted exactly if the types of all variables are known, no name is declared twice and there are no more than the
+/// limit. Its table has an entry for each declaration, in text order: the name in lower case, and the types of its variables.
+pub fn predicates_are_declared()
+    ensures { ArePredicatesDeclared }
+{}
+
+/// The same for a list of functions, in which `total-cost` must have no variables.
+pub fn functions_are_declared()
+    ensures { AreFunctionsDeclared }
+{}
+
+/// A list of actions is accepted exactly if each stands for an action, no name is declared twice and there are no more than the limit. Its
+/// tables have the name of each action in lower case, what it stands for, and its increases, all in text order.
+pub fn actions_are_declared()
+    ensures { AreActionsDeclared }
+{}
+
+/// A list of objects, declared behind others, is accepted exactly if the type of each group is known, no object has two types and there are no
+/// more than the limit. It gives the others and then the objects that it declares, each once, where it is declared first, in lower case and
+/// with the number of its type.
+pub fn objects_are_declared()
+    ensures { AreObjectsDeclared }
+{}
+
+/// A list of types is accepted exactly if there are no more than the limit, no type is declared under two parents (in the larger dialect
+/// `object` counts as none), and the parents form a tree below `object`. It gives `object` and the types that it names, each once, where it is
+/// named first and in lower case, and for each the number of its parent: the one that it is declared under, or else `object`.
+pub fn types_are_declared()
+    ensures { AreTypesDeclared }
 {}

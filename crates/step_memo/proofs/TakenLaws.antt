@@ -14,7 +14,7 @@ use Rattle.strips_judge.specs.declared.verdict.Verdict.{Verdict}
 use Rattle.strips_judge.specs.declared.verdict.Verdict.TheVariants.{Valid, Fails, Goal, Unreadable}
 use Rattle.strips_judge.specs.declared.verdict.Why.{Why}
 use Rattle.strips_judge.specs.Codes.{Code, IsCode}
-use Rattle.strips_judge.specs.Numbered.{Numbered, Grows, state_of}
+use Rattle.strips_judge.specs.NumberedState.{Numbered, Grows, state_of}
 use Rattle.strips_judge.specs.State.{State, is_in}
 use Rattle.strips_judge.specs.Step.{hindrance, after, missing}
 use Rattle.strips_judge.specs.Validity.{IsApplicable, LeadTo}

@@ -3,7 +3,7 @@
 use Rattle.std.specs.Prelude.{◌≡◌, ℕ, List, Option, Some, None, length}
 use Rattle.strips_task.specs.declared.steps.StepText.{StepText}
 use Rattle.strips_task.specs.declared.tasks.TaskParts.{TaskParts}
-use Rattle.strips_judge.specs.Numbered.{Numbered, state_of}
+use Rattle.strips_judge.specs.NumberedState.{Numbered, state_of}
 use Rattle.strips_judge.specs.State.{is_in}
 use Rattle.strips_judge.specs.Validity.{LeadTo}
 use Rattle.strips_judge.specs.declared.verdict.Verdict.{Verdict}

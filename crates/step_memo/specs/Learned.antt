@@ -7,7 +7,7 @@ use Rattle.strips_task.specs.declared.steps.TheConstants.{MOST_STEPS}
 use Rattle.strips_task.specs.declared.tasks.TaskParts.{TaskParts}
 use Rattle.strips_task.specs.Spelled.{IsSpelled, step_spelled}
 use Rattle.strips_judge.specs.Codes.{IsCode}
-use Rattle.strips_judge.specs.Numbered.{Numbered}
+use Rattle.strips_judge.specs.NumberedState.{Numbered}
 use Rattle.strips_judge.specs.State.{State}
 use Rattle.strips_judge.specs.Step.{hindrance, after}
 use Rattle.plan_cost.specs.declared.costs.CostedTask.{CostedTask}

@@ -5,7 +5,7 @@ ghost use Rattle.strips_task.specs.declared.steps.StepText.{StepText};
 ghost use Rattle.strips_task.specs.declared.steps.TheConstants.{MOST_STEPS};
 ghost use Rattle.strips_task.specs.Spelled.{IsSpelled, step_spelled};
 ghost use Rattle.strips_task.specs.StepView.{step_shown};
-ghost use Rattle.strips_judge.specs.Numbered.{state_of};
+ghost use Rattle.strips_judge.specs.NumberedState.{state_of};
 ghost use Rattle.strips_judge.specs.State.{is_in};
 ghost use Rattle.strips_judge.specs.declared.verdict.Verdict.TheVariants.{Fails};
 ghost use Rattle.plan_cost.specs.declared.costs.Cost.TheVariants.{NotCounted};

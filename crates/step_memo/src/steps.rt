@@ -1,7 +1,7 @@
 //! Steps that are taken by what is known of them.
 ghost use Rattle.std.specs.Prelude.{◌≡◌, false, Some, None, All, IsTrue, IfOk, IfSome};
 ghost use Rattle.strips_task.specs.Spelled.{IsSpelled, step_spelled};
-ghost use Rattle.strips_judge.specs.Numbered.{state_of};
+ghost use Rattle.strips_judge.specs.NumberedState.{state_of};
 ghost use Rattle.strips_judge.specs.Step.{after, hindrance};
 ghost use Rattle.strips_judge.specs.StepNumbers.{AreWithin, IsNumbered};
 ghost use Rattle.step_memo.specs.Learned.{IsAmount, IsLearned, Takes};

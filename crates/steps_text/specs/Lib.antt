@@ -1,4 +1,3 @@
-pub mod Asked
 pub mod Faults
 pub mod Lines
 pub mod LinesLeft

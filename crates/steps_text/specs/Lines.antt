@@ -3,7 +3,7 @@
 use Rattle.std.specs.Prelude.{ℕ, Bool, true, ◌==◌, List, [], ◌∷◌, Option, Some, None, codes, if◌then◌else◌}
 use Rattle.std.specs.Option.{option_and_then}
 use Rattle.std.specs.Str.{bytes_eq}
-use Rattle.steps_text.specs.Asked.{Asked, to_submit, to_close, to_take, to_hand_back, to_finish, to_emit}
+use Rattle.intake_core.specs.Asked.{Asked, to_submit, to_close, to_take, to_hand_back, to_finish, to_emit}
 use Rattle.pddl_words.specs.DecimalReading.{digits_of}
 use Rattle.plan_text.specs.PlanReading.{plan_of}
 use Rattle.steps_text.specs.Words.{without_crs, first_word, behind_word, is_bare}
@@ -26,6 +26,7 @@ only_number line = option_and_then (λ found. if is_bare found.1 then Some found
 abbrev pub two_numbers : List ℕ → Option (ℕ × ℕ)
 two_numbers line = option_and_then (λ found. option_and_then (λ second. Some (found.0, second)) (only_number found.1)) (first_number line)
 
+-- the meaning, or that of a line that has none
 abbrev pub or_strange : Option Meaning → Meaning
 or_strange (Some meaning) = meaning
 or_strange None = strange
@@ -75,6 +76,7 @@ meaning_of word rest =
     else (if bytes_eq word (codes "emit") then emit_in rest
     else strange))))))
 
+-- the meaning of a line with this first word, unless the line is skipped
 abbrev pub meaning_by : List ℕ → List ℕ → Option Meaning
 meaning_by word rest = (if is_skipped word then None else Some (meaning_of word rest))
 

@@ -2,7 +2,7 @@
 
 use Rattle.std.specs.Prelude.{ℕ, ◌+◌, ◌==◌, ◌&&◌, nat_le, nat_lt, List, [], ◌∷◌, length, Option, Some, None, Result, Ok, Err, if◌then◌else◌}
 use Rattle.std.specs.List.{filter_map, slice_split}
-use Rattle.steps_text.specs.Asked.{Asked}
+use Rattle.intake_core.specs.Asked.{Asked}
 use Rattle.steps_text.specs.declared.fault.StepsFault.{StepsFault}
 use Rattle.steps_text.specs.declared.fault.StepsFaultKind.{StepsFaultKind}
 use Rattle.steps_text.specs.declared.fault.StepsFaultKind.TheVariants.{Expected, TooMany}
@@ -16,9 +16,11 @@ lines text = slice_split (λ b. b == 10) text
 abbrev pub most_planners : ℕ
 most_planners = 64
 
+-- how many slots a desk may have
 abbrev pub most_places : ℕ
 most_places = 65536
 
+-- how many steps a steps file may have
 abbrev pub most_steps : ℕ
 most_steps = 100000
 
@@ -33,6 +35,7 @@ pub record Line : Type 0 where
   pub number : ℕ
   pub meaning : Meaning
 
+-- the line, unless it was skipped, and the rest
 abbrev pub kept : ℕ → Option Meaning → List Line → List Line
 kept number None rest = rest
 kept number (Some meaning) rest = record { number = number; meaning = meaning } ∷ rest
@@ -42,13 +45,16 @@ abbrev pub kept_lines : ℕ → List (List ℕ) → List Line
 kept_lines number [] = []
 kept_lines number (line ∷ lines) = kept number (line_meaning line) (kept_lines (number + 1) lines)
 
+-- a fault of this kind in this line
 abbrev pub fault : StepsFaultKind → ℕ → Option StepsFault
 fault kind line = Some (record { kind = kind; line = line })
 
+-- the fault of a line after so many steps, if it has one
 abbrev pub fault_by : ℕ → ℕ → Meaning → Option StepsFault
 fault_by before number (step asked) = (if nat_lt before most_steps then None else fault TooMany number)
 fault_by before number _ = fault Expected number
 
+-- the first fault, if there is one, or else the later
 abbrev pub first_of : Option StepsFault → Option StepsFault → Option StepsFault
 first_of (Some found) later = Some found
 first_of None later = later
@@ -62,6 +68,7 @@ abbrev pub steps_fault : ℕ → List Line → Option StepsFault
 steps_fault before [] = None
 steps_fault before (line ∷ lines) = first_of (step_fault before line) (steps_fault (before + 1) lines)
 
+-- the step of a line, if it is one
 abbrev pub asked_in : Meaning → Option Asked
 asked_in (step asked) = Some asked
 asked_in _ = None
@@ -70,6 +77,7 @@ asked_in _ = None
 abbrev pub steps_of : List Line → List Asked
 steps_of lines = filter_map (λ line. asked_in line.meaning) lines
 
+-- the steps of a text, or its fault
 abbrev pub answer : ℕ → ℕ → List Asked → Option StepsFault → Result StepsValue StepsFault
 answer planners places steps None = Ok (record { planners = planners; places = places; steps = steps })
 answer planners places steps (Some found) = Err found

@@ -1,7 +1,7 @@
 -- What a reader of steps tells of a text's value: the value itself, its fault, or that memory ran out, which says nothing of the text.
 
 use Rattle.std.specs.Prelude.{◌≡◌, ⊤, List, map, Option, Some, None, Result, Ok, Err}
-use Rattle.steps_text.specs.Asked.{asked}
+use Rattle.intake_core.specs.Asked.{asked}
 use Rattle.intake_core.specs.declared.replaying.Step.{Step}
 use Rattle.steps_text.specs.declared.fault.StepsFault.{StepsFault}
 use Rattle.steps_text.specs.declared.read.StepsRefusal.{StepsRefusal}
@@ -13,11 +13,13 @@ use Rattle.steps_text.specs.StepsTexts.{StepsValue, Line, steps_fault, steps_of}
 abbrev pub value_of : StepsText → StepsValue
 value_of read = record { planners = read.planners; places = read.places; steps = map asked read.steps }
 
+-- what was read says the same as the definition, unless memory ran out
 abbrev pub tells : Result StepsText StepsRefusal → Result StepsValue StepsFault → Type 0
 tells (Ok read) value = value ≡ Ok (value_of read)
 tells (Err (Fault found)) value = value ≡ Err found
 tells (Err OutOfMemory) value = ⊤
 
+-- the fault is that of the definition, unless memory ran out
 abbrev pub tells_fault : StepsRefusal → Option StepsFault → Type 0
 tells_fault (Fault found) value = value ≡ Some found
 tells_fault OutOfMemory value = ⊤

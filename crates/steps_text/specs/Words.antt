@@ -7,6 +7,7 @@ use Rattle.std.specs.List.{list_all, position_or_len, suffix_len}
 abbrev pub is_space : ℕ → Bool
 is_space b = b == 32 || b == 9
 
+-- a byte that is no space
 abbrev pub is_no_space : ℕ → Bool
 is_no_space b = not (is_space b)
 

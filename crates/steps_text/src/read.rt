@@ -1,6 +1,6 @@
 //! A whole steps file.
 ghost use Rattle.std.specs.Prelude.{◌≡◌, ◌+◌, ◌<◌, ◌^◌, ◌++◌, [], ◌∷◌, None, length, map, IfOk, IfErr, OnOk, ◌≤◌};
-ghost use Rattle.steps_text.specs.Asked.{asked};
+ghost use Rattle.intake_core.specs.Asked.{asked};
 ghost use Rattle.steps_text.specs.LinesLeft.{shown_line};
 ghost use Rattle.steps_text.specs.Meanings.{shown};
 ghost use Rattle.steps_text.specs.StepsTexts.{most_planners, most_places, kept_lines, step_fault, steps_by, steps_of, steps_text};

@@ -7,10 +7,10 @@ use Rattle.bit_rows.specs.Rows.{row_has}
 use Rattle.indexmap.specs.IndexSet.{insert_key}
 use Rattle.strips_task.specs.Atom.{atom_eq}
 use Rattle.strips_task.specs.declared.atoms.Atom.{Atom}
-use Rattle.strips_judge.specs.Numbers.{number_in}
+use Rattle.strips_judge.specs.AtomNumbers.{number_in}
 use Rattle.strips_judge.specs.declared.recent.Slot.{Slot}
 use Rattle.strips_judge.specs.Recent.{IsRecent}
-use Rattle.strips_judge.specs.Numbered.{Numbered, KeepsNumbers, Grows, IsRowFor}
+use Rattle.strips_judge.specs.NumberedState.{Numbered, KeepsNumbers, Grows, IsRowFor}
 use Rattle.strips_judge.proofs.Numbering.{number_in-first, number_in-none_later, number_in-lt, insert_key-new}
 
 pub keeps_same : (atoms new : List Atom) → new ≡ atoms → KeepsNumbers atoms new

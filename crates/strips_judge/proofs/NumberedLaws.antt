@@ -9,8 +9,8 @@ use Rattle.strips_task.specs.declared.atoms.Atom.{Atom}
 use Rattle.strips_task.specs.Atom.{atom_eq}
 use Rattle.strips_task.specs.FirstPlaces.{first_places}
 use Rattle.strips_task.proofs.AtomEquality.{atom_equiv, atom_same}
-use Rattle.strips_judge.specs.Numbers.{number_in}
-use Rattle.strips_judge.specs.Numbered.{bit_of, state_by}
+use Rattle.strips_judge.specs.AtomNumbers.{number_in}
+use Rattle.strips_judge.specs.NumberedState.{bit_of, state_by}
 use Rattle.bit_rows.specs.Rows.{row_has}
 use Rattle.strips_judge.specs.State.{State, is_in, with_all, without}
 use Rattle.strips_judge.proofs.Numbering.{same_number, is_some-place, place-lt, place-stays, place-late}

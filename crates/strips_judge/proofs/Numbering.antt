@@ -6,7 +6,7 @@ use Rattle.indexmap.specs.IndexSet.{insert_key}
 use Rattle.strips_task.specs.declared.atoms.Atom.{Atom}
 use Rattle.strips_task.specs.Atom.{atom_eq}
 use Rattle.strips_task.proofs.AtomEquality.{atom_equiv, atom_same}
-use Rattle.strips_judge.specs.Numbers.{number_in}
+use Rattle.strips_judge.specs.AtomNumbers.{number_in}
 
 module _ {A : Type 0} where
   -- numbers count up from the first

@@ -3,7 +3,6 @@
 use Rattle.std.specs.Prelude.{◌≡◌, ℕ, Bool, true, false, List, [], ◌∷◌, ◌++◌, Option, Some, None, All, IsTrue, map, if◌then◌else◌}
 use Rattle.std.specs.Bool.{beq}
 use Rattle.std.specs.List.{filter_map}
-use Rattle.strips_task.specs.declared.actions.Action.{Action}
 use Rattle.strips_task.specs.declared.atoms.Atom.{Atom}
 use Rattle.strips_task.specs.declared.atoms.GroundCond.{GroundCond}
 use Rattle.strips_task.specs.declared.atoms.GroundFormula.{GroundFormula}
@@ -12,9 +11,9 @@ use Rattle.strips_task.specs.declared.steps.StepText.{StepText}
 use Rattle.strips_task.specs.declared.tasks.TaskParts.{TaskParts}
 use Rattle.strips_judge.specs.declared.codes.StepCode.{StepCode}
 use Rattle.strips_judge.specs.Grounding.{ground}
-use Rattle.strips_judge.specs.Numbers.{number_in}
+use Rattle.strips_judge.specs.AtomNumbers.{number_in}
 use Rattle.strips_judge.specs.State.{State, holds}
-use Rattle.strips_judge.specs.Step.{action_named, objects_named, fault, precondition}
+use Rattle.strips_judge.specs.Step.{fault, precondition, deletes, adds}
 
 -- the numbers of the atoms that a step needs to be true and to be false, and of those that it deletes and adds
 pub record Code : Type 0 where
@@ -50,22 +49,6 @@ pub record AsksFor (atoms : List Atom) (conds : List GroundCond) (code : Code) :
   pub needed : AreNumbers atoms (asked true conds) code.needed
   pub forbidden : AreNumbers atoms (asked false conds) code.forbidden
   pub equalities : All (λ cond. HoldsIfEquality cond cond.formula) conds
-
--- the atoms that an action with these objects deletes, and those that it adds
-abbrev pub deletes_by : List ℕ → Option Action → List Atom
-deletes_by objects None = []
-deletes_by objects (Some action) = map (ground objects) action.del
-
-abbrev pub adds_by : List ℕ → Option Action → List Atom
-adds_by objects None = []
-adds_by objects (Some action) = map (ground objects) action.add
-
--- the atoms that a step without a fault deletes, and those that it adds
-abbrev pub deletes : TaskParts → StepText → List Atom
-deletes parts step = deletes_by (objects_named parts step.args) (action_named parts step.action)
-
-abbrev pub adds : TaskParts → StepText → List Atom
-adds parts step = adds_by (objects_named parts step.args) (action_named parts step.action)
 
 -- this is the code of a step, where atoms have these numbers: the step has no fault, and the code asks and does what it asks and does
 pub record IsCode (parts : TaskParts) (atoms : List Atom) (step : StepText) (code : Code) : Type 0 where

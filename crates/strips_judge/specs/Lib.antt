@@ -1,7 +1,7 @@
 pub mod Codes
 pub mod Grounding
-pub mod Numbered
-pub mod Numbers
+pub mod NumberedState
+pub mod AtomNumbers
 pub mod State
 pub mod ShortAtoms
 pub mod Recent

@@ -3,7 +3,7 @@
 use Rattle.std.specs.Prelude.{◌≡◌, ◌≤◌, List, Some}
 use Rattle.strips_task.specs.declared.atoms.Atom.{Atom}
 use Rattle.strips_judge.specs.declared.recent.Slot.{Slot}
-use Rattle.strips_judge.specs.Numbers.{number_in}
+use Rattle.strips_judge.specs.AtomNumbers.{number_in}
 use Rattle.strips_judge.specs.ShortAtoms.{atom_of}
 
 -- a slot is empty, or has the number of its atom

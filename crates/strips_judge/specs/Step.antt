@@ -16,6 +16,7 @@ use Rattle.strips_judge.specs.declared.verdict.Why.{Why}
 use Rattle.strips_judge.specs.declared.verdict.Why.TheVariants.{UnknownAction, WrongCount, UnknownObject, WrongType, Missing}
 use Rattle.strips_judge.specs.Grounding.{ground, ground_condition}
 use Rattle.strips_judge.specs.State.{State, holds, after_effects}
+use Rattle.strips_task.specs.declared.atoms.Atom.{Atom}
 
 -- the action that a word names, if there is one
 abbrev pub action_named : TaskParts → List ℕ → Option Action
@@ -90,11 +91,24 @@ abbrev pub missing_why : List GroundCond → Option Why
 missing_why [] = None
 missing_why (cond ∷ conds) = Some (Missing (cond ∷ conds))
 
--- why a step of this action is not applicable in a state, if it is not
-abbrev pub action_hindrance : TaskParts → State → Action → List (List ℕ) → Option Why
-action_hindrance parts state action args =
-    option_or (argument_fault parts action args) (missing_why (missing state (conditions_by (objects_named parts args) (Some action))))
-
 -- why a step is not applicable in a state, if it is not: its fault, or else the conditions that do not hold
 abbrev pub hindrance : TaskParts → State → StepText → Option Why
 hindrance parts state step = option_or (fault parts step) (missing_why (missing state (precondition parts step)))
+
+-- the atoms that an action with these objects deletes, if there is such an action
+abbrev pub deletes_by : List ℕ → Option Action → List Atom
+deletes_by objects None = []
+deletes_by objects (Some action) = map (ground objects) action.del
+
+-- the atoms that an action with these objects adds, if there is such an action
+abbrev pub adds_by : List ℕ → Option Action → List Atom
+adds_by objects None = []
+adds_by objects (Some action) = map (ground objects) action.add
+
+-- the atoms that a step without a fault deletes
+abbrev pub deletes : TaskParts → StepText → List Atom
+deletes parts step = deletes_by (objects_named parts step.args) (action_named parts step.action)
+
+-- the atoms that a step without a fault adds
+abbrev pub adds : TaskParts → StepText → List Atom
+adds parts step = adds_by (objects_named parts step.args) (action_named parts step.action)

@@ -4,6 +4,11 @@ use Rattle.std.specs.Prelude.{◌≡◌, ◌<◌, ℕ, Bool, true, false, List, 
 use Rattle.strips_task.specs.declared.steps.StepText.{StepText}
 use Rattle.strips_task.specs.declared.tasks.TaskParts.{TaskParts}
 use Rattle.strips_task.specs.Names.{number_named}
+use Rattle.std.specs.Option.{option_or}
+use Rattle.strips_task.specs.declared.actions.Action.{Action}
+use Rattle.strips_judge.specs.declared.verdict.Why.{Why}
+use Rattle.strips_judge.specs.State.{State}
+use Rattle.strips_judge.specs.Step.{objects_named, argument_fault, conditions_by, missing, missing_why}
 
 -- the number of the action or of the object that a word names, if there is one
 abbrev pub number_by : TaskParts → Bool → List ℕ → Option ℕ
@@ -23,3 +28,8 @@ IsNumbered parts step numbers = numbers_named parts (step.action ∷ step.args) 
 abbrev pub AreWithin : TaskParts → List ℕ → Type 0
 AreWithin parts [] = Unit {0}
 AreWithin parts (action ∷ objects) = (action < length parts.actions) × All (λ object. object < length parts.objects) objects
+
+-- why a step of this action is not applicable in a state, if it is not
+abbrev pub action_hindrance : TaskParts → State → Action → List (List ℕ) → Option Why
+action_hindrance parts state action args =
+    option_or (argument_fault parts action args) (missing_why (missing state (conditions_by (objects_named parts args) (Some action))))

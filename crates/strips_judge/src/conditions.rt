@@ -7,12 +7,11 @@ ghost use Rattle.indexmap.specs.IndexSet.{insert_key};
 ghost use Rattle.strips_task.specs.Atom.{cond_eq};
 ghost use Rattle.strips_task.specs.Within.{IsFormulaWithin};
 ghost use Rattle.strips_judge.specs.Grounding.{ground_condition};
-ghost use Rattle.strips_judge.specs.Numbered.{state_of};
+ghost use Rattle.strips_judge.specs.NumberedState.{state_of};
 ghost use Rattle.strips_judge.specs.State.{holds};
 ghost use Rattle.strips_judge.specs.Step.{missing};
 
 use crate::grounding::{ground_condition, object_of};
-use crate::numbers::copy_of;
 use crate::state::NumberedState;
 use indexmap::IndexSet;
 use std::alloc::{AllocError, Global};
@@ -99,7 +98,7 @@ fn copy_of_condition(alloc: Global, cond: &GroundCond) -> Result<GroundCond, All
     ensures { IfOk result (λ copy. copy ≡ cond.now) }
 {
     let formula = match &cond.formula {
-        GroundFormula::Atom(atom) => GroundFormula::Atom(copy_of(alloc, atom)?),
+        GroundFormula::Atom(atom) => GroundFormula::Atom(atom.copy(alloc)?),
         GroundFormula::Equal(left, right) => GroundFormula::Equal(*left, *right),
     };
     Ok(GroundCond {

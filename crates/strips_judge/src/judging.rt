@@ -5,9 +5,10 @@
 ghost use Rattle.std.specs.Prelude.{◌≡◌, IfOk, IfNone, Some, length};
 ghost use Rattle.strips_task.specs.StepView.{step_shown};
 ghost use Rattle.strips_task.specs.Within.{IsActionWithin};
-ghost use Rattle.strips_judge.specs.Numbered.{Grows, state_of};
+ghost use Rattle.strips_judge.specs.NumberedState.{Grows, state_of};
 ghost use Rattle.strips_judge.specs.State.{is_in};
-ghost use Rattle.strips_judge.specs.Step.{objects_named, missing, action_hindrance, hindrance, after_by, after};
+ghost use Rattle.strips_judge.specs.Step.{objects_named, missing, hindrance, after_by, after};
+ghost use Rattle.strips_judge.specs.StepNumbers.{action_hindrance};
 ghost use Rattle.strips_judge.specs.Verdict.{goal_verdict, verdict_from, verdict};
 
 use crate::arguments::bind;

@@ -7,7 +7,7 @@ ghost use Rattle.strips_task.specs.declared.steps.StepText.{StepText};
 ghost use Rattle.strips_task.specs.Within.{IsActionWithin, IsFormulaWithin};
 ghost use Rattle.strips_judge.specs.Codes.{IsCode};
 ghost use Rattle.strips_judge.specs.Grounding.{ground_condition};
-ghost use Rattle.strips_judge.specs.Numbered.{Grows, state_of};
+ghost use Rattle.strips_judge.specs.NumberedState.{Grows, state_of};
 ghost use Rattle.strips_judge.specs.Step.{action_named, after, fault, hindrance, missing, objects_named};
 ghost use Rattle.strips_judge.specs.StepNumbers.{AreWithin, IsNumbered};
 

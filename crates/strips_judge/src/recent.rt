@@ -6,7 +6,7 @@
 //! with one slot makes each of them be looked up, which takes no longer than if there were no slots.
 ghost use Rattle.std.specs.Prelude.{◌≡◌, ◌≤◌, List, All, IfOk, IfSome, Some};
 ghost use Rattle.strips_task.specs.declared.atoms.Atom.{Atom};
-ghost use Rattle.strips_judge.specs.Numbers.{number_in};
+ghost use Rattle.strips_judge.specs.AtomNumbers.{number_in};
 ghost use Rattle.strips_judge.specs.Recent.{IsRecent};
 ghost use Rattle.strips_judge.specs.ShortAtoms.{atom_of};
 

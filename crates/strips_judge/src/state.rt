@@ -7,13 +7,13 @@ ghost use Rattle.std.specs.Prelude.{◌≡◌, ◌∷◌, [], ◌<◌, ◌≤◌
 ghost use Rattle.strips_task.specs.Within.{IsPatternWithin};
 ghost use Rattle.strips_task.specs.declared.atoms.Atom.{Atom};
 ghost use Rattle.strips_judge.specs.Grounding.{ground};
-ghost use Rattle.strips_judge.specs.Numbered.{Grows, state_of};
-ghost use Rattle.strips_judge.specs.Numbers.{number_in};
+ghost use Rattle.strips_judge.specs.NumberedState.{Grows, state_of};
+ghost use Rattle.strips_judge.specs.AtomNumbers.{number_in};
 ghost use Rattle.strips_judge.specs.ShortAtoms.{atom_of};
 ghost use Rattle.strips_judge.specs.State.{is_in, without, with_all};
 
 use crate::grounding::ground;
-use crate::numbers::{copy_of, number_in};
+use crate::numbers::number_in;
 use crate::recent::RecentAtoms;
 use crate::short_atoms::ShortAtom;
 use bit_rows::Row;
@@ -35,7 +35,7 @@ impl<'t> Model for NumberedState<'t> {
     ghost use Rattle.std.specs.Prelude.{◌++◌, All};
     ghost use Rattle.strips_task.specs.Atom.{atom_eq};
     ghost use Rattle.strips_task.specs.FirstPlaces.{first_places};
-    ghost use Rattle.strips_judge.specs.Numbered.{Numbered, IsRowFor};
+    ghost use Rattle.strips_judge.specs.NumberedState.{Numbered, IsRowFor};
     ghost use Rattle.strips_judge.specs.Recent.{IsRecent};
 
     ghost Value = { Numbered };
@@ -185,7 +185,7 @@ impl NumberedState<'_> {
             return Err(AllocError);
         }
         self.bits.reserve(number + 1)?;
-        self.later.insert(copy_of(alloc, atom)?)?;
+        self.later.insert(atom.copy(alloc)?)?;
         Ok(number)
     }
 

@@ -5,10 +5,10 @@ use Rattle.std.proofs.lemmas.List.{take-append-le, drop-append-le, take_all, map
 use Rattle.std.proofs.lemmas.List.Elements.{All-push}
 use Rattle.std.proofs.Math.Seq.{drop-append_seam}
 use Rattle.std.specs.Prelude.{slice_range}
-use Rattle.strips_task.specs.Steps.{step_of, step_at, IsStepRange}
+use Rattle.strips_task.specs.Steps.{step_of, step_at}
+use Rattle.strips_task.specs.OpenPlan.{IsStepRange, IsExtension}
 use Rattle.strips_task.specs.declared.steps.StepRange.{StepRange}
 use Rattle.strips_task.specs.declared.steps.StepText.{StepText}
-use Rattle.strips_task.specs.OpenPlan.{IsExtension}
 
 -- a range that is not empty: its first word names the action, and the others are the arguments
 module _ {A : Type 0} where

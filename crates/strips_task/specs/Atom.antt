@@ -1,6 +1,6 @@
 -- Ground atoms and ground conditions: when two are the same.
 
-use Rattle.std.specs.Prelude.{ℕ, ◌+◌, ◌*◌, ◌^◌, ◌%◌, Bool, false, ◌&&◌, nat_eq, List, fold}
+use Rattle.std.specs.Prelude.{Bool, false, ◌&&◌, nat_eq}
 use Rattle.std.specs.Cmp.Lexicographic.{pointwise}
 use Rattle.std.specs.Ordering.{on, eq_of_both}
 use Rattle.std.specs.Bool.{beq}
@@ -23,7 +23,3 @@ formula_eq (formula.Equal left right) (formula.Atom atom) = false
 -- the same sign and the same formula: the two signs of a formula are two conditions
 abbrev pub cond_eq : GroundCond → GroundCond → Bool
 cond_eq = eq_of_both (on (λ c. c.positive) beq) (on (λ c. c.formula) formula_eq)
-
--- a predicate and its first arguments as the digits of a number to the base 2^16: up to three arguments fit into 64 bits
-abbrev pub front : ℕ → List ℕ → ℕ
-front pred args = fold (λ word arg. (word * 65536 % 2 ^ 64 + arg) % 2 ^ 64) pred args

@@ -9,6 +9,7 @@ use Rattle.strips_task.specs.declared.atoms.GroundFormula.{GroundFormula}
 use Rattle.strips_task.specs.declared.atoms.GroundFormula.TheVariants as formula
 use Rattle.strips_task.specs.Atom.{atom_eq, formula_eq}
 
+-- atoms that are equal by the test are the same
 pub atom_decides : (a b : Atom) → Decides (atom_eq a b) (a ≡ b)
 atom_decides a b = (
   λ h. let preds : a.pred ≡ b.pred = eqb-true a.pred b.pred (first_so (nat_eq a.pred b.pred) (pointwise nat_eq a.args b.args) h) in
@@ -34,10 +35,12 @@ abbrev left_in : GroundFormula → ℕ
 left_in (formula.Atom atom) = 0
 left_in (formula.Equal left right) = left
 
+-- the right side of an equality
 abbrev right_in : GroundFormula → ℕ
 right_in (formula.Atom atom) = 0
 right_in (formula.Equal left right) = right
 
+-- formulas that are equal by the test are the same
 pub formula_decides : (a b : GroundFormula) → Decides (formula_eq a b) (a ≡ b)
 formula_decides (formula.Atom a) (formula.Atom b) = (λ h. ap formula.Atom ((atom_decides a b).0 h), λ e. (atom_decides a b).1 (ap (atom_in a) e))
 formula_decides (formula.Equal a b) (formula.Equal c d) = (
@@ -49,5 +52,6 @@ formula_decides (formula.Equal a b) (formula.Equal c d) = (
 formula_decides (formula.Atom a) (formula.Equal b c) = (λ h. absurd (true≢false (sym h)), λ e. ap is_equality e)
 formula_decides (formula.Equal a b) (formula.Atom c) = (λ h. absurd (true≢false (sym h)), λ e. sym (ap is_equality e))
 
+-- the test of formulas is an equality
 pub formula_equiv : IsEquivalence formula_eq
 formula_equiv = decided formula_eq formula_decides

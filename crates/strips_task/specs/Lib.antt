@@ -1,4 +1,5 @@
 pub mod Atom
+pub mod AtomHash
 pub mod FirstPlaces
 pub mod FormulaEquality
 pub mod Names
@@ -6,8 +7,10 @@ pub mod OpenPlan
 pub mod Parts
 pub mod Places
 pub mod Plans
+pub mod PlanEquality
 pub mod StepView
 pub mod Steps
+pub mod StepEquality
 pub mod TypeTable
 pub mod Types
 pub mod WellFormed

@@ -1,13 +1,10 @@
 -- When two plans are the same.
 
-use Rattle.std.specs.Prelude.{◌≡◌, Bool, true, false, nat_eq}
-use mathlib.Core.Bool.{true≢false}
-use mathlib.Core.Path.{refl, sym, ap}
-use Rattle.std.specs.Cmp.{IsEquivalence, nat_eq_equiv, unsigned_Decides}
-use Rattle.std.specs.Cmp.Lexicographic.{pointwise, pointwise_decides}
+use Rattle.std.specs.Prelude.{Bool, false, nat_eq}
+use Rattle.std.specs.Cmp.Lexicographic.{pointwise}
 use Rattle.strips_task.specs.declared.plans.Plan.{Plan}
 use Rattle.strips_task.specs.declared.plans.Plan.TheVariants.{Steps, Unreadable}
-use Rattle.strips_task.specs.Steps.{step_eq, step_decides, steps_equivalence}
+use Rattle.strips_task.specs.Steps.{step_eq}
 
 -- the same steps, or the same line of a fault
 abbrev pub plan_eq : Plan → Plan → Bool
@@ -15,24 +12,3 @@ plan_eq (Steps steps) (Steps others) = pointwise step_eq steps others
 plan_eq (Steps steps) (Unreadable line) = false
 plan_eq (Unreadable line) (Steps steps) = false
 plan_eq (Unreadable line) (Unreadable other) = nat_eq line other
-
-symmetric : (a b : Plan) → plan_eq a b ≡ plan_eq b a
-symmetric (Steps xs) (Steps ys) = steps_equivalence.symm xs ys
-symmetric (Steps xs) (Unreadable n) = refl
-symmetric (Unreadable m) (Steps ys) = refl
-symmetric (Unreadable m) (Unreadable n) = nat_eq_equiv.symm m n
-
-itself : (a : Plan) → plan_eq a a ≡ true
-itself (Steps xs) = steps_equivalence.refl xs
-itself (Unreadable n) = nat_eq_equiv.refl n
-
--- plans that are equal by the test are the same
-pub plan_same : (a b : Plan) → plan_eq a b ≡ true → a ≡ b
-plan_same (Steps xs) (Steps ys) h = ap Steps ((pointwise_decides step_decides xs ys).0 h)
-plan_same (Steps xs) (Unreadable n) h = absurd (true≢false (sym h))
-plan_same (Unreadable m) (Steps ys) h = absurd (true≢false (sym h))
-plan_same (Unreadable m) (Unreadable n) h = ap Unreadable ((unsigned_Decides m n).0 h)
-
--- plans compare alike both ways round, along a chain, and each with itself
-pub plans_equivalence : IsEquivalence plan_eq
-plans_equivalence = record { refl = itself; symm = symmetric; congr = λ a b z h. ap (λ p. plan_eq p z) (plan_same a b h) }

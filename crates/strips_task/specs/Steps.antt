@@ -1,10 +1,7 @@
 -- Steps of a plan, as folded text.
 
-use mathlib.Core.Path.{ap, sym, ◌∙◌}
-use Rattle.std.specs.Bool.{Decides}
-use Rattle.std.specs.Prelude.{◌≡◌, ℕ, ◌<◌, ◌≤◌, Bool, List, [], ◌∷◌, slice_range}
-use Rattle.std.specs.Cmp.{IsEquivalence, on_equiv, and_equiv, first_so, second_so}
-use Rattle.std.specs.Cmp.Lexicographic.{pointwise, pointwise_decides, bytes_decides, lists_equiv, nat_list_eq_equiv}
+use Rattle.std.specs.Prelude.{ℕ, Bool, List, [], ◌∷◌, slice_range}
+use Rattle.std.specs.Cmp.Lexicographic.{pointwise}
 use Rattle.std.specs.Ordering.{on, eq_of_both}
 use Rattle.std.specs.Str.{bytes_eq}
 use Rattle.strips_task.specs.declared.steps.StepText.{StepText}
@@ -19,28 +16,6 @@ step_of (word ∷ words) = record { action = word; args = words }
 abbrev pub step_eq : StepText → StepText → Bool
 step_eq = eq_of_both (on (λ s. s.action) bytes_eq) (on (λ s. s.args) (pointwise bytes_eq))
 
--- steps compare alike both ways round, along a chain, and each with itself
-pub step_equivalence : IsEquivalence step_eq
-step_equivalence = and_equiv (on_equiv (λ s. s.action) nat_list_eq_equiv) (on_equiv (λ s. s.args) (lists_equiv nat_list_eq_equiv))
-
--- steps that are equal by the test are the same
-pub step_decides : (a b : StepText) → Decides (step_eq a b) (a ≡ b)
-step_decides a b = (
-  λ h. (λ j. record {
-    action = (bytes_decides a.action b.action).0 (first_so (bytes_eq a.action b.action) (pointwise bytes_eq a.args b.args) h) j;
-    args = (pointwise_decides bytes_decides a.args b.args).0 (second_so (bytes_eq a.action b.action) (pointwise bytes_eq a.args b.args) h) j;
-  }),
-  λ e. ap (λ s. step_eq a s) (sym e) ∙ step_equivalence.refl a,
-)
-
--- plans compare alike both ways round, along a chain, and each with itself
-pub steps_equivalence : IsEquivalence (pointwise step_eq)
-steps_equivalence = lists_equiv step_equivalence
-
 -- the step whose words stand in a range
 abbrev pub step_at : List (List ℕ) → StepRange → StepText
 step_at words range = step_of (slice_range words range.first range.end)
-
--- the range is not empty, and its words are there
-abbrev pub IsStepRange : ℕ → StepRange → Type 0
-IsStepRange count range = (range.first < range.end) × (range.end ≤ count)

@@ -17,26 +17,32 @@ use Rattle.strips_task.specs.declared.tasks.TaskParts.{TaskParts}
 use Rattle.strips_task.specs.Names.{are_distinct}
 use Rattle.strips_task.specs.Types.{IsTypeTree, fits}
 
--- the limits of a task
+-- how many types a task may have, `object` among them
 abbrev pub most_types : ℕ
 most_types = 1025
 
+-- how many objects a task may have
 abbrev pub most_objects : ℕ
 most_objects = 65535
 
+-- how many predicates a task may have
 abbrev pub most_predicates : ℕ
 most_predicates = 4096
 
+-- how many actions a task may have
 abbrev pub most_actions : ℕ
 most_actions = 4096
 
+-- how many variables a predicate or an action may have
 abbrev pub most_variables : ℕ
 most_variables = 32
 
+-- how many types a variable may be given to choose from
 abbrev pub most_alternatives : ℕ
 most_alternatives = 32
 
--- whether the alternatives of a variable are types, and not too many
+-- whether the alternatives of a variable are types, and not too many. There may be none, which no text can say: then no object fits the variable,
+-- and the variable fits every place, since it never stands for an object
 unfoldable pub are_alternatives : List ℕ → List ℕ → Bool
 are_alternatives parents types = nat_le (length types) most_alternatives && list_all (λ type. nat_lt type (length parents)) types
 

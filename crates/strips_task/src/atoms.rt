@@ -7,9 +7,10 @@ ghost use Rattle.std.specs.Cmp.Lexicographic.{pointwise};
 ghost use Rattle.std.specs.Hash as fed;
 ghost use Rattle.std.specs.Cmp.Rules.{comparing, hashing};
 ghost use Rattle.std.proofs.Common.{rules};
-ghost use Rattle.strips_task.specs.Atom.{front};
+ghost use Rattle.strips_task.specs.AtomHash.{front};
 
 use crate::{Seq, ShortSeq};
+use std::alloc::{AllocError, Global};
 use std::hash::{Hash, Hasher};
 
 /// A predicate applied to objects, all by number.
@@ -19,6 +20,20 @@ pub struct Atom {
     pub pred: u16,
     /// The numbers of the objects, in the order of the predicate's arguments.
     pub args: ShortSeq<u16>,
+}
+
+impl Atom {
+    ghost use Rattle.std.specs.Prelude.{IfOk};
+
+    /// An atom of its own with the same predicate and arguments. Takes memory where there are more arguments than an atom holds in place.
+    pub fn copy(&self, alloc: Global) -> Result<Atom, AllocError>
+        ensures { IfOk result (λ copy. copy ≡ self.now) }
+    {
+        Ok(Atom {
+            pred: self.pred,
+            args: ShortSeq::from_slice(alloc, self.args.as_slice())?,
+        })
+    }
 }
 
 /// A list of ground atoms.
@@ -71,7 +86,7 @@ impl Eq for Atom {
 impl Hash for Atom {
     ghost use Rattle.std.specs.Prelude.{◌++◌, take, drop};
     ghost use Rattle.std.specs.List.{flat_map};
-    ghost use Rattle.strips_task.specs.Atom.{front};
+    ghost use Rattle.strips_task.specs.AtomHash.{front};
 
     ghost hash_input = { λ a. fed.u64 (front a.pred (take 3 a.args)) ++ flat_map fed.u16 (drop 3 a.args) };
 

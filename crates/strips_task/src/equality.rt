@@ -5,9 +5,11 @@ ghost use Rattle.std.specs.Prelude.{◌≡◌};
 ghost use Rattle.std.specs.Cmp.{partial_equiv_from_equiv};
 ghost use Rattle.std.specs.Cmp.Lexicographic.{pointwise};
 ghost use Rattle.std.specs.Str.{bytes_eq};
-ghost use Rattle.strips_task.specs.Plans.{plan_eq, plans_equivalence};
+ghost use Rattle.strips_task.specs.Plans.{plan_eq};
+ghost use Rattle.strips_task.specs.PlanEquality.{plans_equivalence};
 ghost use Rattle.strips_task.specs.StepView.{step_shown};
-ghost use Rattle.strips_task.specs.Steps.{step_eq, steps_equivalence};
+ghost use Rattle.strips_task.specs.Steps.{step_eq};
+ghost use Rattle.strips_task.specs.StepEquality.{steps_equivalence};
 
 use crate::{Plan, StepList, StepView};
 

@@ -44,7 +44,8 @@ impl Model for StepList {
     ghost use Rattle.std.specs.Prelude.{List, ℕ, ◌≤◌, map, All, length};
     ghost use Rattle.strips_task.specs.declared.steps.StepText.{StepText};
     ghost use Rattle.strips_task.specs.declared.steps.TheConstants.{MOST_STEPS};
-    ghost use Rattle.strips_task.specs.Steps.{step_at, IsStepRange};
+    ghost use Rattle.strips_task.specs.Steps.{step_at};
+    ghost use Rattle.strips_task.specs.OpenPlan.{IsStepRange};
 
     ghost Value = { List StepText };
 
@@ -139,7 +140,8 @@ impl Model for OpenSteps {
     ghost use Rattle.std.specs.Prelude.{◌≤◌, map, All, length, drop};
     ghost use Rattle.strips_task.specs.OpenPlan.{OpenPlan};
     ghost use Rattle.strips_task.specs.declared.steps.TheConstants.{MOST_STEPS};
-    ghost use Rattle.strips_task.specs.Steps.{step_at, IsStepRange};
+    ghost use Rattle.strips_task.specs.Steps.{step_at};
+    ghost use Rattle.strips_task.specs.OpenPlan.{IsStepRange};
 
     ghost Value = { OpenPlan };
 

@@ -16,9 +16,9 @@ use Rattle.strips_task.specs.declared.plans.Plan.{Plan}
 use Rattle.strips_task.specs.declared.plans.Plan.TheVariants.{Steps, Unreadable}
 use Rattle.strips_judge.specs.declared.verdict.Why.{Why}
 use Rattle.strips_judge.specs.Grounding.{ground}
-use Rattle.strips_judge.specs.Numbered.{state_of}
+use Rattle.strips_judge.specs.NumberedState.{state_of}
 use Rattle.strips_judge.specs.State.{State, is_in}
-use Rattle.strips_judge.specs.Step.{action_named, after, after_by, missing, objects_named}
+use Rattle.strips_judge.specs.Step.{action_named, adds_by, after, after_by, deletes_by, missing, objects_named}
 use Rattle.strips_judge.specs.Verdict.{goal_verdict, verdict}
 use Rattle.strips_judge.specs.Validity.{LeadTo}
 use Rattle.strips_judge.proofs.Runs.{lead_none_same, lead_first}
@@ -31,7 +31,7 @@ use Rattle.step_memo.proofs.TakenLaws.{found_at_end}
 use Rattle.text_judge.specs.declared.history.Watch.{Watch}
 use Rattle.text_judge.specs.declared.pass.Passed.{Passed}
 use Rattle.text_judge.specs.declared.pass.Passed.TheVariants.{All, Fails, Unreadable as Faulty}
-use Rattle.text_judge.specs.History.{state_after, steps_taken, AreLastChanges, IsLastChange, Stays, LastChangesAreEffects, adds_by, deletes_by}
+use Rattle.text_judge.specs.History.{state_after, steps_taken, AreLastChanges, IsLastChange, Stays, LastChangesAreEffects}
 use Rattle.text_judge.specs.Passes.{with_next, EndsPass, FailsAt, GoOnOrEnd}
 use Rattle.text_judge.specs.Watches.{AreWatched, EndsWatch, IsWatched}
 

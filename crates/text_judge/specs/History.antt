@@ -1,16 +1,14 @@
 -- Which step of a plan changed an atom last: what a condition that does not hold is explained by.
 
-use Rattle.std.specs.Prelude.{◌≡◌, ◌≢◌, ℕ, ◌-◌, ◌<◌, ◌≤◌, true, false, List, Option, Some, None, [], fold, length, map, slice_get, take}
+use Rattle.std.specs.Prelude.{◌≡◌, ◌≢◌, ℕ, ◌-◌, ◌<◌, ◌≤◌, true, false, List, Option, Some, None, fold, length, slice_get, take}
 use Rattle.std.specs.List.{AllZip}
-use Rattle.strips_task.specs.declared.actions.Action.{Action}
 use Rattle.strips_task.specs.declared.atoms.Atom.{Atom}
 use Rattle.strips_task.specs.declared.steps.StepText.{StepText}
 use Rattle.strips_task.specs.declared.tasks.TaskParts.{TaskParts}
 use Rattle.strips_judge.specs.declared.verdict.Verdict.{Verdict}
 use Rattle.strips_judge.specs.declared.verdict.Verdict.TheVariants.{Valid, Fails, Goal, Unreadable}
-use Rattle.strips_judge.specs.Grounding.{ground}
 use Rattle.strips_judge.specs.State.{State, is_in}
-use Rattle.strips_judge.specs.Step.{action_named, after, objects_named}
+use Rattle.strips_judge.specs.Step.{adds, after, deletes}
 
 -- the state after the first steps of a plan, as many as the number says
 abbrev pub state_after : TaskParts → List StepText → ℕ → State
@@ -42,24 +40,15 @@ steps_taken (Valid count) steps = steps
 steps_taken (Goal missing) steps = steps
 steps_taken (Unreadable line) steps = steps
 
--- what an action with these objects deletes and adds
-abbrev pub deletes_by : List ℕ → Option Action → List Atom
-deletes_by objects None = []
-deletes_by objects (Some action) = map (ground objects) action.del
-
-abbrev pub adds_by : List ℕ → Option Action → List Atom
-adds_by objects None = []
-adds_by objects (Some action) = map (ground objects) action.add
-
 -- a step makes an atom true where it adds it, also if it deletes it too
 abbrev pub MakesTrue : TaskParts → StepText → Atom → Type 0
-MakesTrue parts step atom = is_in (adds_by (objects_named parts step.args) (action_named parts step.action)) atom ≡ true
+MakesTrue parts step atom = is_in (adds parts step) atom ≡ true
 
 -- a step makes an atom false where it deletes it and does not add it
 abbrev pub MakesFalse : TaskParts → StepText → Atom → Type 0
 MakesFalse parts step atom =
-    (is_in (deletes_by (objects_named parts step.args) (action_named parts step.action)) atom ≡ true)
-    × (is_in (adds_by (objects_named parts step.args) (action_named parts step.action)) atom ≡ false)
+    (is_in (deletes parts step) atom ≡ true)
+    × (is_in (adds parts step) atom ≡ false)
 
 -- the last step that changes an atom makes it what it is at the end: it adds it, or deletes it and does not add it
 abbrev pub LastChangesAreEffects : TaskParts → Type 0

@@ -47,6 +47,7 @@ abbrev pub PlanFailsFor : TaskParts → Plan → ℕ → Why → Type 0
 PlanFailsFor parts (Steps steps) number why = FailFor parts steps number why
 PlanFailsFor parts (Unreadable line) number why = ⊥
 
+-- a plan of steps leaves exactly these conditions of the goal unmet; an unreadable plan leaves none
 abbrev pub PlanLeavesUnmet : TaskParts → Plan → List GroundCond → Type 0
 PlanLeavesUnmet parts (Steps steps) unmet = LeaveUnmet parts steps unmet
 PlanLeavesUnmet parts (Unreadable line) unmet = ⊥

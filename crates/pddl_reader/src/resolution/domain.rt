@@ -3,7 +3,7 @@
 ghost use Rattle.std.specs.Prelude.{◌≡◌, ◌≤◌, length, [], IfOk};
 ghost use Rattle.std.specs.Map.{keys_of};
 ghost use Rattle.pddl_reader.specs.Domain.{domain_of, domain_with, functions_from, head_of, predicates_from, with_predicate};
-ghost use Rattle.pddl_reader.specs.Domains.{IsDomain};
+ghost use Rattle.pddl_reader.specs.DomainTables.{IsDomain};
 ghost use Rattle.pddl_reader.specs.Objects.{objects_from};
 ghost use Rattle.pddl_reader.specs.Problem.{domain_extended};
 ghost use Rattle.pddl_syntax.specs.Forms.{domain_syntax_form, name_groups, predicate_form, predicate_forms};
@@ -44,7 +44,7 @@ impl Model for Domain {
 
     ghost Value = { DomainValue };
 
-    ghost use Rattle.pddl_reader.specs.Domains.{IsDomain, domain_kept};
+    ghost use Rattle.pddl_reader.specs.DomainTables.{IsDomain, domain_kept};
 
     ghost view = { domain_kept };
 

@@ -7,7 +7,8 @@ ghost use Rattle.pddl_syntax.specs.ReadFault.{out_of_memory};
 ghost use Rattle.pddl_syntax.specs.Reading.{Gives, Puts};
 ghost use Rattle.pddl_reader.specs.Declarations.{ground_of};
 ghost use Rattle.pddl_reader.specs.Functions.{with_value_of};
-ghost use Rattle.pddl_reader.specs.Problem.{initial_of, literal_forms, with_atom, with_initial};
+ghost use Rattle.pddl_reader.specs.Problem.{initial_of, with_atom, with_initial};
+ghost use Rattle.pddl_reader.specs.Parts.{literal_forms};
 ghost use Rattle.pddl_reader.specs.Resolved.{known_form, vocabulary_form};
 
 use crate::resolution::atoms::{ground_atom, guessed_atom};

@@ -7,7 +7,8 @@ ghost use Rattle.pddl_syntax.specs.Forms.{name_forms, name_group_form, name_grou
 ghost use Rattle.pddl_syntax.specs.Keywords.{object_word};
 ghost use Rattle.pddl_syntax.specs.Optional.{guard, through};
 ghost use Rattle.pddl_syntax.specs.Reading.{FindsAny, Gives, GivesTest, Puts};
-ghost use Rattle.pddl_reader.specs.TypeOrder.{TypeParents, counts_as_parent, declared_under, declares_cycle, group_declared, is_tree, is_under_itself, names_cycle, numbered, object_alone, parent_name, parent_number, parents_of, type_declared, types_declared, types_of};
+ghost use Rattle.pddl_reader.specs.TypeOrder.{TypeParents, counts_as_parent, declared_under, group_declared, is_tree, numbered, object_alone, parent_name, parent_number, parents_of, type_declared, types_declared, types_of};
+ghost use Rattle.pddl_reader.specs.TypeCycles.{declares_cycle, is_under_itself, names_cycle};
 
 use crate::resolution::names::{is_same_name, name, number_of};
 use pddl_syntax::{Dialect, FaultKind, NameGroup, NameWord, ReadFault};
@@ -200,7 +201,7 @@ fn parents(alloc: Global, tables: &TypeTables) -> Result<TypeList, AllocError>
 }
 
 /// Whether a type but `object` stands above its own parent, so that a chain of parents returns to it.
-#[tactic(auto, unfolding(crate::specs::TypeOrder::is_under_itself))]
+#[tactic(auto, unfolding(crate::specs::TypeCycles::is_under_itself))]
 fn is_under_itself(parents: &TypeList, number: usize) -> bool
     requires known { number < length parents.now }
     requires few { length parents.now ≤ 1025 }

@@ -6,7 +6,7 @@ ghost use Rattle.pddl_syntax.specs.Reading.{Passes, PassesName, ReadsAgain, Rere
 ghost use Rattle.pddl_syntax.specs.Walking.{Opens};
 ghost use Rattle.pddl_syntax.specs.Trees.{begins_with_list};
 ghost use Rattle.pddl_syntax.specs.Forms.{amount_form, atom_form, literal_form, equality_form, value_form, word_forms};
-ghost use Rattle.pddl_syntax.specs.Heads.{is_any};
+ghost use Rattle.pddl_syntax.specs.Presence.{is_any};
 ghost use Rattle.pddl_syntax.specs.Syntax.{amount_of, atom_of, end_of, function_in, increase_of, leading_name, leading_word, literal_of, negated_in, negated_of, number_of, equality_of, target_of, value_of, words_of};
 
 use crate::fault::ReadFault;

@@ -2,7 +2,8 @@
 
 ghost use Rattle.std.specs.Prelude.{◌≡◌, [], true, Some};
 ghost use Rattle.pddl_words.specs.Words.{is_name};
-ghost use Rattle.pddl_syntax.specs.Levels.{here, behind};
+ghost use Rattle.pddl_syntax.specs.Levels.{here};
+ghost use Rattle.pddl_syntax.specs.Walking.{behind};
 ghost use Rattle.pddl_syntax.specs.Reading.{ReadsList, TakesName};
 ghost use Rattle.pddl_syntax.specs.Forms.{name_groups};
 ghost use Rattle.pddl_syntax.specs.Keywords.{object_word};

@@ -1,6 +1,7 @@
 use Rattle.std.proofs.Common.{◌≡◌, map, ap, sym, subst, ◌∙◌, arith, List}
 use Rattle.intake_rules.specs.declared.finding.Finding.{Finding}
-use Rattle.judge_bench.specs.Findings.{by_planner, findings_of, right_finding}
+use Rattle.judge_bench.specs.Findings.{by_planner, findings_of}
+use Rattle.intake_rules.specs.Findings.{right_finding}
 use Rattle.judge_bench.specs.Kept.{Numbered}
 use Rattle.judge_bench.proofs.JobsOf.{numbered_from_zero}
 use Rattle.judge_bench.proofs.Results.{if_ok_more}

@@ -1,5 +1,6 @@
 use Rattle.std.proofs.Common.{◌≡◌, ◌≢◌, ◌<◌, ◌≤◌, List, ℕ, Ok, Err, Result, map, None, Some, ap}
 use Rattle.plan_cost.specs.declared.costs.CostedTask.{CostedTask}
+use Rattle.judge_engine.specs.declared.fault.Input.{Input}
 use Rattle.judge_engine.specs.declared.fault.JudgeFault.{JudgeFault}
 use Rattle.judge_engine.specs.declared.fault.JudgeFault.TheVariants.{Domain, TooLarge, TooManyPlans, TooManyPlanners}
 use Rattle.judge_engine.specs.Answer.{answer_as, planner_of, plan_count, most_plans}
@@ -11,10 +12,10 @@ use Rattle.judge_engine.proofs.RunAnswers.{none_if_large, none_if_many, none_if_
 use Rattle.judge_engine.proofs.engine.judge_bytes_as.Goals as goal
 
 pub returns-in-Some-clause-refusal : goal.returns-in-Some-clause-refusal
-returns-in-Some-clause-refusal g c = λ _. none_if_large c.args.dialect c.args.format c.args.domain.now c.args.problem.now c.args.bundles.now c.in-Some.place c.in-Some.ensures
+returns-in-Some-clause-refusal g c = λ _. none_if_large c.args.dialect c.args.format c.args.domain.now c.args.problem.now c.args.bundles.now c.in-Some.large c.in-Some.ensures
 
 pub returns-in-Some-clause-large : goal.returns-in-Some-clause-large
-returns-in-Some-clause-large g c = large_told c.args.dialect c.args.domain.now c.args.problem.now c.args.bundles.now c.in-Some.place c.in-Some.ensures
+returns-in-Some-clause-large g c = large_told c.args.dialect c.args.domain.now c.args.problem.now c.args.bundles.now c.in-Some.large c.in-Some.ensures
 
 pub returns-then-bundles-gt-MOST_PLANNERS-clause-refusal : goal.returns-then-bundles-gt-MOST_PLANNERS-clause-refusal
 returns-then-bundles-gt-MOST_PLANNERS-clause-refusal g c = λ _. none_if_many c.args.dialect c.args.format c.args.domain.now c.args.problem.now c.args.bundles.now c.if-bundles-gt-MOST_PLANNERS.true
@@ -47,7 +48,7 @@ pub returns-in-Ok-clause-large : goal.returns-in-Ok-clause-large
 returns-in-Ok-clause-large g c =
     no_large_told c.args.dialect c.args.domain.now c.args.problem.now c.args.bundles.now c.judge_planners.result c.in-None.ensures
     (if_err_more {P = λ fault. IsOfTexts fault → (fault ≡ TooManyPlans) × (most_plans < plan_count c.args.bundles.now)}
-    {Q = λ fault. (n : ℕ) → fault ≢ TooLarge n} c.judge_planners.result plans_no_size c.judge_planners.ensures.refusal)
+    {Q = λ fault. (n : Input) → fault ≢ TooLarge n} c.judge_planners.result plans_no_size c.judge_planners.ensures.refusal)
 
 pub returns-in-Ok-clause-domain_text : goal.returns-in-Ok-clause-domain_text
 returns-in-Ok-clause-domain_text g c =

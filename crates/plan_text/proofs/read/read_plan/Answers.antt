@@ -1,12 +1,12 @@
 use Rattle.std.proofs.Common.{sym, ap, ◌∙◌}
 use Rattle.pddl_tokens.proofs.Places.{pieces_within}
-use Rattle.plan_text.specs.PlanReading.{plan_from, unreadable}
+use Rattle.plan_text.specs.PlanReading.{plan_from}
 use Rattle.plan_text.specs.PlanSteps.{reading}
 use Rattle.plan_text.proofs.Steps.{plan_end, plan_bad, plan_goes_on, plan_refused, plan_too_long, plan_short}
 use Rattle.plan_text.proofs.read.read_plan.Goals as goal
 
 pub returns-in_default : goal.returns-in_default
-returns-in_default c = sym (plan_too_long _ c.in_default.ensures.err.0)
+returns-in_default c = sym (plan_too_long _ c.in_default.ensures.err)
 
 pub tokens-init : goal.tokens-init
 tokens-init c =
@@ -41,8 +41,7 @@ returns-in-None c =
     let before = reading c.tokens.expected c.tokens.plan in
     c.unreadable.ensures ∙ sym (plan_refused _ before _ _ _ _ stuck) ∙ ap (plan_from c.args.text.now before) (sym first) ∙ c.tokens.invariant.same
 
-pub returns-in-Err-BadByte : goal.returns-in-Err-BadByte
-returns-in-Err-BadByte c =
-    let found = rw c.in-Err-BadByte.field-0-is at c.in-Err-BadByte.ensures in
+pub returns-in-Err : goal.returns-in-Err
+returns-in-Err c =
     let before = reading c.tokens.expected c.tokens.plan in
-    c.unreadable-in-Err-BadByte.ensures ∙ ap (unreadable c.args.text.now) c.in-Err-BadByte.at-is ∙ sym (plan_bad _ before _ _) ∙ ap (plan_from c.args.text.now before) (sym found.0) ∙ c.tokens.invariant.same
+    c.unreadable-in-Err.ensures ∙ sym (plan_bad _ before _ _) ∙ ap (plan_from c.args.text.now before) (sym c.in-Err.ensures.0) ∙ c.tokens.invariant.same

@@ -1,5 +1,4 @@
-use Rattle.std.proofs.Common.{ℕ, sym, ◌∙◌, subst}
-use Rattle.plan_text.specs.WalkFinds.{IsStuck}
+use Rattle.std.proofs.Common.{sym, ◌∙◌}
 use Rattle.plan_text.proofs.WalkSteps.{way_starts, way_goes_on, way_opens, way_refused, way_bad, way_ends}
 use Rattle.plan_text.proofs.walk.open_step.Goals as goal
 
@@ -26,8 +25,5 @@ returns-in-None c =
     let first = rw c.in-Ok-Some.field-0-is at c.in-Ok-Some.ensures in
     way_refused c.args.text.now c.args.expected c.tokens.expected c.args.steps c.args.cursor.now c.next.new.self _ _ _ (rw first at c.tokens.invariant) c.in-None.ensures
 
-pub returns-in-Err-BadByte : goal.returns-in-Err-BadByte
-returns-in-Err-BadByte c =
-    let found = rw c.in-Err-BadByte.field-0-is at c.in-Err-BadByte.ensures in
-    let stuck = way_bad c.args.text.now c.args.expected c.tokens.expected c.args.steps c.in-Err-BadByte.at c.args.cursor.now (rw found.0 at c.tokens.invariant) in
-    subst (λ (at : ℕ). IsStuck c.args.text.now c.args.expected c.args.steps at c.args.cursor.now) (sym c.in-Err-BadByte.at-is) stuck
+pub returns-in-Err : goal.returns-in-Err
+returns-in-Err c = way_bad c.args.text.now c.args.expected c.tokens.expected c.args.steps c.in-Err.byte.at c.args.cursor.now (rw c.in-Err.ensures.0 at c.tokens.invariant)

@@ -24,7 +24,5 @@ returns-in-Fault c =
     let first = rw c.in-Ok-Some.field-0-is at c.in-Ok-Some.ensures in
     step_refused c.args.text.now c.words.some c.args.cursor.now c.next.new.self _ _ _ (rw first at c.words.invariant) c.in-Fault.ensures
 
-pub returns-in-Err-BadByte : goal.returns-in-Err-BadByte
-returns-in-Err-BadByte c =
-    let found = rw c.in-Err-BadByte.field-0-is at c.in-Err-BadByte.ensures in
-    step_bad c.args.text.now c.words.some _ c.args.cursor.now (rw found.0 at c.words.invariant)
+pub returns-in-Err : goal.returns-in-Err
+returns-in-Err c = step_bad c.args.text.now c.words.some _ c.args.cursor.now (rw c.in-Err.ensures.0 at c.words.invariant)

@@ -1,5 +1,5 @@
 use Rattle.std.proofs.Common.{◌≡◌, ◌+◌, ◌++◌, length, map}
-use Rattle.steps_text.specs.Asked.{asked}
+use Rattle.intake_core.specs.Asked.{asked}
 use Rattle.steps_text.specs.StepsTexts.{kept_lines, steps_fault, steps_of}
 use Rattle.steps_text.proofs.read.read_all.Given as goal
 

@@ -1,7 +1,7 @@
 use Rattle.std.proofs.Common.{◌≡◌, take, List, All}
 use Rattle.strips_task.specs.declared.atoms.Atom.{Atom}
 use Rattle.strips_judge.specs.Codes.{AreNumbers}
-use Rattle.strips_judge.specs.Numbered.{state_of}
+use Rattle.strips_judge.specs.NumberedState.{state_of}
 use Rattle.strips_judge.proofs.codes.all_are.Given as goal
 
 abbrev pub invariant-loop-number : goal.invariant-loop-number

@@ -1,7 +1,7 @@
 use Rattle.std.proofs.Common.{◌≡◌, take, map}
 use Rattle.strips_judge.specs.Codes.{AreNumbers}
 use Rattle.strips_judge.specs.Grounding.{ground}
-use Rattle.strips_judge.specs.Numbered.{state_of, Grows}
+use Rattle.strips_judge.specs.NumberedState.{state_of, Grows}
 use Rattle.strips_judge.proofs.codes.number_all.Given as goal
 
 abbrev pub invariant-loop-pattern : goal.invariant-loop-pattern

@@ -1,7 +1,8 @@
 use Rattle.std.proofs.Common.{List, IsTrue, subst, sym, arith, tests}
 use Rattle.strips_task.specs.declared.atoms.Atom.{Atom}
-use Rattle.strips_judge.specs.Codes.{AreNumbers, code_shown, deletes, adds}
-use Rattle.strips_judge.specs.Numbered.{state_of}
+use Rattle.strips_judge.specs.Codes.{AreNumbers, code_shown}
+use Rattle.strips_judge.specs.Step.{deletes, adds}
+use Rattle.strips_judge.specs.NumberedState.{state_of}
 use Rattle.strips_judge.proofs.CodeLaws.{code_hinders_not, code_leads}
 use Rattle.strips_judge.proofs.codes.take_by_code.Goals as goal
 

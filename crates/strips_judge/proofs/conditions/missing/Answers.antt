@@ -3,7 +3,7 @@ use Rattle.strips_task.specs.declared.atoms.GroundCond.{GroundCond}
 use Rattle.indexmap.specs.IndexSet.{insert_key}
 use Rattle.strips_task.specs.Atom.{cond_eq}
 use Rattle.strips_judge.specs.Grounding.{ground_condition}
-use Rattle.strips_judge.specs.Numbered.{state_of}
+use Rattle.strips_judge.specs.NumberedState.{state_of}
 use Rattle.strips_judge.specs.State.{holds}
 use Rattle.strips_judge.proofs.StepLaws.{mapped_more, missing-none, missing-more_holds, missing-more_fails}
 use Rattle.strips_judge.proofs.conditions.missing.Goals as goal

@@ -1,7 +1,7 @@
 use Rattle.std.proofs.Common.{sym, ◌∙◌, ap}
 use Rattle.indexmap.specs.IndexSet.{insert_key}
 use Rattle.strips_task.specs.Atom.{cond_eq}
-use Rattle.strips_judge.specs.Numbered.{state_of}
+use Rattle.strips_judge.specs.NumberedState.{state_of}
 use Rattle.strips_judge.proofs.StepLaws.{taken_more, missing-none, missing-more_holds, missing-more_fails}
 use Rattle.strips_judge.proofs.conditions.missing_ground.Goals as goal
 use Rattle.strips_judge.proofs.conditions.missing_ground.Goals.{then-not-holds_ground+in_ok-copy_of_condition+in_ok-note, else-not-holds_ground}

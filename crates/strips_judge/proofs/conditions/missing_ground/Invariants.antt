@@ -1,5 +1,5 @@
 use Rattle.std.proofs.Common.{◌≡◌, take}
-use Rattle.strips_judge.specs.Numbered.{state_of}
+use Rattle.strips_judge.specs.NumberedState.{state_of}
 use Rattle.strips_judge.specs.Step.{missing}
 use Rattle.strips_judge.proofs.conditions.missing_ground.Given as goal
 

@@ -1,5 +1,5 @@
 use Rattle.strips_judge.specs.Grounding.{ground}
-use Rattle.strips_judge.specs.Numbered.{state_of}
+use Rattle.strips_judge.specs.NumberedState.{state_of}
 use Rattle.strips_judge.proofs.Growth.{grows_twice}
 use Rattle.strips_judge.proofs.StepLaws.{mapped_more, with_all-more}
 use Rattle.strips_judge.proofs.effects.insert_all.Goals as goal

@@ -1,6 +1,6 @@
 use Rattle.std.proofs.Common.{◌≡◌, map, take}
 use Rattle.strips_judge.specs.Grounding.{ground}
-use Rattle.strips_judge.specs.Numbered.{Grows, state_of}
+use Rattle.strips_judge.specs.NumberedState.{Grows, state_of}
 use Rattle.strips_judge.specs.State.{with_all}
 use Rattle.strips_judge.proofs.effects.insert_all.Given as goal
 

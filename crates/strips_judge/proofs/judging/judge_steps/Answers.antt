@@ -1,6 +1,6 @@
 use Rattle.std.proofs.Common.{◌≡◌, ◌<◌, ◌≤◌, length, ap, sym, ◌∙◌, arith}
 use Rattle.strips_task.specs.StepView.{step_shown}
-use Rattle.strips_judge.specs.Numbered.{state_of}
+use Rattle.strips_judge.specs.NumberedState.{state_of}
 use Rattle.strips_judge.specs.Step.{missing}
 use Rattle.strips_judge.specs.Verdict.{goal_verdict}
 use Rattle.strips_judge.proofs.VerdictLaws.{step_fails, step_taken, steps_end, success_as, without_value}

@@ -1,5 +1,5 @@
 use Rattle.std.proofs.Common.{◌≡◌, drop}
-use Rattle.strips_judge.specs.Numbered.{state_of}
+use Rattle.strips_judge.specs.NumberedState.{state_of}
 use Rattle.strips_judge.specs.State.{is_in}
 use Rattle.strips_judge.specs.Verdict.{verdict_from}
 use Rattle.strips_judge.proofs.judging.judge_steps.Given as goal

@@ -1,5 +1,5 @@
 use Rattle.std.proofs.Common.{refl, sym}
-use Rattle.strips_judge.specs.Numbered.{state_of}
+use Rattle.strips_judge.specs.NumberedState.{state_of}
 use Rattle.strips_judge.proofs.StepLaws.{missing-none}
 use Rattle.strips_judge.proofs.numbered_steps.all_hold.Goals as goal
 

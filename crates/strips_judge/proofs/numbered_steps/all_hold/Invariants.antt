@@ -1,6 +1,6 @@
 use Rattle.std.proofs.Common.{◌≡◌, [], map, take}
 use Rattle.strips_judge.specs.Grounding.{ground_condition}
-use Rattle.strips_judge.specs.Numbered.{state_of}
+use Rattle.strips_judge.specs.NumberedState.{state_of}
 use Rattle.strips_judge.specs.Step.{missing}
 use Rattle.strips_judge.proofs.numbered_steps.all_hold.Given as goal
 

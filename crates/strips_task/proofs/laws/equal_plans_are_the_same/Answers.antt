@@ -1,5 +1,6 @@
 use Rattle.std.proofs.Common.{ap, sym, ◌∙◌}
-use Rattle.strips_task.specs.Plans.{plan_eq, plan_same, plans_equivalence}
+use Rattle.strips_task.specs.Plans.{plan_eq}
+use Rattle.strips_task.specs.PlanEquality.{plan_same, plans_equivalence}
 use Rattle.strips_task.proofs.laws.equal_plans_are_the_same.Goals as goal
 
 pub returns : goal.returns

@@ -1,6 +1,7 @@
 use Rattle.std.proofs.Common.{map, length, ap, sym, subst, ◌∙◌, arith}
 use Rattle.bench_rule.specs.declared.views.View.{View}
-use Rattle.judge_bench.specs.Findings.{by_planner, right_finding}
+use Rattle.judge_bench.specs.Findings.{by_planner}
+use Rattle.intake_rules.specs.Findings.{right_finding}
 use Rattle.judge_bench.specs.Keeping.{KeptFindings}
 use Rattle.judge_bench.specs.Kept.{Numbered}
 use Rattle.judge_bench.proofs.Emissions.{all_emitted, unmoved}

@@ -1,6 +1,6 @@
 use Rattle.std.proofs.Common.{◌≡◌, ◌≤◌, ◌∷◌, ◌++◌, length}
 use Rattle.pddl_syntax.specs.Forms.{literal_form}
-use Rattle.pddl_reader.specs.Problem.{literal_forms}
+use Rattle.pddl_reader.specs.Parts.{literal_forms}
 use Rattle.pddl_reader.proofs.resolution.initial.batch_from.Given as goal
 
 abbrev pub invariant-literals : goal.invariant-literals

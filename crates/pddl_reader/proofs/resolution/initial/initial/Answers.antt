@@ -1,7 +1,8 @@
 use Rattle.std.proofs.Common.{◌≡◌, ◌∷◌, ◌∙◌, ap, sym, arith, length, Some}
 use Rattle.pddl_syntax.specs.Forms.{literal_form}
 use Rattle.pddl_syntax.specs.Optional.{through}
-use Rattle.pddl_reader.specs.Problem.{literal_forms, with_initial}
+use Rattle.pddl_reader.specs.Problem.{with_initial}
+use Rattle.pddl_reader.specs.Parts.{literal_forms}
 use Rattle.pddl_reader.specs.Resolved.{vocabulary_form}
 use Rattle.pddl_reader.proofs.BatchSteps.{through_batch}
 use Rattle.pddl_reader.proofs.resolution.initial.initial.Goals as goal

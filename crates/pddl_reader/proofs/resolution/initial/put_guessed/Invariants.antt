@@ -1,7 +1,8 @@
 use Rattle.std.proofs.Common.{◌≡◌, drop}
 use Rattle.pddl_syntax.specs.Optional.{through}
 use Rattle.pddl_reader.specs.Resolved.{vocabulary_form}
-use Rattle.pddl_reader.specs.Problem.{literal_forms, with_initial}
+use Rattle.pddl_reader.specs.Problem.{with_initial}
+use Rattle.pddl_reader.specs.Parts.{literal_forms}
 use Rattle.pddl_reader.proofs.resolution.initial.put_guessed.Given as goal
 
 abbrev pub invariant-literals : goal.invariant-literals

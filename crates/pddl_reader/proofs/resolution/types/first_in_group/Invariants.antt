@@ -1,7 +1,7 @@
 use Rattle.std.proofs.Common.{◌≡◌, drop}
 use Rattle.std.specs.List.{list_any}
 use Rattle.pddl_syntax.specs.Forms.{name_forms}
-use Rattle.pddl_reader.specs.TypeOrder.{names_cycle}
+use Rattle.pddl_reader.specs.TypeCycles.{names_cycle}
 use Rattle.pddl_reader.proofs.resolution.types.first_in_group.Given as goal
 
 abbrev pub invariant-words : goal.invariant-words

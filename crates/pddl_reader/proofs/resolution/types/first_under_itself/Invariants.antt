@@ -1,7 +1,7 @@
 use Rattle.std.proofs.Common.{◌≡◌, drop}
 use Rattle.std.specs.List.{list_any}
 use Rattle.pddl_syntax.specs.Forms.{name_groups}
-use Rattle.pddl_reader.specs.TypeOrder.{declares_cycle}
+use Rattle.pddl_reader.specs.TypeCycles.{declares_cycle}
 use Rattle.pddl_reader.proofs.resolution.types.first_under_itself.Given as goal
 
 abbrev pub invariant-groups : goal.invariant-groups

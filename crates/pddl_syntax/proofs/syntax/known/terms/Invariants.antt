@@ -1,6 +1,6 @@
 use Rattle.std.proofs.Common.{◌≡◌}
 use Rattle.pddl_syntax.specs.Forms.{word_forms}
-use Rattle.pddl_syntax.specs.Heads.{is_any}
+use Rattle.pddl_syntax.specs.Presence.{is_any}
 use Rattle.pddl_syntax.specs.Levels.{here}
 use Rattle.pddl_syntax.specs.Optional.{with_front}
 use Rattle.pddl_syntax.specs.Syntax.{words_of}

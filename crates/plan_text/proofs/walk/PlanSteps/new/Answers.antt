@@ -23,4 +23,4 @@ returns-in-Ok c =
     )
 
 pub returns-in-Err : goal.returns-in-Err
-returns-in-Err c = let (long, _) = c.in-Err.ensures.err in (long, plan_too_long c.args.text.now long)
+returns-in-Err c = (c.in-Err.ensures.err, plan_too_long c.args.text.now c.in-Err.ensures.err)

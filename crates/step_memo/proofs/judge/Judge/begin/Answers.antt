@@ -1,5 +1,5 @@
 use Rattle.std.proofs.Common.{◌≡◌, [], ℕ, Some, subst, sym}
-use Rattle.strips_judge.specs.Numbered.{state_of}
+use Rattle.strips_judge.specs.NumberedState.{state_of}
 use Rattle.strips_judge.specs.State.{is_in}
 use Rattle.step_memo.specs.Judging.{Judging, IsCostSoFar}
 use Rattle.step_memo.proofs.TakenLaws.{has_begun}

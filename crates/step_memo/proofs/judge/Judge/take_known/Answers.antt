@@ -1,7 +1,7 @@
 use Rattle.std.proofs.Common.{◌+◌, ◌∷◌, ◌++◌, [], List, Some, subst, ap, ◌∙◌}
 use Rattle.strips_task.specs.declared.steps.StepText.{StepText}
 use Rattle.strips_task.specs.Spelled.{step_spelled}
-use Rattle.strips_judge.specs.Numbered.{state_of}
+use Rattle.strips_judge.specs.NumberedState.{state_of}
 use Rattle.plan_cost.specs.Costs.{added}
 use Rattle.step_memo.specs.Judging.{Judging, HasTaken}
 use Rattle.step_memo.specs.Learned.{Takes}

@@ -2,8 +2,8 @@ use Rattle.std.proofs.Common.{arith, ◌≡◌, ◌+◌, ◌++◌, ◌∷◌, []
 use Rattle.strips_task.specs.Atom.{atom_eq}
 use Rattle.strips_task.specs.FirstPlaces.{first_places}
 use Rattle.strips_task.specs.declared.atoms.Atom.{Atom}
-use Rattle.strips_judge.specs.Numbers.{number_in}
-use Rattle.strips_judge.specs.Numbered.{Numbered, Grows, KeepsNumbers, state_of, state_by}
+use Rattle.strips_judge.specs.AtomNumbers.{number_in}
+use Rattle.strips_judge.specs.NumberedState.{Numbered, Grows, KeepsNumbers, state_of, state_by}
 use Rattle.strips_judge.proofs.Growth.{pushed, keeps_more, recent_kept, row_for_more}
 use Rattle.strips_judge.proofs.NumberedLaws.{state_by-push, state_by-same}
 use Rattle.strips_judge.proofs.Numbering.{number_in-push_new}
@@ -13,18 +13,18 @@ pub returns-clause-number : goal.returns-clause-number
 returns-clause-number c =
     let first = first_places atom_eq c.self.inside.initial.now in
     let none : number_in (first ++ c.self.inside.later.keys) c.args.atom.now ≡ None = ap (λ (s : Numbered). number_in s.atoms c.args.atom.now) c.self.view_is ∙ c.requires in
-    let all = pushed first c.self.inside.later.keys c.insert.new.self.keys c.args.atom.now c.in_ok-copy_of.field-0 none c.in_ok-copy_of.ensures c.in_ok-insert.ensures.keys in
+    let all = pushed first c.self.inside.later.keys c.insert.new.self.keys c.args.atom.now c.in_ok-copy.field-0 none c.in_ok-copy.ensures c.in_ok-insert.ensures.keys in
     ap (λ l. number_in l c.args.atom.now) all
-    ∙ number_in-push_new (first ++ c.self.inside.later.keys) c.args.atom.now c.in_ok-copy_of.field-0 c.in_ok-copy_of.ensures none
+    ∙ number_in-push_new (first ++ c.self.inside.later.keys) c.args.atom.now c.in_ok-copy.field-0 c.in_ok-copy.ensures none
     ∙ ap Some (length-append first c.self.inside.later.keys ∙ ap (λ n. n + length c.self.inside.later.keys) (sym c.distinct_len.ensures) ∙ ap (λ n. c.distinct_len.result + n) (sym c.len.ensures.len))
 
 pub returns-clause-state : goal.returns-clause-state
 returns-clause-state c =
     let first = first_places atom_eq c.self.inside.initial.now in
     let none : number_in (first ++ c.self.inside.later.keys) c.args.atom.now ≡ None = ap (λ (s : Numbered). number_in s.atoms c.args.atom.now) c.self.view_is ∙ c.requires in
-    let all = pushed first c.self.inside.later.keys c.insert.new.self.keys c.args.atom.now c.in_ok-copy_of.field-0 none c.in_ok-copy_of.ensures c.in_ok-insert.ensures.keys in
+    let all = pushed first c.self.inside.later.keys c.insert.new.self.keys c.args.atom.now c.in_ok-copy.field-0 none c.in_ok-copy.ensures c.in_ok-insert.ensures.keys in
     ap (λ l. state_by l c.reserve.new.self) all
-    ∙ state_by-push (first ++ c.self.inside.later.keys) c.reserve.new.self c.in_ok-copy_of.field-0 (λ k le. c.reserve.ensures.same k ∙ c.self.invariant.0.clear k le)
+    ∙ state_by-push (first ++ c.self.inside.later.keys) c.reserve.new.self c.in_ok-copy.field-0 (λ k le. c.reserve.ensures.same k ∙ c.self.invariant.0.clear k le)
     ∙ state_by-same (first ++ c.self.inside.later.keys) c.reserve.new.self c.self.inside.bits c.reserve.ensures.same
     ∙ ap state_of c.self.view_is
 
@@ -32,22 +32,22 @@ pub returns-clause-grows : goal.returns-clause-grows
 returns-clause-grows c =
     let first = first_places atom_eq c.self.inside.initial.now in
     let none : number_in (first ++ c.self.inside.later.keys) c.args.atom.now ≡ None = ap (λ (s : Numbered). number_in s.atoms c.args.atom.now) c.self.view_is ∙ c.requires in
-    let all = pushed first c.self.inside.later.keys c.insert.new.self.keys c.args.atom.now c.in_ok-copy_of.field-0 none c.in_ok-copy_of.ensures c.in_ok-insert.ensures.keys in
+    let all = pushed first c.self.inside.later.keys c.insert.new.self.keys c.args.atom.now c.in_ok-copy.field-0 none c.in_ok-copy.ensures c.in_ok-insert.ensures.keys in
     subst (λ (s : Numbered). Grows s (record { initial = c.self.inside.initial.now; atoms = first ++ c.insert.new.self.keys; bits = c.reserve.new.self })) c.self.view_is
     (record {
       initial = refl;
-      numbers = subst (λ (l : List Atom). KeepsNumbers (first ++ c.self.inside.later.keys) l) (sym all) (keeps_more (first ++ c.self.inside.later.keys) (c.in_ok-copy_of.field-0 ∷ []));
+      numbers = subst (λ (l : List Atom). KeepsNumbers (first ++ c.self.inside.later.keys) l) (sym all) (keeps_more (first ++ c.self.inside.later.keys) (c.in_ok-copy.field-0 ∷ []));
     })
 
 pub invariant_of-self-2 : goal.invariant_of-self-2
 invariant_of-self-2 c =
     let first = first_places atom_eq c.self.inside.initial.now in
     let none : number_in (first ++ c.self.inside.later.keys) c.args.atom.now ≡ None = ap (λ (s : Numbered). number_in s.atoms c.args.atom.now) c.self.view_is ∙ c.requires in
-    let all = pushed first c.self.inside.later.keys c.insert.new.self.keys c.args.atom.now c.in_ok-copy_of.field-0 none c.in_ok-copy_of.ensures c.in_ok-insert.ensures.keys in
+    let all = pushed first c.self.inside.later.keys c.insert.new.self.keys c.args.atom.now c.in_ok-copy.field-0 none c.in_ok-copy.ensures c.in_ok-insert.ensures.keys in
     let kept : KeepsNumbers (first ++ c.self.inside.later.keys) (first ++ c.insert.new.self.keys) =
-    subst (λ (l : List Atom). KeepsNumbers (first ++ c.self.inside.later.keys) l) (sym all) (keeps_more (first ++ c.self.inside.later.keys) (c.in_ok-copy_of.field-0 ∷ []))
+    subst (λ (l : List Atom). KeepsNumbers (first ++ c.self.inside.later.keys) l) (sym all) (keeps_more (first ++ c.self.inside.later.keys) (c.in_ok-copy.field-0 ∷ []))
     in (
-      row_for_more first c.self.inside.later.keys c.insert.new.self.keys c.in_ok-copy_of.field-0 c.distinct_len.result c.len.result c.self.inside.bits c.reserve.new.self c.self.invariant.0 all
+      row_for_more first c.self.inside.later.keys c.insert.new.self.keys c.in_ok-copy.field-0 c.distinct_len.result c.len.result c.self.inside.bits c.reserve.new.self c.self.invariant.0 all
           c.distinct_len.ensures c.len.ensures.len c.in_ok-reserve.ensures.room
           (let both = length-append first c.self.inside.later.keys in omega (arith, c.if-number.false, c.self.invariant.0.countable, both, c.distinct_len.ensures, c.len.ensures.len))
           c.reserve.ensures.same,

@@ -2,8 +2,8 @@ use Rattle.std.proofs.Common.{◌≡◌, ◌++◌, ◌∷◌, [], Some, false, s
 use Rattle.strips_task.specs.declared.atoms.Atom.{Atom}
 use Rattle.strips_task.specs.Atom.{atom_eq}
 use Rattle.strips_task.specs.FirstPlaces.{first_places}
-use Rattle.strips_judge.specs.Numbers.{number_in}
-use Rattle.strips_judge.specs.Numbered.{Numbered, state_of, state_by}
+use Rattle.strips_judge.specs.AtomNumbers.{number_in}
+use Rattle.strips_judge.specs.NumberedState.{Numbered, state_of, state_by}
 use Rattle.strips_judge.specs.State.{without}
 use Rattle.strips_judge.proofs.NumberedLaws.{without_one, bit_changes}
 use Rattle.strips_judge.proofs.state.NumberedState.clear.Goals as goal

@@ -1,8 +1,8 @@
 use Rattle.std.proofs.Common.{◌^◌, ◌+◌, Some, option_map, sym, ap, ◌∙◌, length, arith}
 use Rattle.strips_task.specs.Atom.{atom_eq}
 use Rattle.strips_task.specs.FirstPlaces.{first_places}
-use Rattle.strips_judge.specs.Numbers.{number_in}
-use Rattle.strips_judge.specs.Numbered.{Numbered}
+use Rattle.strips_judge.specs.AtomNumbers.{number_in}
+use Rattle.strips_judge.specs.NumberedState.{Numbered}
 use Rattle.strips_judge.proofs.Growth.{later_lt}
 use Rattle.strips_judge.proofs.Numbering.{number_in-first, number_in-later}
 use Rattle.strips_judge.proofs.state.NumberedState.number_in_tables.Goals as goal

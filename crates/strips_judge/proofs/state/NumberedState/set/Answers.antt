@@ -2,8 +2,8 @@ use Rattle.std.proofs.Common.{◌≡◌, ◌++◌, ◌∷◌, [], Some, true, su
 use Rattle.strips_task.specs.declared.atoms.Atom.{Atom}
 use Rattle.strips_task.specs.Atom.{atom_eq}
 use Rattle.strips_task.specs.FirstPlaces.{first_places}
-use Rattle.strips_judge.specs.Numbers.{number_in}
-use Rattle.strips_judge.specs.Numbered.{Numbered, state_of, state_by}
+use Rattle.strips_judge.specs.AtomNumbers.{number_in}
+use Rattle.strips_judge.specs.NumberedState.{Numbered, state_of, state_by}
 use Rattle.strips_judge.specs.State.{with_all}
 use Rattle.strips_judge.proofs.NumberedLaws.{with_one, bit_changes}
 use Rattle.strips_judge.proofs.state.NumberedState.set.Goals as goal

@@ -1,6 +1,7 @@
 use Rattle.std.proofs.Common.{◌∙◌}
 use Rattle.plan_text.specs.PlanReading.{plan_of}
-use Rattle.strips_task.specs.Plans.{plan_eq, plans_equivalence}
+use Rattle.strips_task.specs.Plans.{plan_eq}
+use Rattle.strips_task.specs.PlanEquality.{plans_equivalence}
 use Rattle.submitted_plan.proofs.plan.SubmittedPlan.is_same.Goals as goal
 
 pub returns-in-Text-Read : goal.returns-in-Text-Read

@@ -1,10 +1,11 @@
 -- What contracts see of a domain that is kept in tables.
 
-use Rattle.std.specs.Prelude.{◌≡◌, ◌≤◌, length}
+use Rattle.std.specs.Prelude.{◌≡◌, ◌≤◌, length, []}
 use Rattle.std.specs.Map.{keys_of}
 use Rattle.pddl_reader.specs.declared.resolution.domain.Domain.TheInside.{Inside}
 use Rattle.strips_task.specs.WellFormed.{IsWellFormed, most_predicates}
-use Rattle.pddl_reader.specs.Domain.{DomainValue, bare_task}
+use Rattle.pddl_reader.specs.Domain.{DomainValue}
+use Rattle.strips_task.specs.declared.tasks.TaskParts.{TaskParts}
 
 -- the record of what is kept
 abbrev pub domain_kept : Inside → DomainValue
@@ -17,6 +18,19 @@ domain_kept d = record {
   functions = d.functions;
   actions = d.actions;
   increases = d.increases;
+}
+
+-- a task of the domain that asks and gives nothing
+abbrev pub bare_task : DomainValue → TaskParts
+bare_task domain = record {
+  domain = domain.name;
+  problem = [];
+  parents = domain.parents;
+  objects = domain.objects;
+  preds = domain.predicates;
+  actions = domain.actions;
+  init = [];
+  goal = [];
 }
 
 -- what a domain says is well formed, each type has a name, and there are few functions

@@ -1,0 +1,3 @@
+pub mod ValueSteps
+pub mod OperandSteps
+pub mod HelpSteps
