@@ -8,7 +8,7 @@ use Rattle.bench_rule.specs.declared.contents.Item.TheVariants.{Waiting, Done}
 use Rattle.bench_rule.specs.declared.views.View.{View}
 use Rattle.bench_rule.specs.Views.{Content, Bench, worker_view, spent_view, with_lifted, with_posted, with_taken, with_finished, with_handed_back, with_emission, with_seat_out, with_joined, with_shut}
 
--- another word for one slot, another content at home in it or none, and another view for one seat
+-- the bench with another word for one slot, another content in it or none, and another view for one seat
 abbrev pub with_slot : Bench → ℕ → ℕ → Option Content → ℕ → View → Bench
 with_slot bench slot word content id view = record {
   words = slice_set bench.words (slot + 1) word;
@@ -16,15 +16,15 @@ with_slot bench slot word content id view = record {
   views = slice_set bench.views id view;
 }
 
--- another view for one seat
+-- the bench with another view for one seat
 abbrev pub with_view : Bench → ℕ → View → Bench
 with_view bench id view = record { words = bench.words; homes = bench.homes; views = slice_set bench.views id view }
 
--- the owner has taken an unused slot from home
+-- the owner has an unused slot in its hands
 abbrev pub after_lift : Bench → ℕ → View → Bench
 after_lift bench slot view = with_slot bench slot 0 none 0 (with_lifted view)
 
--- a job rests in the slot and waits
+-- a job is in the slot and waits
 abbrev pub after_post : Bench → ℕ → View → AcceptedPlan → Bench
 after_post bench slot view job = with_slot bench slot 1 (some (Some (Waiting job))) 0 (with_posted view job)
 
@@ -32,11 +32,11 @@ after_post bench slot view job = with_slot bench slot 1 (some (Some (Waiting job
 abbrev pub after_take : Bench → ℕ → ℕ → View → AcceptedPlan → Bench
 after_take bench id slot view job = with_slot bench slot 2 none id (with_taken view slot job)
 
--- a finding rests in the slot
+-- a finding is in the slot
 abbrev pub after_finish : Bench → ℕ → ℕ → View → Finding → Bench
 after_finish bench id slot view finding = with_slot bench slot 3 (some (Some (Done finding))) id (with_finished view slot)
 
--- the job rests in the slot and waits again
+-- the job is in the slot and waits again
 abbrev pub after_hand_back : Bench → ℕ → ℕ → View → AcceptedPlan → Bench
 after_hand_back bench id slot view job = with_slot bench slot 1 (some (Some (Waiting job))) id (with_handed_back view slot)
 

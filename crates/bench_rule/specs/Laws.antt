@@ -26,16 +26,16 @@ SeatHolds bench id slot = (view : View) × HasView bench id view × (0 < holding
 abbrev pub HeldByOne : Bench → Type 0
 HeldByOne bench = (slot id other : ℕ) → SeatHolds bench id slot → SeatHolds bench other slot → id ≡ other
 
--- a slot is out exactly where a seat holds it
+-- a slot is out exactly if a seat holds it
 abbrev pub OutIfHeld : Bench → Type 0
 OutIfHeld bench = (slot : ℕ) → (word_of bench.words slot ≡ 2) ↔ ((id : ℕ) × SeatHolds bench id slot)
 
--- in a waiting slot rests the job that was accepted there
+-- a waiting slot contains the job that was accepted there
 abbrev pub JobsRest : Setting → Bench → Type 0
 JobsRest setting bench = (slot : ℕ) → slot < setting.slots → word_of bench.words slot ≡ 1
     → (job : AcceptedPlan) × (slice_get (owner_of bench.views).jobs slot ≡ Some job) × Rests (get_elem? bench.homes slot) (Some (Waiting job))
 
--- in a finished slot rests a right finding of the job that was accepted there
+-- a finished slot contains a right finding of the job that was accepted there
 abbrev pub RightFindingsRest : Setting → Bench → Type 0
 RightFindingsRest setting bench = (slot : ℕ) → slot < setting.slots → word_of bench.words slot ≡ 3
     → (finding : Finding) × (slice_get (owner_of bench.views).jobs slot ≡ Some finding.job) × Rests (get_elem? bench.homes slot) (Some (Done finding)) × IsRight setting.task.value finding
@@ -44,12 +44,12 @@ RightFindingsRest setting bench = (slot : ℕ) → slot < setting.slots → word
 abbrev pub HeldWithAccepted : Bench → Type 0
 HeldWithAccepted bench = (id slot : ℕ) (view : View) (job : AcceptedPlan) → HasView bench id view → HoldsJob slot job view.held → slice_get (owner_of bench.views).jobs slot ≡ Some job
 
--- with no seat out, a slot is out exactly where the owner holds it, and finished or emitted exactly where the owner knows that
+-- while no seat is out, a slot is out exactly if the owner holds it, and finished or emitted exactly if the owner knows that
 abbrev pub OwnerKnowsAll : Bench → Type 0
 OwnerKnowsAll bench = (view : View) → HasView bench 0 view → view.seats_out ≡ 0 → (slot : ℕ)
     → (times_held slot view.held ≡ out_in (word_of bench.words slot)) × (times slot view.finished ≡ finished_in (word_of bench.words slot))
 
--- the owner takes an unused slot from home: no event
+-- the owner takes an unused slot into its hands: no event
 abbrev pub LiftLaw : Setting → Bench → Type 0
 LiftLaw setting bench = (slot : ℕ) (view : View) → HasView bench 0 view → slot ≡ length view.jobs → slot < setting.slots → view.lifted ≡ false → Stays setting bench (after_lift bench slot view)
 
@@ -82,7 +82,7 @@ abbrev pub CloseLaw : Setting → Bench → Type 0
 CloseLaw setting bench = (view : View) (planner : ℕ) → HasView bench 0 view → planner < length view.closed → slice_index_or view.closed planner false ≡ false
     → Moves setting bench (with_view bench 0 (with_close view planner)) (close planner) reply.ClosedNow
 
--- a seat brings a slot that it holds before the others, or sees a waiting slot: no event
+-- a seat moves a slot that it holds to the front, or sees a waiting slot: no event
 abbrev pub LoadLaw : Setting → Bench → Type 0
 LoadLaw setting bench = (id : ℕ) (view : View) → HasView bench id view → Stays setting bench (with_view bench id view)
 
@@ -106,12 +106,13 @@ ShutLaw setting bench = (view : View) → HasView bench 0 view → Stays setting
 abbrev pub NoteLaw : Setting → Bench → Type 0
 NoteLaw setting bench = (id : ℕ) (view : View) → HasView bench id view → shut_word bench.words ≡ 1 → Stays setting bench (with_view bench id (with_note view))
 
--- after a step that is an event, a lawful history that leaves what the bench showed before is lawful with that event, and leaves what it shows then
+-- if a lawful history leaves what the bench showed before a step that is an event, then with that event it is lawful, too, and leaves what the bench
+-- shows after the step
 abbrev pub HistoryGoesOn : Setting → Bench → Bench → Type 0
 HistoryGoesOn setting before later = (history : History) (event : Event) (answer : Reply) → Moves setting before later event answer
     → IsLawful setting.planners setting.slots history → left_by setting.planners history ≡ shown before
     → IsLawful setting.planners setting.slots (history ++ (event, answer) ∷ []) × (left_by setting.planners (history ++ (event, answer) ∷ []) ≡ shown later)
 
--- what a bench shows is told by its words and by what the owner knows, whatever rests in its slots
+-- what a bench shows depends only on its words and on what the owner knows, whatever is in its slots
 abbrev pub ShownByWords : Setting → Bench → Bench → Type 0
 ShownByWords setting bench other = Sound setting other → other.words ≡ bench.words → owner_of other.views ≡ owner_of bench.views → shown other ≡ shown bench

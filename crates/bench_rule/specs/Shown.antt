@@ -25,12 +25,12 @@ abbrev pub slot_words : List ℕ → List ℕ
 slot_words [] = []
 slot_words (word ∷ words) = words
 
--- a finished slot shows the finding that rests in it
+-- a finished slot shows the finding that is in it
 abbrev pub finished_stage : maybe.Option Content → Stage
 finished_stage (some (Some (Done finding))) = stage.Finished finding
 finished_stage _ = stage.Waiting
 
--- how far the job of a slot has come, by the word of the slot and by what rests in it
+-- how far the job of a slot has come, by the word of the slot and by what is in it
 abbrev pub stage_at : ℕ → maybe.Option Content → Stage
 stage_at word home = cond (nat_eq word 2) stage.Out (cond (nat_eq word 3) (finished_stage home) (cond (nat_eq word 4) stage.Emitted stage.Waiting))
 

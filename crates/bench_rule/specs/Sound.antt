@@ -16,11 +16,11 @@ use Rattle.bench_rule.specs.declared.views.Setting.{Setting}
 use Rattle.bench_rule.specs.declared.views.View.{View}
 use Rattle.bench_rule.specs.Views.{Content, Bench, one_if, total, holding, knows_finished, counts_as_worker, rank}
 
--- what rests in a slot: nothing is known of a slot that is not there, and one that a seat carries is out
+-- what is in a slot: nothing is known about a slot that does not exist, and the inner `none` is for one that a seat carries
 abbrev pub Home : Type 0
 Home = maybe.Option (maybe.Option Content)
 
--- the word of a slot: 0 where it is unused, 1 where its job waits, 2 where it is out, 3 where it is finished, 4 where it is emitted
+-- the word of a slot: 0 if it is unused, 1 if its job waits, 2 if it is out, 3 if it is finished, 4 if it is emitted
 abbrev pub word_of : List ℕ → ℕ → ℕ
 word_of words slot = slice_index words (slot + 1)
 
@@ -36,23 +36,23 @@ out_in word = one_if (nat_eq word 2)
 abbrev pub finished_in : ℕ → ℕ
 finished_in word = one_if (nat_eq word 3) + one_if (nat_eq word 4)
 
--- the content is at home in the slot
+-- this content is in the slot
 abbrev pub Rests : Home → Content → Type 0
 Rests home content = home ≡ some (some content)
 
--- what the word of a slot says of the slot
+-- what the word of a slot says about the slot
 pub record SlotOk (task : CostedTask) (jobs : List AcceptedPlan) (lifted : Bool) (home : Home) (slot word : ℕ) : Type 0 where
   pub known : word ≤ 4
   -- the slots in use are those of the accepted jobs
   pub used : 0 < word → slot < length jobs
   pub unused : word ≡ 0 → length jobs ≤ slot
-  -- something rests in an unused slot, unless the owner has it in its hands
+  -- an unused slot has some content, unless the owner has it in its hands
   pub empty : word ≡ 0 → (lifted ≡ true → slot ≢ length jobs) → (content : Content) × Rests home content
-  -- the job of a waiting slot rests in it
+  -- a waiting slot contains its job
   pub waiting : word ≡ 1 → (job : AcceptedPlan) × (slice_get jobs slot ≡ Some job) × Rests home (Some (Waiting job))
   -- a slot that is out is in somebody's hands
   pub out : word ≡ 2 → home ≡ some none
-  -- a right finding of its job rests in a finished slot
+  -- a finished slot contains a right finding of its job
   pub finished : word ≡ 3 → (finding : Finding) × (slice_get jobs slot ≡ Some finding.job) × Rests home (Some (Done finding)) × IsRight task finding
 
 -- every seat that is not spent knows what the bench was made for
@@ -95,16 +95,16 @@ pub record OwnerIs (bench : Bench) (view : View) (book : Book) : Type 0 where
   pub role : view.role ≡ Owner
   pub knows : book_of view ≡ book
 
--- a bench of which all threads and slots agree
+-- the rule: a bench on which all threads and slots agree
 pub record Sound (setting : Setting) (bench : Bench) : Type 0 where
   pub book : Book
   pub owner : (view : View) × OwnerIs bench view book
-  -- there is a word for each slot, and one more
+  -- there is a word for each slot, and one more word
   pub slot_count : length bench.homes ≡ setting.slots
   pub word_count : length bench.words ≡ length bench.homes + 1
-  -- word 0 is 1 where the owner has shut the bench, else 0
+  -- word 0 is 1 if the owner has shut the bench, and else 0
   pub shut_known : shut_word bench.words ≡ one_if book.shut
-  -- a seat notes that the bench is shut only where it is
+  -- a seat notes that the bench is shut only if it is
   pub notes : (id : ℕ) (view : View) → HasView bench id view → view.noted ≡ true → book.shut ≡ true
   pub room : length book.jobs ≤ length bench.homes
   -- the job in slot s has the number s
@@ -114,7 +114,7 @@ pub record Sound (setting : Setting) (bench : Bench) : Type 0 where
   pub each_slot : (slot : ℕ) → slot < length bench.homes → SlotOk setting.task.value book.jobs book.lifted (get_elem? bench.homes slot) slot (word_of bench.words slot)
   -- a slot that is out is held once in all views together, and no other slot is held
   pub held_once : (slot : ℕ) → total (holding slot) bench.views ≡ out_in (word_of bench.words slot)
-  -- a slot that is finished or emitted is named so once in all views together, and no other slot is named
+  -- a slot that is finished or emitted is named as finished once in all views together, and no other slot is
   pub finished_once : (slot : ℕ) → total (knows_finished slot) bench.views ≡ finished_in (word_of bench.words slot)
   pub held_jobs : (id : ℕ) (view : View) → HasView bench id view → HeldWithJobs book.jobs view.held
   -- the seats out are the workers' seats

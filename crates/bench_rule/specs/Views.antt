@@ -11,15 +11,15 @@ use Rattle.bench_rule.specs.declared.views.Role.TheVariants.{Owner, Worker, Spen
 use Rattle.bench_rule.specs.declared.views.Setting.{Setting}
 use Rattle.bench_rule.specs.declared.views.View.{View}
 
--- what lies in a slot, or nothing
+-- what is in a slot, or nothing
 abbrev pub Content : Type 0
 Content = Option Item
 
--- a bench: the words, what rests in each slot, and what each seat knows
+-- a bench: the words, what is in each slot, and what each seat knows
 abbrev pub Bench : Type 0
 Bench = State Content View
 
--- the slots that a seat carries, each with what lies in it, the one that it took last first
+-- the slots that a seat carries, each with what is in it; the one that it took last comes first
 abbrev pub Carried : Type 0
 Carried = List (ℕ × Content)
 
@@ -44,7 +44,7 @@ first_view setting = record {
   noted = false;
 }
 
--- what a worker knows that has done nothing yet
+-- what a worker that has done nothing yet knows
 abbrev pub worker_view : Option Setting → View
 worker_view setting = record {
   role = Worker;
@@ -111,7 +111,7 @@ abbrev pub total : {A : Type 0} → (A → ℕ) → List A → ℕ
 total f [] = 0
 total f (x ∷ xs) = f x + total f xs
 
--- whose job each is
+-- the planner of each job
 abbrev pub planners_of : List AcceptedPlan → List ℕ
 planners_of jobs = map (λ job. job.planner) jobs
 
@@ -153,7 +153,7 @@ slots_of (held ∷ others) = (held.slot, None) ∷ slots_of others
 abbrev pub CarriesHeld : Sitting → Type 0
 CarriesHeld seat = (emitted : Carried) × (seat.1 ≡ slots_of seat.0.held ++ emitted)
 
--- a seat that carried the slots that it held, and some after them, does so afterwards
+-- a seat that carried the slots that it held, and then some others, afterwards carries those that it holds then, and the same others
 abbrev pub KeepsCarried : Sitting → Sitting → Type 0
 KeepsCarried before later = (emitted : Carried) → before.1 ≡ slots_of before.0.held ++ emitted → later.1 ≡ slots_of later.0.held ++ emitted
 
@@ -179,11 +179,11 @@ with_miss view slot = record view { misses = view.misses ++ slot ∷ [] }
 abbrev pub with_finished : View → ℕ → View
 with_finished view slot = record view { held = without_held slot view.held; finished = view.finished ++ slot ∷ [] }
 
--- the held slot is held no more
+-- the slot is no longer held
 abbrev pub with_handed_back : View → ℕ → View
 with_handed_back view slot = record view { held = without_held slot view.held }
 
--- one finding more was emitted for the planner
+-- one more finding was emitted for the planner
 abbrev pub with_emission : View → ℕ → View
 with_emission view planner = record view { emitted = slice_set view.emitted planner (suc (slice_index view.emitted planner)) }
 
@@ -191,11 +191,11 @@ with_emission view planner = record view { emitted = slice_set view.emitted plan
 abbrev pub with_close : View → ℕ → View
 with_close view planner = record view { closed = slice_set view.closed planner true }
 
--- one seat more is out
+-- one more seat is out
 abbrev pub with_seat_out : View → View
 with_seat_out view = record view { seats_out = view.seats_out + 1 }
 
--- one seat less is out, and what it finished is known
+-- one seat fewer is out, and what it finished is known
 abbrev pub with_joined : View → View → View
 with_joined view joined = record view { seats_out = view.seats_out - 1; finished = view.finished ++ joined.finished }
 

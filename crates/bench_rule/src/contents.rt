@@ -8,11 +8,11 @@ use intake_rules::{Finding, Job};
 pub enum Item {
     /// The job of the slot, which nobody judges.
     Waiting(Job),
-    /// What was found of the job, and was not emitted yet.
+    /// The finding of the job, which was not emitted yet.
     Done(Finding),
 }
 
-/// The job in the slot, where one is known to lie there.
+/// The job in the slot, which is known to hold one.
 pub(crate) fn job_in(content: Option<Item>) -> Job
     requires { (job : _) × (content ≡ Some (Item.Waiting job)) }
     ensures { content ≡ Some (Item.Waiting result) }
@@ -24,7 +24,7 @@ pub(crate) fn job_in(content: Option<Item>) -> Job
     }
 }
 
-/// The finding in the slot, where one is known to lie there.
+/// The finding in the slot, which is known to hold one.
 pub(crate) fn finding_in(content: Option<Item>) -> Finding
     requires { (finding : _) × (content ≡ Some (Item.Done finding)) }
     ensures { content ≡ Some (Item.Done result) }

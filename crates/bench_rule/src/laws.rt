@@ -1,7 +1,7 @@
 //! What the rule means: each law is the contract of a function that does nothing.
 //!
-//! The first few are what the rule says of slots, seats and findings. Then there is one law for each kind of step: the step keeps the rule,
-//! and the intake that the bench shows moves by the event of that kind, or not at all. [`history_goes_on`] says the same of histories.
+//! The first few say what the rule means for slots, seats and findings. Then there is one law for each kind of step: the step keeps the rule,
+//! and the intake that the bench shows changes by the event of that kind, or not at all. [`history_goes_on`] says the same of histories.
 ghost use Rattle.bench_rule.specs.declared.views.Setting.{Setting};
 ghost use Rattle.bench_rule.specs.Laws.{HeldByOne, OutIfHeld, JobsRest, RightFindingsRest, HeldWithAccepted, OwnerKnowsAll, LiftLaw, PostLaw, TakeLaw, FinishLaw, HandBackLaw, EmitLaw, CloseLaw, LoadLaw, MissLaw, SplitLaw, JoinLaw, ShutLaw, NoteLaw, HistoryGoesOn, ShownByWords};
 ghost use Rattle.bench_rule.specs.Sound.{Sound};
@@ -12,17 +12,17 @@ pub fn held_by_one()
     ensures { (setting : Setting) (bench : Bench) → Sound setting bench → HeldByOne bench }
 {}
 
-/// A slot is out exactly where a seat holds it.
+/// A slot is out exactly if a seat holds it.
 pub fn out_if_held()
     ensures { (setting : Setting) (bench : Bench) → Sound setting bench → OutIfHeld bench }
 {}
 
-/// In a waiting slot rests the job that was accepted there.
+/// A waiting slot contains the job that was accepted there.
 pub fn jobs_rest()
     ensures { (setting : Setting) (bench : Bench) → Sound setting bench → JobsRest setting bench }
 {}
 
-/// In a finished slot rests a right finding of the job that was accepted there.
+/// A finished slot contains a right finding of the job that was accepted there.
 pub fn right_findings_rest()
     ensures { (setting : Setting) (bench : Bench) → Sound setting bench → RightFindingsRest setting bench }
 {}
@@ -32,7 +32,7 @@ pub fn held_with_accepted()
     ensures { (setting : Setting) (bench : Bench) → Sound setting bench → HeldWithAccepted bench }
 {}
 
-/// With no seat out, the owner knows of each slot whether it is out, finished or emitted.
+/// While no seat is out, the owner knows of each slot whether it is out, finished or emitted.
 pub fn owner_knows_all()
     ensures { (setting : Setting) (bench : Bench) → Sound setting bench → OwnerKnowsAll bench }
 {}
@@ -97,7 +97,7 @@ pub fn shut_law()
     ensures { (setting : Setting) (bench : Bench) → Sound setting bench → ShutLaw setting bench }
 {}
 
-/// A look that finds the bench shut keeps the rule and the shown intake.
+/// A load that finds the bench shut keeps the rule and the shown intake.
 pub fn note_law()
     ensures { (setting : Setting) (bench : Bench) → Sound setting bench → NoteLaw setting bench }
 {}
@@ -107,8 +107,8 @@ pub fn history_goes_on()
     ensures { (setting : Setting) (before later : Bench) → HistoryGoesOn setting before later }
 {}
 
-/// What a bench shows is told by its words and by what the owner knows. So a step, whose contract says what the seat knows afterwards and whose body says which
-/// number it stores, moves the shown intake just as the law of its kind says, whatever rests in the slots.
+/// What a bench shows depends only on its words and on what the owner knows. So a step, whose contract says what the seat knows afterwards and whose
+/// body says which number it stores, changes the shown intake just as the law of its kind says, whatever is in the slots.
 pub fn shown_by_words()
     ensures { (setting : Setting) (bench other : Bench) → Sound setting bench → ShownByWords setting bench other }
 {}

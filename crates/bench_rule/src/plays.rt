@@ -1,4 +1,4 @@
-//! What each step tells of the seat that takes it. These types are for the proofs alone.
+//! What each step says about the seat that takes it. These types are only for proofs.
 ghost use Rattle.bench_rule.specs.Plays.{lift_tells, post_tells, take_tells, take_own_tells, bring_tells, finish_tells, hand_back_tells, emit_tells, close_tells, look_tells, shut_tells, look_at_shut_tells};
 
 use crate::contents::Item;
@@ -34,7 +34,7 @@ impl Play<Option<Item>, View> for TakeOwn {
     ghost then = { take_own_tells };
 }
 
-/// The load that brings the slot of a held job before the other slots that the seat carries.
+/// The load that moves the slot of a held job to the front of the slots that the seat carries.
 pub(crate) struct Bring;
 
 impl Play<Option<Item>, View> for Bring {
@@ -62,7 +62,7 @@ impl Play<Option<Item>, View> for Emit {
     ghost then = { emit_tells };
 }
 
-/// Which planner a close is of, for the proof alone.
+/// Which planner is closed. Only for proofs.
 pub(crate) trait Which {
     ghost use Rattle.std.specs.Prelude.{ℕ};
 
@@ -82,7 +82,7 @@ impl<W: Which> Play<Option<Item>, View> for Close<W> {
     ghost then = { close_tells W.planner };
 }
 
-/// The load by which a worker looks whether a slot waits.
+/// The load by which a worker checks whether a slot waits.
 pub(crate) struct Look;
 
 impl Play<Option<Item>, View> for Look {
@@ -96,7 +96,7 @@ impl Play<Option<Item>, View> for Shut {
     ghost then = { shut_tells };
 }
 
-/// The load that looks whether the bench is shut.
+/// The load that checks whether the bench is shut.
 pub(crate) struct LookAtShut;
 
 impl Play<Option<Item>, View> for LookAtShut {

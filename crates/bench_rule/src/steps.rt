@@ -1,7 +1,7 @@
 //! The steps at a bench. Each changes the word of at most one slot, and the view of the seat that takes it as its contract says.
 //!
-//! Word s + 1 is that of slot s: 0 where the slot is unused, 1 where its job waits, 2 where it is out, 3 where it is finished, and 4 where
-//! its finding was emitted. Word 0 is 1 once the bench is shut. No step waits, and none takes memory.
+//! Word s + 1 is that of slot s: 0 if the slot is unused, 1 if its job waits, 2 if it is out, 3 if it is finished, and 4 if its finding was
+//! emitted. Word 0 is 1 once the bench is shut. No step waits, and none takes memory.
 ghost use Rattle.std.specs.Prelude.{◌≡◌, ◌<◌, ◌≤◌, ◌+◌, ℕ, true, false, IsTrue, [], ◌∷◌, ◌++◌, length, None, MatchOption};
 ghost use Rattle.intake_rules.specs.Findings.{IsRight};
 ghost use Rattle.intake_rules.specs.Jobs.{AcceptedPlan};
@@ -60,7 +60,7 @@ pub fn take(words: &BenchWords, seat: &mut BenchSeat, slot: u32) -> Option<Job>
     Some(job_in(words.exchange(seat, slot as usize, None)))
 }
 
-/// The owner takes the job of a slot, if it waits. With no seat out, the owner knows beforehand whether it does.
+/// The owner takes the job of a slot, if it waits. While no seat is out, the owner knows beforehand whether it does.
 pub fn take_own(words: &BenchWords, seat: &mut BenchSeat, slot: u32) -> Option<Job>
     requires owner { IsSeatOf words.now seat.old × (seat.old.id ≡ 0) }
     requires slot { slot < words.now.table_id.slots }
@@ -75,7 +75,7 @@ pub fn take_own(words: &BenchWords, seat: &mut BenchSeat, slot: u32) -> Option<J
     Some(job_in(words.exchange(seat, slot as usize, None)))
 }
 
-/// Brings a slot that the seat holds before the others, and puts something into it.
+/// Moves a slot that the seat holds to the front of those that it carries, and puts something into it.
 fn lay(words: &BenchWords, seat: &mut BenchSeat, slot: u32, item: Item)
     requires seat { IsSeatOf words.now seat.old × CarriesHeld seat.old.me }
     requires held { 0 < times_held slot seat.old.me.0.held }
@@ -115,8 +115,9 @@ pub fn hand_back(words: &BenchWords, seat: &mut BenchSeat, slot: u32, job: Job)
     words.store::<HandBack>(seat, slot as usize + 1, WAITING);
 }
 
-/// The owner emits the finding of a slot whose job is the next one of its planner, if it is finished. None is answered only if the owner
-/// does not know it to be finished, and with no seat out the owner knows it beforehand. The slot comes behind the others that the seat carries.
+/// The owner emits the finding of a slot whose job is the next one of its planner, if it is finished. `None` is returned only if the owner does
+/// not know it to be finished. While no seat is out, the owner knows beforehand whether it is. The slot then follows the others that the seat
+/// carries.
 pub fn emit(words: &BenchWords, seat: &mut BenchSeat, slot: u32) -> Option<Finding>
     requires owner { IsSeatOf words.now seat.old × (seat.old.id ≡ 0) }
     requires slot { (slot < words.now.table_id.slots) × ((next : AcceptedPlan) × IsNext seat.old.me.0 slot next) }
@@ -133,7 +134,7 @@ pub fn emit(words: &BenchWords, seat: &mut BenchSeat, slot: u32) -> Option<Findi
     Some(finding)
 }
 
-/// Closes the planner that the type says, which is the one handed in.
+/// Closes the planner that the type names, which is the one handed in.
 fn close_as<W: Which>(words: &BenchWords, seat: &mut BenchSeat, _planner: u32)
     requires { IsSeatOf words.now seat.old × (seat.old.id ≡ 0) }
     ensures { (seat.new.table_id ≡ seat.old.table_id) × (seat.new.id ≡ seat.old.id) × (seat.new.me ≡ (with_close seat.old.me.0 W.planner, seat.old.me.1)) }
@@ -149,7 +150,7 @@ pub fn close(words: &BenchWords, seat: &mut BenchSeat, planner: u32)
     close_as::<Brand>(words, seat, planner);
 }
 
-/// Whether the job of a slot was seen to wait. If not, the seat has one miss more.
+/// Whether the job of a slot was seen to wait. If not, the seat has one more miss.
 pub fn sees_waiting(words: &BenchWords, seat: &mut BenchSeat, slot: u32) -> bool
     requires { IsSeatOf words.now seat.old × (slot < words.now.table_id.slots) }
     ensures seat { (seat.new.table_id ≡ seat.old.table_id) × (seat.new.id ≡ seat.old.id) }
@@ -168,7 +169,7 @@ pub fn split(words: &BenchWords, seat: &mut BenchSeat) -> BenchSeat
     words.split_seat::<SplitOff>(seat)
 }
 
-/// A worker's seat that holds no slot ends, and the owner knows what it finished.
+/// Ends a worker's seat that holds no slot. From then on the owner knows what it finished.
 pub fn join(words: &BenchWords, seat: &mut BenchSeat, other: BenchSeat)
     requires owner { IsSeatOf words.now seat.old × (seat.old.id ≡ 0) }
     requires worker { IsSeatOf words.now other × (other.me.0.role ≡ Worker) × (other.me.0.held ≡ []) × (other.me.1 ≡ []) }
@@ -178,7 +179,7 @@ pub fn join(words: &BenchWords, seat: &mut BenchSeat, other: BenchSeat)
     words.join_seat::<TakeIn>(seat, other);
 }
 
-/// The owner shuts the bench for good. If it is shut already, nothing changes.
+/// The owner shuts the bench, which stays shut. If it is shut already, nothing changes.
 pub fn shut(words: &BenchWords, seat: &mut BenchSeat)
     requires { IsSeatOf words.now seat.old × (seat.old.id ≡ 0) }
     ensures seat { (seat.new.table_id ≡ seat.old.table_id) × (seat.new.id ≡ seat.old.id) }
@@ -187,7 +188,7 @@ pub fn shut(words: &BenchWords, seat: &mut BenchSeat)
     words.store::<Shut>(seat, 0, IS_SHUT);
 }
 
-/// Whether the bench is shut, which the seat then notes. Once noted, it is always answered.
+/// Whether the bench is shut. If so, the seat notes it, and the answer is `true` from then on.
 pub fn sees_shut(words: &BenchWords, seat: &mut BenchSeat) -> bool
     requires { IsSeatOf words.now seat.old }
     ensures seat { (seat.new.table_id ≡ seat.old.table_id) × (seat.new.id ≡ seat.old.id) }

@@ -1,4 +1,4 @@
-//! What a seat knows. Values of these types are for contracts alone, but for [`Setting`].
+//! What a seat knows. All these types but [`Setting`] are only for contracts.
 use intake_rules::Job;
 use plan_cost::CostedTask;
 use std::collections::LinkedList;
@@ -37,7 +37,7 @@ pub struct Held {
 pub struct View {
     /// Whose seat it is.
     pub role: Role,
-    /// What the bench was made for. None once the seat is spent.
+    /// What the bench was made for. `None` once the seat is spent.
     pub setting: Option<Setting>,
     /// The owner's: the jobs that were accepted, in order.
     pub jobs: LinkedList<Job>,
@@ -45,7 +45,7 @@ pub struct View {
     pub closed: LinkedList<bool>,
     /// The owner's: how many findings were emitted for each planner.
     pub emitted: LinkedList<u32>,
-    /// The owner's: how many seats were split off and not joined again.
+    /// The owner's: how many seats were split off and not joined again yet.
     pub seats_out: u32,
     /// The owner's: whether it has the first unused slot in its hands, to put a job into it.
     pub lifted: bool,

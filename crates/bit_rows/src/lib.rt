@@ -7,7 +7,7 @@
 //! row.has(70) && !row.has(1000)       // a bit that was never set is clear
 //! ```
 //!
-//! [`Row`] takes memory where room is asked for. The functions over slices take none; [`least_bit`] finds the first set bit of a word
+//! A [`Row`] takes memory only when room is asked for. The functions over slices take none; [`least_bit`] finds the first set bit of a word
 //! in one instruction.
 #![tactic(auto)]
 

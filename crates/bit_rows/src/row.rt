@@ -1,7 +1,6 @@
 //! A row of bits that grows.
 //!
-//! A bit that was never set is clear, also one for which there is no room. Room is made ahead, and setting and clearing change the row in
-//! place.
+//! A bit that was never set is clear, even if there is no room for it. Room is made ahead; setting and clearing take no memory.
 ghost use Rattle.std.specs.Prelude.{◌≡◌, ◌≢◌, ◌+◌, ◌*◌, ◌<◌, ◌≤◌, ℕ, length, ltb, nat_eq, true, false, OnOk, IfOk};
 ghost use Rattle.std.specs.Int.{bit_at};
 ghost use Rattle.bit_rows.specs.Rows.{row_has};
@@ -46,7 +45,7 @@ impl Row {
         Ok(Row { words })
     }
 
-    /// Makes room for so many bits. Takes memory where there is none, and changes no bit.
+    /// Makes room for `count` bits. Takes memory if the row has to grow, and changes no bit.
     pub fn reserve(&mut self, count: usize) -> Result<(), AllocError>
         ensures room { OnOk result (count ≤ 64 * length self.new) }
         ensures longer { length self.old ≤ length self.new }
@@ -99,7 +98,7 @@ impl Row {
     }
 }
 
-/// The word with an index in a row of which the first `count` bits are set and no others.
+/// The word with this index in a row in which the first `count` bits are set and no others.
 fn first_in(place: usize, count: usize) -> u64
     ensures { (bit : ℕ) → bit < 64 → nat_eq (bit_at result bit) 1 ≡ ltb (place * 64 + bit) count }
 {

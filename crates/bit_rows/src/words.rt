@@ -1,4 +1,4 @@
-//! Bits of words of 64 that stand side by side in a slice.
+//! The bits of a slice of 64-bit words.
 ghost use Rattle.std.specs.Prelude.{◌≡◌, ◌≢◌, ◌<◌, ◌≤◌, ◌*◌, ◌/◌, ◌^◌, ℕ, length, slice_index, true, false, nat_eq, IfOk};
 ghost use Rattle.std.specs.Int.{bit_at};
 ghost use Rattle.bit_rows.specs.Rows.{row_has, ChangesBit};
@@ -37,7 +37,7 @@ pub fn set_bit(words: &mut [u64], bit: usize)
     words[bit / WORD_BITS] = word_with(word, bit % WORD_BITS);
 }
 
-/// Clears a bit. Whether its word is 0 then.
+/// Clears a bit. Returns whether its word is 0 then.
 pub fn clear_bit(words: &mut [u64], bit: usize) -> bool
     requires { bit / 64 < length words.old }
     ensures changed { ChangesBit words.old words.new bit false }
@@ -49,7 +49,7 @@ pub fn clear_bit(words: &mut [u64], bit: usize) -> bool
     word == 0
 }
 
-/// The least bit that is set in the word with an index, by its number in the row.
+/// The least bit that is set in the word with this index, by its number in the row.
 pub fn least_bit(words: &[u64], place: usize) -> usize
     requires used { 0 < slice_index words.now place }
     requires few { place < 2 ^ 32 }

@@ -16,13 +16,13 @@ arguments [] = []
 arguments (program ∷ []) = []
 arguments (program ∷ command ∷ words) = words
 
--- the word is short options that begin with `-h` or `-V`
+-- the word is a group of short options that begins with `-h` or `-V`
 abbrev pub is_short_help : List ℕ → Bool
 is_short_help [] = false
 is_short_help (dash ∷ []) = false
 is_short_help (dash ∷ letter ∷ letters) = nat_eq dash 45 && (nat_eq letter 104 || nat_eq letter 86)
 
--- the word asks for help or for the version: `help`, `--help`, `--version`, or short options that begin with `-h` or `-V`
+-- the word asks for help or for the version: `help`, `--help`, `--version`, or a group of short options that begins with `-h` or `-V`
 abbrev pub is_help : List ℕ → Bool
 is_help word = bytes_eq word (codes "help") || (bytes_eq word (codes "--help") || (bytes_eq word (codes "--version") || is_short_help word))
 

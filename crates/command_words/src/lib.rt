@@ -9,8 +9,8 @@
 //! operands(alloc, arguments)?            // ["plans.txt"]
 //! ```
 //!
-//! An option and its value are two words, as `--domain FILE`, or one, as `--domain=FILE`. After the word `--` there are no options. Which
-//! command lines there are is not decided here: `judge_engine` asks `clap`, which also writes help and errors.
+//! An option and its value are two words, as `--domain FILE`, or one, as `--domain=FILE`. After the word `--` there are no options. This
+//! crate does not decide which command lines are accepted: `judge_engine` asks `clap`, which also writes help and errors.
 #![tactic(auto)]
 
 ghost use Rattle.std.specs.Prelude.{◌≡◌, ℕ, false, true, map, option_map, ◌++◌, IfOk, OnOk, length};

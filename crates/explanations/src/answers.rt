@@ -45,7 +45,7 @@ pub fn explain(
     })
 }
 
-/// Adds the whole explanation. Whether all plans are valid.
+/// Adds the whole explanation, and answers whether all plans are valid.
 fn push_answer<'a>(
     page: &mut Page,
     seed: Seed,
@@ -159,7 +159,7 @@ fn push_refused<'a>(
     }
 }
 
-/// Adds why a text is refused, beside the names of a domain and a problem.
+/// Adds why a text is refused. The names for its hints come from a domain and a problem.
 fn push_text<'a>(
     page: &mut Page,
     refusal: Refusal<'a>,
@@ -179,7 +179,7 @@ struct Tally {
     all_valid: bool,
 }
 
-/// Adds what is found about the plans of all files. Whether all of them are valid.
+/// Adds what is found about the plans of all files, and answers whether all of them are valid.
 fn push_plans<'a>(
     page: &mut Page,
     task: &CostedTask,
@@ -195,7 +195,7 @@ fn push_plans<'a>(
     push_judged(page, task, &mut library, options.trace, plans)
 }
 
-/// Judges the plans of all files, and adds what is found. Whether all of them are valid.
+/// Judges the plans of all files, adds what is found, and answers whether all of them are valid.
 fn push_judged<'a>(
     page: &mut Page,
     task: &CostedTask,
@@ -224,7 +224,7 @@ fn push_start(
     Ok(())
 }
 
-/// Adds what is found about the plans of all files, and how many there are. Whether all of them are valid.
+/// Adds what is found about the plans of all files, and how many there are. Answers whether all of them are valid.
 fn push_files<'a>(
     page: &mut Page,
     judge: &mut TextJudge<'_>,
@@ -286,7 +286,7 @@ fn push_file<'a>(
 }
 
 impl Tally {
-    /// The tally with one plan more.
+    /// The tally with one more plan.
     fn with(self, is_valid: bool) -> Tally
         ensures { result.all_valid ≡ (self.all_valid && is_valid) }
     {
@@ -298,7 +298,7 @@ impl Tally {
     }
 }
 
-/// Adds what is found about a plan, which has this text. Whether it is valid.
+/// Adds what is found about a plan with this text, and answers whether it is valid.
 fn push_plan<'a>(
     page: &mut Page,
     judge: &mut TextJudge<'_>,
@@ -330,7 +330,7 @@ fn is_valid(verdict: &Verdict) -> bool
     }
 }
 
-/// Adds what each step of a plan changes that can be taken.
+/// Adds what each step of a plan changes, for the steps that can be taken.
 fn push_steps(
     page: &mut Page,
     task: &CostedTask,

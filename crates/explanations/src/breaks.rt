@@ -1,11 +1,9 @@
-//! Where a text stops being a plan: the first word, parenthesis or byte that may not be at its place.
+//! Where a text stops being a plan: the first word, parenthesis or byte that is not allowed.
 
 use crate::places::Range;
 use pddl_tokens::{Cursor, Token, TokenKind};
 use pddl_words::{WordKind, billionths, word_kind};
-
-/// How many steps a plan may have.
-const MOST_STEPS: usize = 1_000_000;
+use strips_task::MOST_STEPS;
 
 /// What may come next in a plan.
 #[derive(Clone, Copy, Debug, PartialEq, Eq)]
@@ -25,13 +23,13 @@ pub(crate) enum Want {
 /// Why a text stops being a plan.
 #[derive(Clone, Copy, Debug, PartialEq, Eq)]
 pub(crate) enum Cause {
-    /// A word or a parenthesis may not be there.
+    /// A word or a parenthesis that is not allowed here.
     Token,
-    /// A byte may be in comments only.
+    /// A byte that is allowed in comments only.
     Byte,
     /// The text ends too early.
     End,
-    /// A step more than a plan may have.
+    /// One step more than a plan may have.
     TooMany,
 }
 
@@ -76,7 +74,7 @@ pub(crate) fn break_of(text: &[u8]) -> Option<Break> {
 }
 
 impl Reading {
-    /// The reading behind a token, if the token may be there.
+    /// The reading after a token, if the token is allowed.
     fn after(self, token: Token<'_>) -> Option<Reading> {
         match token.kind {
             TokenKind::Left => self.after_left(),
@@ -89,7 +87,7 @@ impl Reading {
         Reading { want, ..self }
     }
 
-    /// Whether all steps were read that a plan may have.
+    /// Whether as many steps were read as a plan may have.
     fn is_full(self) -> bool {
         self.steps >= MOST_STEPS && matches!(self.want, Want::Step | Want::Number)
     }

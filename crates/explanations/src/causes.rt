@@ -1,4 +1,4 @@
-//! Who made a condition fail: the step that changed it last.
+//! What made a condition fail: the step that changed it last.
 
 ghost use Rattle.std.specs.Prelude.{◌≡◌};
 
@@ -14,7 +14,7 @@ use text_judge::TextJudge;
 /// How many conditions are shown.
 const MOST_SHOWN: usize = 50;
 
-/// Adds a line for each condition that does not hold behind the steps of a plan that could be taken.
+/// Adds a line for each condition that does not hold after the steps of a plan that could be taken.
 pub(crate) fn push_causes(
     page: &mut Page,
     judge: &mut TextJudge<'_>,
@@ -52,7 +52,7 @@ fn changes_for(
     judge.last_changes(alloc, text, atoms.as_slice())
 }
 
-/// The atoms of the conditions that are shown; an equality has an atom that no task has, so that each condition has one.
+/// The atoms of the conditions that are shown. An equality gets an atom that no task has, so that each condition has one.
 fn atoms_of(alloc: Global, missing: &[GroundCond]) -> Result<Vec<Atom>, AllocError> {
     let mut atoms = Vec::new(alloc);
     for cond in missing.iter().take(MOST_SHOWN) {
@@ -75,7 +75,7 @@ fn atom_of(alloc: Global, formula: &GroundFormula) -> Result<Atom, AllocError> {
     }
 }
 
-/// Adds the lines of the conditions, of each of which the last change is given.
+/// Adds the lines of the conditions, each with its last change.
 fn push_lines(
     page: &mut Page,
     task: &CostedTask,

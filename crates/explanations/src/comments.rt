@@ -8,7 +8,7 @@ use pddl_words::billionths;
 use plan_cost::Cost;
 use std::alloc::AllocError;
 
-/// How many bytes of a comment are looked at.
+/// How many bytes of a comment are read.
 const LONGEST: usize = 100;
 
 /// The cost of a plan as a comment has it.
@@ -54,7 +54,7 @@ pub(crate) fn push_cost_remark(
     page.say("\n")
 }
 
-/// Whether what a comment says is so, or cannot be told.
+/// Whether what a comment says is true, or can't be checked.
 fn is_right(claim: Claim, steps: usize, cost: Cost) -> bool {
     let is_count = claim.is_unit && u128::from(claim.billionths) == unit_cost(steps);
     match cost {
@@ -64,7 +64,7 @@ fn is_right(claim: Claim, steps: usize, cost: Cost) -> bool {
     }
 }
 
-/// The cost of steps of which each costs 1, in billionths.
+/// The cost of steps that cost 1 each, in billionths.
 fn unit_cost(steps: usize) -> u128 {
     (steps as u128).saturating_mul(1_000_000_000)
 }
@@ -124,7 +124,7 @@ fn claim_of(text: &[u8], offset: usize) -> Option<Claim> {
     })
 }
 
-/// What is behind a word at the start, in upper or lower case.
+/// What follows a word at the start of some bytes. Upper and lower case are the same.
 fn behind<'a>(bytes: &'a [u8], word: &[u8]) -> Option<&'a [u8]> {
     let front = bytes_at(
         bytes,
@@ -145,7 +145,7 @@ fn behind<'a>(bytes: &'a [u8], word: &[u8]) -> Option<&'a [u8]> {
     ))
 }
 
-/// The bytes from the first that is no blank on.
+/// The bytes without the blanks and the `;` at their start.
 fn without_blanks(bytes: &[u8]) -> &[u8] {
     let blanks = bytes
         .iter()

@@ -1,10 +1,10 @@
-//! What the steps of a plan do, for those who show it.
+//! What the steps of a plan do, for showing it.
 
 use indexmap::IndexMap;
 use std::alloc::{AllocError, Global};
 use strips_task::{Action, Atom, InitialAtoms, Pattern, Seed, ShortSeq, StepView, Task, Term};
 
-/// The atoms that are true, as the initial ones and those that were changed.
+/// The atoms that are true: the initial ones, and what was changed since.
 #[derive(Drop)]
 pub(crate) struct World<'t> {
     initial: &'t InitialAtoms,
@@ -43,7 +43,7 @@ pub(crate) fn action_of<'t>(task: &'t Task, step: StepView<'_>) -> Option<&'t Ac
     }
 }
 
-/// The numbers of the objects of a step; of a name that no object has the number is one that none has.
+/// The numbers of the objects of a step. A name that no object has gets a number that no object has.
 pub(crate) fn objects_of(
     alloc: Global,
     task: &Task,
@@ -56,7 +56,7 @@ pub(crate) fn objects_of(
     Ok(objects)
 }
 
-/// The atom that a pattern stands for at objects.
+/// The atom that a pattern stands for if the parameters are these objects.
 pub(crate) fn ground(
     alloc: Global,
     pattern: &Pattern,

@@ -1,10 +1,10 @@
-//! What could be at a place where a domain or a problem has something else.
+//! What a domain or a problem could have where it has something else.
 
 use crate::page::Page;
 use crate::scene::Scene;
 use std::alloc::AllocError;
 
-/// Adds what may be at the place of the fault.
+/// Adds what may appear where the fault is.
 pub(crate) fn push_expected_hints(page: &mut Page, scene: &Scene<'_>) -> Result<(), AllocError> {
     if scene.is_swapped() {
         return page.help_line("are the files of --domain and --problem swapped?");

@@ -8,7 +8,7 @@ use crate::scene::Scene;
 use pddl_reader::FaultKind;
 use std::alloc::AllocError;
 
-/// Adds why a text is refused: the place, what is wrong there, the line, and hints.
+/// Adds why a text is refused: the position, what is wrong there, the line, and hints.
 pub(crate) fn push_refusal(page: &mut Page, scene: &mut Scene<'_>) -> Result<(), AllocError> {
     let bytes = scene.bytes();
     let place = place_of(bytes, shown_range(scene));
@@ -202,7 +202,7 @@ fn push_too_many(page: &mut Page, scene: &Scene<'_>) -> Result<(), AllocError> {
     page.say(" too many")
 }
 
-/// Of what there is too much at the fault, and how much may be.
+/// What there is too much of at the fault, and how many are allowed.
 pub(crate) fn excess(scene: &Scene<'_>) -> (&'static str, usize) {
     let section = scene.section();
     if scene.wanted_sort() == Sort::Variable {

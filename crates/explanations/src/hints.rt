@@ -10,7 +10,7 @@ use crate::scene::Scene;
 use pddl_reader::FaultKind;
 use std::alloc::AllocError;
 
-/// Adds the hints for a refused text, each in a line.
+/// Adds the hints for a refused text, each on a line of its own.
 pub(crate) fn push_hints(page: &mut Page, scene: &mut Scene<'_>) -> Result<(), AllocError> {
     match scene.kind() {
         FaultKind::BadText => push_bad_text(page, scene),
@@ -248,7 +248,7 @@ fn push_first(page: &mut Page, bytes: &[u8], at: usize) -> Result<(), AllocError
     page.say("; remove one of the two\n")
 }
 
-/// Where a keyword or a variable that is not to be repeated is first.
+/// The offset of the first use of a keyword or a variable that may not be repeated.
 fn first_place(scene: &Scene<'_>, word: &[u8]) -> Option<usize> {
     let start = match word.first() {
         Some(b'?') => action_start(scene),

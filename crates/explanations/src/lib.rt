@@ -9,13 +9,13 @@
 //! ```
 //!
 //! The text is for people who write planners and domains. Each piece names a file, a line and a column, shows that line with carets below the
-//! faulty bytes, and says what to do next; for a condition that does not hold it names the step that changed it last. What is valid is for the
-//! judge of texts (`text_judge`) to say, and [`explain`] promises no more of the text than that it answers as that judge does.
+//! faulty bytes, and says what to do next; for a condition that does not hold it names the step that changed it last. Which plans are valid is
+//! decided by the judge of texts (`text_judge`). [`explain`] promises only that it agrees with that judge, and nothing more about the text.
 //!
 //! A run is read in `answers`. A refused text goes to `faults`, which says what is wrong, and to `hints` and `expected`, which say what to do: they
-//! look at what is around the fault (`scene`), and at the names that the texts declare (`library`). A plan goes to `plans`: `causes` names the
-//! steps behind a failure, `unreadable` says where a text stops being a plan, `comments` compares a planner's cost, and `trace` shows each step.
-//! All write on a `Page`, by which no byte of a file reaches a terminal as it is, unless it is printable.
+//! read what is around the fault (`scene`), and the names that the texts declare (`library`). A plan goes to `plans`: `causes` names the
+//! steps that caused a failure, `unreadable` says where a text stops being a plan, `comments` compares a planner's cost, and `trace` shows each step.
+//! All write on a `Page`, which passes a byte of a file on to a terminal as it is only if it is printable.
 #![tactic(auto)]
 
 mod answers;

@@ -1,4 +1,4 @@
-//! The names of the domain and the problem, where those who explain look them up.
+//! The names of the domain and the problem, for explanations to look up.
 
 use crate::SourceText;
 use crate::names::{Budget, Nearest};
@@ -23,7 +23,7 @@ impl<'a> Known<'a> {
     }
 }
 
-/// The domain and the problem with their names. Where the domain is refused, the problem is empty.
+/// The domain and the problem with their names. If the domain is refused, the problem is empty.
 #[derive(Debug, Drop)]
 pub(crate) struct Library<'a> {
     domain: Known<'a>,
@@ -66,7 +66,7 @@ fn find_in<'a>(known: &Known<'a>, in_problem: bool, sort: Sort, word: &[u8]) -> 
     None
 }
 
-/// Looks at all names of a sort in a file for one that is near. Of variables, at those of one owner.
+/// Searches the names of a sort in a file for one that is near. With an owner, only its variables are searched.
 fn look_in<'a>(
     alloc: Global,
     known: &Known<'a>,
@@ -83,7 +83,7 @@ fn look_in<'a>(
     Ok(())
 }
 
-/// Whether an owner is the one that is asked for, if one is.
+/// Whether this is the owner that is asked for. If none is asked for, any is right.
 fn is_owner(owner: Option<usize>, number: usize) -> bool {
     match owner {
         Some(owner) => owner == number,
@@ -118,7 +118,7 @@ impl<'a> Library<'a> {
         }
     }
 
-    /// The first declaration of a name, that of the domain before that of the problem. Nothing once too much was looked up.
+    /// The first declaration of a name, that of the domain before that of the problem. Nothing once the budget is used up.
     pub(crate) fn find(&mut self, sort: Sort, word: &[u8]) -> Option<Found<'a>> {
         let work = self
             .domain_names()

@@ -3,11 +3,11 @@
 use std::alloc::{AllocError, Global};
 use strsim::osa_distance;
 
-/// Names of more bytes are not compared.
+/// Names of more than this many bytes are not compared.
 const LONGEST: usize = 64;
 
-/// How much work may be done for all hints of an explanation, so that many unknown names among many known ones take no time without bound. A
-/// name that is looked at costs 1, and one that is compared costs [`COMPARING`] more.
+/// How much work may be done for all hints of an explanation, so that many unknown names among many known ones take bounded time. Each name
+/// that is considered costs 1, and each one that is compared costs [`COMPARING`] more.
 const MOST_WORK: usize = 20_000_000;
 
 /// What it costs to compare two names.
@@ -32,7 +32,7 @@ impl Budget {
         Budget { left: MOST_WORK }
     }
 
-    /// Takes work, if so much is left.
+    /// Takes `work`, if that much is left.
     pub(crate) fn take(&mut self, work: usize) -> bool {
         if self.left < work {
             return false;
@@ -43,7 +43,7 @@ impl Budget {
 }
 
 impl<'a> Nearest<'a> {
-    /// Nothing is found yet for a name.
+    /// A search for a name, which has found nothing yet.
     pub(crate) fn to(wanted: &'a [u8]) -> Self {
         Nearest {
             wanted,
@@ -59,7 +59,7 @@ impl<'a> Nearest<'a> {
         }
     }
 
-    /// Looks at a name that is known.
+    /// Considers a known name.
     pub(crate) fn look_at(
         &mut self,
         alloc: Global,
@@ -76,7 +76,7 @@ impl<'a> Nearest<'a> {
         Ok(())
     }
 
-    /// The distance from which on a name is not taken.
+    /// A name at this distance or more is not taken.
     fn limit(&self) -> usize {
         match self.found {
             Some((_, distance)) => distance,
@@ -93,14 +93,14 @@ impl<'a> Nearest<'a> {
     }
 }
 
-/// How many edits lead from one name to another, in lower case: bytes more, less or other, and neighbors swapped.
+/// How many edits turn one name into another, in lower case: bytes inserted, removed or replaced, and neighbors swapped.
 fn distance(alloc: Global, name: &[u8], other: &[u8]) -> Result<usize, AllocError> {
     let name = folded(alloc, name)?;
     let other = folded(alloc, other)?;
     osa_distance(alloc, name.as_str(), other.as_str())
 }
 
-/// A name in lower case, without what is no ASCII.
+/// A name in lower case, without bytes that are not ASCII.
 fn folded(alloc: Global, name: &[u8]) -> Result<String, AllocError> {
     let mut text = String::new(alloc);
     for byte in name {

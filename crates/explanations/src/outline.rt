@@ -1,4 +1,4 @@
-//! The names that a domain or a problem declares, gathered from its words with no regard to whether the text is right.
+//! The names that a domain or a problem declares, gathered from its words, whether the text is right or not.
 
 use crate::places::Range;
 use crate::tokens::range_of;
@@ -23,7 +23,7 @@ pub(crate) struct Declared {
     pub(crate) name: Range,
     /// For a variable, the number of the name of its predicate, function or action.
     pub(crate) owner: usize,
-    /// The type behind the dash, with its parentheses if it is a list; empty if there is none.
+    /// The type after the dash, with its parentheses if it is a list; empty if there is none.
     pub(crate) types: Range,
 }
 
@@ -83,7 +83,7 @@ impl Outline {
     }
 }
 
-/// Where a walk over the tokens is.
+/// How far a walk over the tokens has come.
 #[derive(Debug, Drop)]
 struct Walk {
     names: Vec<Declared>,
@@ -98,11 +98,11 @@ struct Walk {
     owner: usize,
     /// The number of the first name whose type was not read yet.
     group: usize,
-    /// The offset of the type behind a dash, once the dash was read.
+    /// The dash before a type, once it was read.
     types: Option<Dash>,
 }
 
-/// A dash that was read, and what of its type was.
+/// A dash that was read, and what was read of its type.
 #[derive(Clone, Copy, Debug)]
 struct Dash {
     /// Where a list of types begins, if one does.
@@ -167,7 +167,7 @@ impl Walk {
         }
     }
 
-    /// Names from here on are of another group.
+    /// Names from here on belong to another group.
     fn end_group(&mut self) {
         self.group = self.names.len();
         self.types = None;
@@ -198,7 +198,7 @@ impl Walk {
         self.name(token, first)
     }
 
-    /// A word behind a dash.
+    /// A word after a dash.
     fn type_word(&mut self, token: Token<'_>, dash: Dash) -> Result<(), AllocError> {
         if dash.start.is_some() {
             return Ok(());
@@ -256,7 +256,7 @@ impl Walk {
     }
 }
 
-/// Gives the names from a number on their type.
+/// Gives this type to the names from the number `first` on.
 fn give(names: &mut Vec<Declared>, first: usize, types: Range) {
     for declared in names.iter_mut().skip(first) {
         declared.types = types;

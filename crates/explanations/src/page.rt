@@ -1,7 +1,7 @@
 //! The page that an explanation is written on.
 //!
-//! Bytes of files and names of files go to the page by [`Page::shown`], [`Page::quoted`] and [`Page::file_name`] alone, so no file can bring an escape
-//! byte to a terminal.
+//! Bytes of files go to the page only by [`Page::shown`], [`Page::quoted`], [`Page::word`] and [`Page::folded`], and names of files by
+//! [`Page::file_name`], so no file can bring an escape byte to a terminal.
 
 use crate::places::{Range, bytes_at};
 use plan_cost::Cost;
@@ -20,7 +20,7 @@ const HEX_DIGITS: &[u8; 16] = b"0123456789abcdef";
 pub(crate) enum Style {
     /// As the rest.
     Plain,
-    /// A place, in bold.
+    /// A position, in bold.
     Place,
     /// Carets, in red.
     Carets,
@@ -186,10 +186,12 @@ impl Page {
         Ok(())
     }
 
-    /// Adds the name of a file as it was given; only control bytes are shown as `\xNN`.
+    /// Adds the name of a file as it was given; only control characters are shown as `\xNN`. If one of them is not ASCII, so are all bytes that
+    /// are not.
     pub(crate) fn file_name(&mut self, name: &[u8]) -> Result<(), AllocError> {
+        let is_shown = !has_wide_control(name);
         for byte in name {
-            if *byte >= 128 {
+            if *byte >= 128 && is_shown {
                 self.text.push(&[*byte])?;
             } else {
                 self.shown_byte(*byte)?;
@@ -205,6 +207,12 @@ impl Page {
         }
         Ok(())
     }
+}
+
+/// Whether a name has one of the control characters U+0080 to U+009F. In UTF-8 each of them is the byte C2 and a byte from 80 to 9F.
+fn has_wide_control(name: &[u8]) -> bool {
+    let next = name.iter().skip(1);
+    name.iter().zip(next).any(|(lead, byte)| *lead == 0xc2 && matches!(byte, 0x80..=0x9f))
 }
 
 /// Whether a byte is shown as it is.

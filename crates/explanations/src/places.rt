@@ -1,4 +1,4 @@
-//! Places in files: lines and columns, and the line that is shown with carets below it.
+//! Positions in files: lines and columns, and the line that is shown with carets below it.
 
 use crate::SourceText;
 use crate::page::{Page, Style, width};
@@ -8,7 +8,7 @@ use std::alloc::AllocError;
 /// A line with at most this many bytes is shown whole.
 const WINDOW: usize = 100;
 
-/// How many bytes of a longer line are shown before the place.
+/// How many bytes of a longer line are shown before the position.
 const BEFORE: usize = 40;
 
 /// A range of bytes of a file.
@@ -31,7 +31,7 @@ const FIRST_LINE: Line = Line {
     start: 0,
 };
 
-/// A place in a file: a range and the line in which it begins.
+/// A position in a file: a range and the line in which it begins.
 #[derive(Clone, Copy, Debug, PartialEq, Eq)]
 pub(crate) struct Place {
     pub(crate) range: Range,
@@ -39,7 +39,7 @@ pub(crate) struct Place {
 }
 
 impl Place {
-    /// The place of a range that begins at this place or later.
+    /// The position of a range that begins here or later.
     pub(crate) fn later(self, bytes: &[u8], range: Range) -> Place {
         let mut lines = LineCount {
             line: self.line,
@@ -49,7 +49,7 @@ impl Place {
     }
 }
 
-/// The bytes of a range, as far as they are there.
+/// The bytes of a range. What is past the end is left out.
 pub(crate) fn bytes_at(bytes: &[u8], range: Range) -> &[u8] {
     let end = range.end.min(bytes.len());
     let start = range.start.min(end);
@@ -61,7 +61,7 @@ pub(crate) fn line_at(bytes: &[u8], at: usize) -> Line {
     LineCount::new().line_of(bytes, at)
 }
 
-/// The place of a range, whose line is counted from the start of the file.
+/// The position of a range, with its line counted from the start of the file.
 pub(crate) fn place_of(bytes: &[u8], range: Range) -> Place {
     Place {
         range,
@@ -101,7 +101,7 @@ impl LineCount {
         self.line
     }
 
-    /// The place of a range, which is not before that of the last call.
+    /// The position of a range, which is not before that of the last call.
     pub(crate) fn place_of(&mut self, bytes: &[u8], range: Range) -> Place {
         Place {
             range,
@@ -110,7 +110,7 @@ impl LineCount {
     }
 }
 
-/// The line behind the LF at an offset.
+/// The line after the LF at an offset.
 fn next_line(line: Line, end: usize) -> Line {
     Line {
         number: line.number.saturating_add(1),
@@ -118,7 +118,7 @@ fn next_line(line: Line, end: usize) -> Line {
     }
 }
 
-/// The column of a place, from 1.
+/// The column of a position, from 1.
 fn column(place: Place) -> usize {
     place
         .range
@@ -151,7 +151,7 @@ pub(crate) fn push_line(
     page.number(line_at(file.bytes, at).number)
 }
 
-/// Adds the line of a place, and a line with carets below the bytes of the place that are in it.
+/// Adds the line of a position, and a line with carets below the bytes of its range that are in the line.
 pub(crate) fn push_excerpt(page: &mut Page, bytes: &[u8], place: Place) -> Result<(), AllocError> {
     let line = line_range(bytes, place);
     let faulty = within(place.range, line);
@@ -184,7 +184,7 @@ fn push_carets(page: &mut Page, indent: usize, carets: usize) -> Result<(), Allo
     page.say("\n")
 }
 
-/// The bytes of a place's line, without blanks at its start.
+/// The bytes of a position's line, without blanks at its start.
 pub(crate) fn line_text(bytes: &[u8], place: Place) -> &[u8] {
     bytes_at(bytes, line_range(bytes, place))
 }
@@ -198,7 +198,7 @@ fn within(range: Range, other: Range) -> Range {
     }
 }
 
-/// The bytes of a place's line, without blanks before the place at its start, and without the end of the line.
+/// The range of a position's line, without blanks before the position at its start, and without the end of the line.
 fn line_range(bytes: &[u8], place: Place) -> Range {
     let rest = bytes_at(
         bytes,
@@ -239,7 +239,7 @@ fn carriage_return(bytes: &[u8]) -> usize {
     }
 }
 
-/// The part of a line that is shown for a place in it.
+/// The part of a line that is shown for an offset in it.
 fn window(line: Range, at: usize) -> Range {
     if line.end.saturating_sub(line.start) <= WINDOW {
         return line;

@@ -46,7 +46,7 @@ pub(crate) fn push_assessment<'a>(
     }
 }
 
-/// Adds that a plan misses the goal, and who made its conditions false.
+/// Adds that a plan misses the goal, and which steps made its conditions false.
 fn push_missed(
     page: &mut Page,
     judge: &mut TextJudge<'_>,
@@ -61,7 +61,7 @@ fn push_missed(
     push_causes(page, judge, plan.file, plan.part, &places, missing)
 }
 
-/// Adds which step of a plan fails, and who made its conditions false.
+/// Adds which step of a plan fails, and which steps made its conditions false.
 fn push_failed<'a>(
     page: &mut Page,
     judge: &mut TextJudge<'_>,
@@ -178,7 +178,7 @@ fn faulty_word(why: &Why) -> Option<usize> {
     }
 }
 
-/// The place of the word of a step that is wrong, or of the whole step.
+/// The position of the word of a step that is wrong, or of the whole step.
 fn faulty_place(file: &[u8], step: Place, why: &Why) -> Place {
     let Some(number) = faulty_word(why) else {
         return step;

@@ -8,7 +8,7 @@ use pddl_tokens::{Cursor, TokenKind};
 use std::alloc::AllocError;
 use strips_task::Task;
 
-/// Adds a remark if the problem names another domain than the one at hand.
+/// Adds a remark if the problem names a domain other than this one.
 pub(crate) fn push_other_domain(
     page: &mut Page,
     task: &Task,
@@ -40,7 +40,7 @@ enum Seen {
     Head,
 }
 
-/// The name behind `(:domain`.
+/// The name after `(:domain`.
 fn domain_named(text: &[u8]) -> Option<Range> {
     let Ok(mut cursor) = Cursor::new(text) else {
         return None;

@@ -144,7 +144,7 @@ impl<'a> Scene<'a> {
         depth
     }
 
-    /// Which sort of name may be at the fault.
+    /// Which sort of name is allowed at the fault.
     pub(crate) fn wanted_sort(&self) -> Sort {
         let before = self.pieces.word(self.number.saturating_sub(1));
         if before == b"-".as_slice() || self.head().eq_ignore_ascii_case(b"either") {
@@ -175,7 +175,7 @@ impl<'a> Scene<'a> {
         }
     }
 
-    /// Which sort of name may be at the head of the list around the fault.
+    /// Which sort of name is allowed at the head of the list around the fault.
     fn sort_of_head(&self) -> Sort {
         let outer = self.outer_head();
         let is_value = outer == b"=".as_slice() || outer.eq_ignore_ascii_case(b"increase");
@@ -186,7 +186,7 @@ impl<'a> Scene<'a> {
         }
     }
 
-    /// The place of the fault in its list, counted from 0 for the head.
+    /// The index of the fault in its list, which is 0 for the head.
     pub(crate) fn place_in_list(&self) -> usize {
         match self.list() {
             Some(open) => self.number.saturating_sub(open).saturating_sub(1),
@@ -194,7 +194,7 @@ impl<'a> Scene<'a> {
         }
     }
 
-    /// How many pieces are in the list around the fault behind its head, up to the first `)`.
+    /// How many pieces follow the head of the list around the fault, up to the first `)`.
     pub(crate) fn terms_in_list(&self) -> usize {
         let first = match self.list() {
             Some(open) => open.saturating_add(2),

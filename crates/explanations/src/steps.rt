@@ -34,7 +34,7 @@ impl<'a> Part<'a> {
     }
 }
 
-/// The places of a plan's steps, in their order.
+/// The positions of a plan's steps, in their order.
 #[derive(Debug, Drop)]
 pub(crate) struct StepPlaces {
     places: Vec<Place>,
@@ -69,7 +69,7 @@ impl StepPlaces {
         self.places.len()
     }
 
-    /// The place of a step, counted from 1.
+    /// The position of a step, counted from 1.
     pub(crate) fn get(&self, step: usize) -> Option<Place> {
         if step == 0 {
             return None;

@@ -1,4 +1,4 @@
-//! The words and parentheses of a text, up to its first bad byte, for those who look at what is around a place.
+//! The words and parentheses of a text, up to its first bad byte, for finding what is around a position.
 
 use crate::places::{Range, bytes_at};
 use pddl_tokens::{Cursor, Token, TokenKind};
@@ -73,7 +73,7 @@ impl<'a> Pieces<'a> {
         self.pieces.as_slice().get(number).copied()
     }
 
-    /// The bytes of a piece, if it is a word; else nothing.
+    /// The bytes of a piece if it is a word, or else nothing.
     pub(crate) fn word(&self, number: usize) -> &'a [u8] {
         match self.get(number) {
             Some(piece) if piece.is_word() => bytes_at(self.text, piece.range()),
@@ -86,7 +86,7 @@ impl<'a> Pieces<'a> {
         self.word(number).eq_ignore_ascii_case(word)
     }
 
-    /// The number of the piece that begins at an offset, or else of the first behind it.
+    /// The number of the piece that begins at an offset, or else of the first after it.
     pub(crate) fn number_at(&self, offset: usize) -> usize {
         let mut number: usize = 0;
         for piece in self.pieces.as_slice() {

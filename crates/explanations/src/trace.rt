@@ -89,7 +89,7 @@ impl<'t> Trace<'t> {
     }
 }
 
-/// The cost of a plan with one step more.
+/// The cost of a plan with one more step.
 fn cost_with(
     task: &CostedTask,
     cost: Cost,

@@ -133,8 +133,8 @@ emitted-lt jobs links planner number row line next =
     omega (arith, within, length-map (filter (is_of planner) jobs) (λ job. job.number), length-filter (is_of planner) jobs, count_by-le-length (is_of planner) jobs)
 
 -- the link of a row
-pub link-at : (table : List Place) (number : ℕ) (row : Place) → number < length table → row ≡ get_or table number row → row.behind ≡ get_or (links_in table) number None
-link-at table number row within is = ap (λ r. r.behind) is ∙ sym (get_or-map (λ r. r.behind) table number row None within)
+pub link-at : (table : List Place) (number : ℕ) (row : Place) → number < length table → row ≡ get_or table number row → row.following ≡ get_or (links_in table) number None
+link-at table number row within is = ap (λ r. r.following) is ∙ sym (get_or-map (λ r. r.following) table number row None within)
 
 -- the job of a row
 pub job-at : (table : List Place) (number : ℕ) (row : Place) → number < length table → row ≡ get_or table number row → slice_get (jobs_in table) number ≡ Some row.job

@@ -30,8 +30,8 @@ module _ (table : List Place) (j : ℕ) (row new : Place) (was : row ≡ get_or 
   pub stages-unwritten : new.stage ≡ row.stage → stages_in (set table j new) ≡ stages_in table
   stages-unwritten same = map-set_same (λ r. r.stage) table j new row (same ∙ ap (λ r. r.stage) was)
 
-  pub links-written : new.behind ≡ row.behind → links_in (set table j new) ≡ links_in table
-  links-written same = map-set_same (λ r. r.behind) table j new row (same ∙ ap (λ r. r.behind) was)
+  pub links-written : new.following ≡ row.following → links_in (set table j new) ≡ links_in table
+  links-written same = map-set_same (λ r. r.following) table j new row (same ∙ ap (λ r. r.following) was)
 
 -- the same lists under other names
 pub kept-as : (task : CostedTask) (places : ℕ) (jobs new_jobs : List AcceptedPlan) (stages new_stages : List Stage) (links new_links : List (Option ℕ)) (planners new_planners : List Planner) (waiting new_waiting : List Bool)
@@ -52,8 +52,8 @@ module _ (old new : List Place) (place : Place) (is : new ≡ old ++ place ∷ [
   pub stages-pushed : (stages : List Stage) → stages_in old ≡ stages → stages_in new ≡ stages ++ place.stage ∷ []
   stages-pushed stages same = ap stages_in is ∙ map-append (λ row. row.stage) old (place ∷ []) ∙ ap (λ ss. ss ++ place.stage ∷ []) same
 
-  pub links-pushed : (links : List (Option ℕ)) → links_in old ≡ links → links_in new ≡ links ++ place.behind ∷ []
-  links-pushed links same = ap links_in is ∙ map-append (λ row. row.behind) old (place ∷ []) ∙ ap (λ ls. ls ++ place.behind ∷ []) same
+  pub links-pushed : (links : List (Option ℕ)) → links_in old ≡ links → links_in new ≡ links ++ place.following ∷ []
+  links-pushed links same = ap links_in is ∙ map-append (λ row. row.following) old (place ∷ []) ∙ ap (λ ls. ls ++ place.following ∷ []) same
 
 -- the state after a change of the intake
 pub state-changes : (task : CostedTask) (places : ℕ) (old new : Intake) (now : DeskState) (change : Intake → Intake) → new ≡ change old

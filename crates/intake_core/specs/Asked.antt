@@ -1,4 +1,4 @@
--- What a step asks, with the content of its plan, whichever owner of the plan it holds.
+-- What a step asks, with the content of its plan, whichever owner of the plan the step has.
 
 use Rattle.std.specs.Prelude.{ℕ}
 use Rattle.std.specs.Arc.{arc_value}
@@ -6,8 +6,8 @@ use Rattle.strips_task.specs.declared.plans.Plan.{Plan}
 use Rattle.intake_core.specs.declared.replaying.Step.{Step}
 use Rattle.intake_core.specs.declared.replaying.Step.TheVariants as step
 
--- to submit a plan for a planner, to close a planner, to give out a job, to hand one back, to finish one with the finding of one, to emit
--- the next finding of a planner
+-- to submit a plan for a planner, to close a planner, to give out a job, to hand a job back, to finish the first job with the finding of the second,
+-- to emit the next finding of a planner
 pub data Asked : Type 0 where
   to_submit : ℕ → Plan → Asked
   to_close : ℕ → Asked

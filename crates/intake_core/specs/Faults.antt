@@ -1,4 +1,4 @@
--- What a replay that ended early hands over.
+-- What a replay that ended early returns.
 
 use Rattle.std.specs.Prelude.{List}
 use Rattle.intake_rules.specs.declared.reply.Reply.{Reply}

@@ -1,13 +1,11 @@
--- What a list of steps makes of a desk.
+-- What a list of steps does to a desk.
 
 use Rattle.std.specs.Prelude.{ℕ, List, [], ◌∷◌, map, take, slice_get, option_map}
 use Rattle.plan_cost.specs.declared.costs.CostedTask.{CostedTask}
-use Rattle.intake_rules.specs.declared.finding.Finding.{Finding}
 use Rattle.intake_rules.specs.declared.reply.Reply.{Reply}
 use Rattle.intake_rules.specs.Findings.{right_finding}
 use Rattle.intake_rules.specs.History.{History, IsLawful, TakesLeast}
 use Rattle.intake_rules.specs.Intake.{empty_intake}
-use Rattle.intake_rules.specs.Jobs.{AcceptedPlan}
 use Rattle.intake_rules.specs.Laws.{VerdictsInOrder, RefusalsChangeNothing, RefusedAfterClose, RefusedDoubled, RefusedStrange, WholeListOnceClosed, CompleteIsWhole}
 use Rattle.intake_rules.specs.Rules.{Event, submit, close, take_job, hand_back, finish, emit}
 use Rattle.intake_core.specs.Asked.{Asked, to_submit, to_close, to_take, to_hand_back, to_finish, to_emit}

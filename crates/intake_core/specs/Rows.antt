@@ -1,4 +1,4 @@
--- How a desk keeps what it knows: a row for each place that is used and one for each planner.
+-- How a desk keeps what it knows: a row for each slot in use and one for each planner.
 
 use Rattle.std.specs.Prelude.{◌≡◌, ◌≤◌, ◌-◌, ℕ, suc, Bool, true, false, List, Option, Some, None, map, length, slice_get, slice_index_or, set, option_map}
 use Rattle.plan_cost.specs.declared.costs.CostedTask.{CostedTask}
@@ -22,7 +22,7 @@ stages_in table = map (λ row. row.stage) table
 
 -- for each row the next job of its planner, if there is one
 abbrev pub links_in : List Place → List (Option ℕ)
-links_in table = map (λ row. row.behind) table
+links_in table = map (λ row. row.following) table
 
 -- what the rows say
 abbrev pub intake_in : List Place → List Planner → Intake
@@ -53,16 +53,16 @@ abbrev pub waits : Option Stage → Bool
 waits (Some stage) = is_waiting_stage stage
 waits None = false
 
--- whether the job with this number waits; one that there is not does not
+-- whether the job with this number waits; false if there is no such job
 abbrev pub waits_at : List Stage → ℕ → Bool
 waits_at stages j = waits (slice_get stages j)
 
--- a finding that rests at a place is of the job there, and right
+-- a finding in a slot is one of the job there, and right
 pub record IsAtRest (task : CostedTask) (job : AcceptedPlan) (finding : Finding) : Type 0 where
   pub same : finding.job ≡ job
   pub right : IsRight task finding
 
--- the jobs, stages and links of a desk of so many places, its planners and the set of the jobs that wait
+-- how the jobs, stages and links of a desk with `places` slots, its planners and the set of the jobs that wait fit together
 pub record IsKept (task : CostedTask) (places : ℕ) (jobs : List AcceptedPlan) (stages : List Stage) (links : List (Option ℕ)) (planners : List Planner) (waiting : List Bool) : Type 0 where
   pub few : places ≤ 65536
   pub room : length jobs ≤ places
@@ -74,7 +74,7 @@ pub record IsKept (task : CostedTask) (places : ℕ) (jobs : List AcceptedPlan) 
   pub at_rest : (j : ℕ) (job : AcceptedPlan) (finding : Finding) → slice_get jobs j ≡ Some job → slice_get stages j ≡ Some (Finished finding) → IsAtRest task job finding
   pub lines : (planner : ℕ) (row : Planner) → slice_get planners planner ≡ Some row → IsLine jobs links planner row
 
--- the rows of a desk of so many places
+-- the same for the rows of a desk with `places` slots
 abbrev pub IsKeptIn : CostedTask → ℕ → List Place → List Planner → List Bool → Type 0
 IsKeptIn task places table planners waiting = IsKept task places (jobs_in table) (stages_in table) (links_in table) planners waiting
 
@@ -88,7 +88,7 @@ abbrev pub or_else : Option ℕ → ℕ → Option ℕ
 or_else (Some next) number = Some next
 or_else None number = Some number
 
--- a planner's row once this job was accepted: it is the last, and the next where all before it were emitted
+-- a planner's row once this job was accepted: it is the last, and the next if all before it were emitted
 abbrev pub joined : Planner → ℕ → Planner
 joined row number = record row { next = or_else row.next number; last = Some number }
 
@@ -97,7 +97,7 @@ abbrev pub rests : Option Stage → Bool
 rests (Some (Finished finding)) = true
 rests _ = false
 
--- whether a finding rests at the place of this job
+-- whether the slot of this job has a finding
 abbrev pub rests_at : Intake → ℕ → Bool
 rests_at intake number = rests (slice_get intake.stages number)
 

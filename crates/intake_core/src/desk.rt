@@ -23,7 +23,7 @@ use std::sync::Arc;
 use strips_judge::Plan;
 use submitted_plan::SubmittedPlan;
 
-/// The desk of one thread. Contracts see its task, the number of its places, and what it knows.
+/// The desk of one thread. Contracts see its task, the number of its slots, and what it knows.
 #[derive(Drop)]
 pub struct Desk {
     task: Snapshot<CostedTask>,
@@ -47,7 +47,7 @@ impl Model for Desk {
 }
 
 impl Desk {
-    /// A desk that nothing was asked of. Takes all the memory that it will use: a row for each place and for each planner.
+    /// A new desk for `planners` planners, with `places` slots. Takes all the memory that it will use: a row for each slot and for each planner.
     pub fn make(
         alloc: Global,
         task: &CostedTask,
@@ -74,7 +74,7 @@ impl Desk {
         })
     }
 
-    /// The accepted job of a number.
+    /// The accepted job with this number, if there is one.
     pub fn job(&self, number: u32) -> Option<&Job>
         ensures { option_copied result ≡ slice_get self.now.intake.jobs number }
     {
@@ -84,7 +84,7 @@ impl Desk {
         }
     }
 
-    /// Takes a plan in. It becomes the job with the count of those that were accepted before as its number.
+    /// Accepts a plan as a job. Its number is the count of jobs that were accepted before.
     pub fn submit(&mut self, planner: u32, plan: Arc<Plan>) -> Result<u32, SubmitRefused>
         ensures reply { submit_reply result ≡ desk_reply self.old (submit planner (arc_value plan)) }
         ensures state { self.new ≡ desk_after self.old (submit planner (arc_value plan)) (submit_reply result) }
@@ -98,7 +98,7 @@ impl Desk {
         }
     }
 
-    /// Closes a planner: no plan of it is accepted any more.
+    /// Closes a planner: no more plans of it are accepted.
     pub fn close(&mut self, planner: u32) -> Result<(), Refusal>
         ensures reply { close_reply result ≡ desk_reply self.old (close planner) }
         ensures state { self.new ≡ desk_after self.old (close planner) (close_reply result) }
@@ -113,7 +113,7 @@ impl Desk {
         }
     }
 
-    /// Gives the least job that waits out, by its number, to be judged.
+    /// Gives out the least job that waits, by its number, to be judged.
     pub fn take(&mut self) -> Option<u32>
         ensures reply { take_reply result ≡ desk_reply self.old take_job }
         ensures state { self.new ≡ desk_after self.old take_job (take_reply result) }
@@ -125,7 +125,7 @@ impl Desk {
         Some(number)
     }
 
-    /// Takes a job back that was given out; it waits again.
+    /// Takes back a job that was given out. It waits again.
     pub fn hand_back(&mut self, job: u32) -> Result<(), Refusal>
         ensures reply { hand_back_reply result ≡ desk_reply self.old (hand_back job) }
         ensures state { self.new ≡ desk_after self.old (hand_back job) (hand_back_reply result) }
@@ -157,7 +157,7 @@ impl Desk {
         }
     }
 
-    /// Gives the finding of the first of a planner's jobs that was not emitted out for good.
+    /// Emits a planner's next finding: that of its first job whose finding was not emitted yet.
     pub fn emit(&mut self, planner: u32) -> Result<Finding, Refusal>
         ensures reply { emit_answer result ≡ desk_reply self.old (emit planner) }
         ensures state { self.new ≡ desk_after self.old (emit planner) (emit_answer result) }
@@ -194,7 +194,7 @@ impl Desk {
         }
     }
 
-    /// Why a job is not handed back: there is none, or it is finished, or it is not out.
+    /// Why a job is not handed back: there is no such job, or it is finished, or it is not out.
     fn out_refusal(&self, job: u32) -> Option<Refusal>
         ensures { result ≡ hand_back_refusal self.now.intake job }
     {
@@ -237,7 +237,7 @@ impl Desk {
         set_stage(&mut self.table, job, Stage::Finished(finding));
     }
 
-    /// Takes a plan in that is not refused.
+    /// Accepts a plan that is not refused.
     fn accept(&mut self, planner: u32, plan: SubmittedPlan) -> u32
         requires { submit_refusal self.old.places self.old.intake planner ≡ None }
         ensures number { result ≡ length self.old.intake.jobs }
@@ -253,7 +253,7 @@ impl Desk {
                 plan,
             },
             stage: Stage::Waiting,
-            behind: None,
+            following: None,
         };
         link(&mut self.table, row.last, number);
         add(&mut self.table, place);
@@ -293,7 +293,7 @@ impl Desk {
         }
     }
 
-    /// Whether the finding of a job rests at its place.
+    /// Whether a job is finished and its finding was not emitted yet.
     fn is_finished(&self, number: u32) -> bool
         ensures { result ≡ rests_at self.now.intake number }
     {
@@ -314,7 +314,7 @@ impl Desk {
         let row = self.planners[planner as usize];
         self.planners[planner as usize] = Planner {
             emitted: row.emitted + 1,
-            next: self.table[number as usize].behind,
+            next: self.table[number as usize].following,
             ..row
         };
         match replace_stage(&mut self.table, number, Stage::Emitted) {
@@ -324,7 +324,7 @@ impl Desk {
     }
 }
 
-/// Puts a job at another stage. The one that it was at.
+/// Sets the stage of a job. Returns the one before.
 fn replace_stage(table: &mut Vec<Place>, job: u32, stage: Stage) -> Stage
     requires { job < vec_len table.old }
     ensures was { slice_get (stages_in table.old.items) job ≡ Some result }
@@ -337,7 +337,7 @@ fn replace_stage(table: &mut Vec<Place>, job: u32, stage: Stage) -> Stage
     mem::replace(&mut table[job as usize].stage, stage)
 }
 
-/// Puts a job at another stage.
+/// Sets the stage of a job.
 fn set_stage(table: &mut Vec<Place>, job: u32, stage: Stage)
     requires { job < vec_len table.old }
     ensures jobs { jobs_in table.new.items ≡ jobs_in table.old.items }
@@ -349,7 +349,7 @@ fn set_stage(table: &mut Vec<Place>, job: u32, stage: Stage)
     let _before = replace_stage(table, job, stage);
 }
 
-/// Lets the row of a planner's last job, if it has one, lead to the job that follows it.
+/// Links a planner's last job, if it has one, to the job that follows it.
 fn link(table: &mut Vec<Place>, last: Option<u32>, number: u32)
     requires { IfSome last (λ job. job < vec_len table.old) }
     ensures jobs { jobs_in table.new.items ≡ jobs_in table.old.items }
@@ -359,11 +359,11 @@ fn link(table: &mut Vec<Place>, last: Option<u32>, number: u32)
     ensures capacity { vec_capacity table.new ≡ vec_capacity table.old }
 {
     if let Some(job) = last {
-        table[job as usize].behind = Some(number);
+        table[job as usize].following = Some(number);
     }
 }
 
-/// Adds a row where there is room.
+/// Adds a row for which there is room.
 fn add(table: &mut Vec<Place>, place: Place)
     requires { vec_len table.old < vec_capacity table.old }
     ensures rows { table.new.items ≡ table.old.items ++ place ∷ [] }

@@ -3,13 +3,13 @@ ghost use Rattle.std.specs.Prelude.{◌≡◌};
 
 use intake_rules::{Job, Stage};
 
-/// A place that is used, by the accepted plan with its number.
+/// A slot in use: the accepted plan with the number of the slot.
 #[derive(Drop)]
 pub(crate) struct Place {
     pub(crate) job: Job,
     pub(crate) stage: Stage,
     /// The next job of the same planner, by number, if it has one.
-    pub(crate) behind: Option<u32>,
+    pub(crate) following: Option<u32>,
 }
 
 /// A planner.
@@ -28,7 +28,7 @@ pub(crate) struct Planner {
 impl Planner {
     ghost use Rattle.intake_core.specs.Rows.{joined};
 
-    /// The row once a job was accepted: it is the last, and the next where all before it were emitted.
+    /// The row once a job was accepted: it is the last, and the next if all before it were emitted.
     pub(crate) fn joined(self, number: u32) -> Planner
         ensures { result ≡ joined self number }
     {

@@ -1,4 +1,4 @@
-//! The replay: a list of steps is asked of a new desk.
+//! The replay: a list of steps is run on a new desk.
 ghost use Rattle.std.specs.Prelude.{◌≡◌, ◌≤◌, IfOk, IfErr, take, length, map, OnOk, option_map, slice_get};
 ghost use Rattle.intake_rules.specs.Rules.{finish};
 ghost use Rattle.intake_core.specs.Asked.{asked};
@@ -41,7 +41,7 @@ pub enum Step {
     Finish {
         /// The number of the job that it is handed in for.
         job: u32,
-        /// The number of the job that it is of.
+        /// The number of the job whose finding it is.
         of: u32,
     },
     /// The next finding of a planner is asked for.
@@ -67,8 +67,8 @@ pub enum ReplayFault {
     },
 }
 
-/// Asks the steps of a new desk, one after another. A finish is refused as one of an unknown job where the job that its finding is to be of
-/// was not accepted; else that job is judged first, and then the desk answers.
+/// Runs the steps on a new desk, one after another. For a [`Finish`](Step::Finish), the job `of` is judged first, and its finding is then handed in
+/// for `job`. If no job has the number `of`, the step is refused with [`UnknownJob`](Refusal::UnknownJob).
 pub fn replay(
     alloc: Global,
     task: &CostedTask,
@@ -90,7 +90,7 @@ pub fn replay(
     }
 }
 
-/// Asks the steps of a desk.
+/// Runs the steps on a desk.
 fn run(
     alloc: Global,
     task: &CostedTask,
@@ -114,7 +114,7 @@ fn run(
     Ok(replies)
 }
 
-/// Asks one step of a desk.
+/// Runs one step on a desk.
 fn answer(
     alloc: Global,
     task: &CostedTask,
@@ -150,7 +150,7 @@ fn answer(
     })
 }
 
-/// Hands the finding of a job in for a job.
+/// Hands in the finding of the job `of` for `job`.
 fn answer_finish(
     alloc: Global,
     task: &CostedTask,

@@ -9,11 +9,11 @@ use Rattle.plan_cost.specs.Assessments.{assessment}
 use Rattle.intake_rules.specs.declared.finding.Finding.{Finding}
 use Rattle.intake_rules.specs.Jobs.{AcceptedPlan}
 
--- the verdict of a plan, by a name behind which nobody needs to look who takes plans in and gives them out
+-- the verdict of a plan; proofs about accepting plans and giving them out never have to unfold this name
 unfoldable pub verdict_of : CostedTask → Plan → Verdict
 verdict_of task plan = (assessment task plan).verdict
 
--- the cost beside this verdict, by a name of the same kind
+-- the cost that goes with this verdict, a name of the same kind
 unfoldable pub counted_cost : CostedTask → Plan → Cost
 counted_cost task plan = (assessment task plan).cost
 

@@ -1,4 +1,4 @@
--- Histories: what was asked of an intake and what it answered, and what that leaves behind. All of it is told by the replies alone.
+-- Histories: what was asked of an intake, what it answered, and what that leaves behind, which depends only on the events and replies.
 
 use Rattle.std.specs.Prelude.{◌≡◌, ℕ, zero, suc, List, [], ◌∷◌, ◌++◌, ⊤, Option, Some, None, Bool, true, false, ◌&&◌, not, nat_eq, length, map, slice_get, filter, take, is_some, if◌then◌else◌, IfSome}
 use Rattle.std.specs.List.{filter_map, list_any}
@@ -14,7 +14,7 @@ use Rattle.intake_rules.specs.Jobs.{AcceptedPlan}
 use Rattle.intake_rules.specs.Intake.{Intake, jobs_of, least_waiting}
 use Rattle.intake_rules.specs.Rules.{Event, submit, close, take_job, hand_back, finish, emit, Allows}
 
--- events with their replies, the first first
+-- events with their replies, in order
 abbrev pub History : Type 0
 History = List (Event × Reply)
 
@@ -41,7 +41,7 @@ abbrev pub closes : ℕ → Event × Reply → Bool
 closes planner (close other, reply.ClosedNow) = nat_eq other planner
 closes planner _ = false
 
--- a planner is closed once a close of it was answered so
+-- a planner is closed once a close of it was answered `ClosedNow`
 unfoldable pub is_closed : ℕ → History → Bool
 is_closed planner history = list_any (closes planner) history
 
@@ -77,7 +77,7 @@ abbrev pub returns : ℕ → Event × Reply → Bool
 returns job (hand_back other, reply.Returned) = nat_eq other job
 returns job _ = false
 
--- a job is out where it is not finished, and was given out once more than it was handed back
+-- a job is out if it is not finished, and was given out once more than it was handed back
 unfoldable pub is_out : ℕ → History → Bool
 is_out job history = not (is_finished job history) && nat_eq (length (filter (takes job) history)) (suc (length (filter (returns job) history)))
 
@@ -105,7 +105,7 @@ unfoldable pub below : ℕ → List ℕ
 below zero = []
 below (suc n) = below n ++ n ∷ []
 
--- what a history leaves behind in an intake for so many planners
+-- what a history leaves behind in an intake for `planners` planners
 unfoldable pub left_by : ℕ → History → Intake
 left_by planners history = record {
   jobs = jobs history;
@@ -124,7 +124,7 @@ abbrev pub TakesLeast : ℕ → History → Type 0
 TakesLeast planners history = (place job : ℕ)
     → slice_get history place ≡ Some (take_job, reply.Taken job) → least_waiting (left_by planners (take place history)) ≡ Some job
 
--- a finish with a finding hands in one that is right for the task
+-- if the event is a finish with a finding, the finding is right for the task
 abbrev pub IsRightFinish : CostedTask → Event → Type 0
 IsRightFinish task (finish job finding) = IfSome finding (IsRight task)
 IsRightFinish task _ = ⊤

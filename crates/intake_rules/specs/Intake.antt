@@ -14,7 +14,7 @@ pub record Intake : Type 0 where
   pub closed : List Bool
   pub emitted : List ℕ
 
--- the intake that nothing was asked of, for so many planners
+-- the intake of `planners` planners that nothing was asked of
 abbrev pub empty_intake : ℕ → Intake
 empty_intake planners = record { jobs = []; stages = []; closed = replicate planners false; emitted = replicate planners 0 }
 
@@ -40,13 +40,13 @@ abbrev pub is_out_stage : Stage → Bool
 is_out_stage Out = true
 is_out_stage _ = false
 
--- a job is finished from its finish on, also when its finding was emitted
+-- the stage of a job that is finished, whether its finding was emitted or not
 abbrev pub is_finished_stage : Stage → Bool
 is_finished_stage (Finished finding) = true
 is_finished_stage Emitted = true
 is_finished_stage _ = false
 
--- the stage of a job; of one that there is not, the stage of one that nobody judges
+-- the stage of a job; `Waiting` if there is no such job
 abbrev pub stage_of : Intake → ℕ → Stage
 stage_of intake job = slice_index_or intake.stages job Waiting
 
@@ -54,7 +54,7 @@ stage_of intake job = slice_index_or intake.stages job Waiting
 abbrev pub least_waiting : Intake → Option ℕ
 least_waiting intake = position_from is_waiting_stage 0 intake.stages
 
--- the job is of the planner
+-- the job is one of the planner's
 abbrev pub is_of : ℕ → AcceptedPlan → Bool
 is_of planner job = nat_eq job.planner planner
 
@@ -66,7 +66,7 @@ jobs_of planner jobs = filter (is_of planner) jobs
 abbrev pub next_job : Intake → ℕ → Option AcceptedPlan
 next_job intake planner = slice_get (jobs_of planner intake.jobs) (slice_index intake.emitted planner)
 
--- the intake with one job more, which waits
+-- the intake with one more job, which waits
 abbrev pub with_job : Intake → ℕ → Plan → Intake
 with_job intake planner plan = record {
   jobs = intake.jobs ++ record { number = length intake.jobs; planner = planner; plan = plan } ∷ [];
@@ -75,7 +75,7 @@ with_job intake planner plan = record {
   emitted = intake.emitted;
 }
 
--- the intake with one planner more that is closed
+-- the intake with this planner closed
 abbrev pub with_closed : Intake → ℕ → Intake
 with_closed intake planner = record {
   jobs = intake.jobs;

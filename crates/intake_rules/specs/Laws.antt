@@ -18,16 +18,17 @@ use Rattle.intake_rules.specs.Rules.{Event, submit, finish, emit, Allows, reply_
 abbrev pub ComparesJobs : AcceptedPlan → AcceptedPlan → Type 0
 ComparesJobs job other = (job_eq job other ≡ true) ↔ (job ≡ other)
 
--- where nothing was asked, all is lawful, and the intake has no job, no closed planner and nothing emitted
+-- if nothing was asked, the history is lawful, and the intake has no job, no closed planner and nothing emitted
 abbrev pub EmptyHistory : ℕ → ℕ → Type 0
 EmptyHistory planners places = IsLawful planners places [] × TakesLeast planners [] × (left_by planners [] ≡ empty_intake planners)
 
--- one pair more: an answer that the rules allow after a lawful history keeps it lawful, and what the history then leaves is what the rules say that the intake knows afterwards
+-- one more pair: an answer that the rules allow after a lawful history keeps it lawful, and the history then leaves what the rules say that the
+-- intake knows afterwards
 abbrev pub OneMore : ℕ → ℕ → History → Event → Reply → Type 0
 OneMore planners places history event answer = IsLawful planners places history → Allows places (left_by planners history) event answer
     → IsLawful planners places (history ++ (event, answer) ∷ []) × (left_by planners (history ++ (event, answer) ∷ []) ≡ after (left_by planners history) event answer)
 
--- the answer that gives out the least waiting job is always one that the rules allow, and where all jobs before were the least, they still are
+-- the rules always allow the answer that gives out the least waiting job, and a history that always gave out the least one still does with it
 abbrev pub LeastGoesOn : ℕ → ℕ → History → Event → Type 0
 LeastGoesOn planners places history event = Allows places (left_by planners history) event (reply_to places (left_by planners history) event)
     × (TakesLeast planners history → TakesLeast planners (history ++ (event, reply_to places (left_by planners history) event) ∷ []))
@@ -36,23 +37,23 @@ LeastGoesOn planners places history event = Allows places (left_by planners hist
 abbrev pub IsOf : ℕ → ℕ → List Event → History → Type 0
 IsOf planners places events history = IsLawful planners places history × TakesLeast planners history × (map (λ pair. pair.0) history ≡ events)
 
--- for a list of events there is a history that is lawful and gives out the least jobs, and no other
+-- for a list of events there is exactly one history that is lawful and gives out the least jobs
 abbrev pub OneHistory : ℕ → ℕ → List Event → Type 0
 OneHistory planners places events = (history : History) × IsOf planners places events history × ((other : History) → IsOf planners places events other → other ≡ history)
 
--- the first pairs of a history are lawful where all of it is, give out the least jobs where all of it does, and have right findings where all of it has
+-- the first pairs of a history are lawful if the whole history is, give out the least jobs if it does, and have right findings if it has
 abbrev pub PrefixesAreLawful : ℕ → ℕ → CostedTask → History → Type 0
 PrefixesAreLawful planners places task history = (count : ℕ) → (IsLawful planners places history → IsLawful planners places (take count history))
     × (TakesLeast planners history → TakesLeast planners (take count history))
     × (HasRightFindings task history → HasRightFindings task (take count history))
 
--- for each planner, the verdicts of the findings emitted are the first of the verdicts of its accepted plans, as many as there are, and so are the costs
+-- for each planner, the verdicts and the costs of the emitted findings are those of its first accepted plans, in order, as many as were emitted
 abbrev pub VerdictsInOrder : CostedTask → History → Type 0
 VerdictsInOrder task history = (planner : ℕ) → (length (emitted planner history) ≤ length (accepted planner history))
     × (map (λ finding. finding.verdict) (emitted planner history) ≡ take (length (emitted planner history)) (map (verdict_of task) (accepted planner history)))
     × (map (λ finding. finding.cost) (emitted planner history) ≡ take (length (emitted planner history)) (map (counted_cost task) (accepted planner history)))
 
--- two histories leave the same jobs, closed planners, emitted findings, findings of jobs and jobs that are out
+-- two histories leave the same jobs, closed planners, emitted findings, findings of jobs, and jobs that are out
 pub record LeaveTheSame (before later : History) : Type 0 where
   pub same_jobs : jobs later ≡ jobs before
   pub same_closed : (planner : ℕ) → is_closed planner later ≡ is_closed planner before
@@ -60,7 +61,7 @@ pub record LeaveTheSame (before later : History) : Type 0 where
   pub same_findings : (job : ℕ) → finding_of job later ≡ finding_of job before
   pub same_out : (job : ℕ) → is_out job later ≡ is_out job before
 
--- with an event that was refused, a history leaves what it left before
+-- after an event that was refused, a history leaves what it left before
 abbrev pub RefusalsChangeNothing : History → Type 0
 RefusalsChangeNothing history = (place : ℕ) (event : Event) (why : Refusal) → slice_get history place ≡ Some (event, reply.Refused why)
     → LeaveTheSame (take place history) (take (suc place) history)
@@ -75,13 +76,14 @@ abbrev pub RefusedDoubled : History → Type 0
 RefusedDoubled history = (place job : ℕ) (finding : Finding) (answer : Reply) → slice_get history place ≡ Some (finish job (Some finding), answer)
     → is_finished job (take place history) ≡ true → answer ≡ reply.Refused refusal.AlreadyFinished
 
--- what a strange finding for a job is answered: there is no such job, or it is neither out nor finished, or the finding is of another job
+-- the answer to a strange finding for a job, by what is strange: there is no such job, it is neither out nor finished, or the finding is of another
+-- job
 pub record AnswersStrange (before : History) (job : ℕ) (finding : Finding) (answer : Reply) : Type 0 where
   pub unknown_job : length (jobs before) ≤ job → answer ≡ reply.Refused refusal.UnknownJob
   pub not_out : job < length (jobs before) → is_finished job before ≡ false → is_out job before ≡ false → answer ≡ reply.Refused refusal.NotOut
   pub other_plan : is_out job before ≡ true → slice_get (jobs before) job ≢ Some finding.job → answer ≡ reply.Refused refusal.OtherPlan
 
--- a strange finding is refused so, and a finish without a finding as one of an unknown job
+-- a strange finding gets that answer, and a finish without a finding is refused as `UnknownJob`
 abbrev pub RefusedStrange : History → Type 0
 RefusedStrange history = (place job : ℕ) (found : Option Finding) (answer : Reply) → slice_get history place ≡ Some (finish job found, answer)
     → MatchOption found (answer ≡ reply.Refused refusal.UnknownJob) (λ finding. AnswersStrange (take place history) job finding answer)
@@ -90,15 +92,15 @@ RefusedStrange history = (place job : ℕ) (found : Option Finding) (answer : Re
 abbrev pub AllFinished : ℕ → History → Type 0
 AllFinished planner history = All (λ job. is_finished job.number history ≡ true) (jobs_of planner (jobs history))
 
--- where a planner is closed and all its jobs are finished, an emit for it gives a finding, or is refused as `Complete`; and `Complete` comes
--- exactly where as many findings were emitted as plans were accepted
+-- if a planner is closed and all its jobs are finished, an emit for it gives a finding or is refused as `Complete`, the latter exactly if as many
+-- findings were emitted as plans were accepted
 abbrev pub WholeListOnceClosed : History → Type 0
 WholeListOnceClosed history = (place planner : ℕ) (answer : Reply) → slice_get history place ≡ Some (emit planner, answer)
     → is_closed planner (take place history) ≡ true → AllFinished planner (take place history)
     → (((finding : Finding) × (answer ≡ reply.Emitted finding)) ⊎ (answer ≡ reply.Refused refusal.Complete))
     × ((answer ≡ reply.Refused refusal.Complete) ↔ (length (emitted planner (take place history)) ≡ length (accepted planner (take place history))))
 
--- what was emitted for a planner when `Complete` is answered are the verdicts and the costs of all its accepted plans, in order
+-- when `Complete` is answered, the verdicts and the costs of all accepted plans of the planner were emitted, in order
 abbrev pub CompleteIsWhole : CostedTask → History → Type 0
 CompleteIsWhole task history = (place planner : ℕ) → slice_get history place ≡ Some (emit planner, reply.Refused refusal.Complete)
     → (map (λ finding. finding.verdict) (emitted planner (take place history)) ≡ map (verdict_of task) (accepted planner (take place history)))

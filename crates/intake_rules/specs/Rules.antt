@@ -1,4 +1,4 @@
--- What an intake answers, and what it knows afterwards. Each table has one row a case, and the first row that applies is the answer.
+-- What an intake answers, and what it knows afterwards. Each table has one row for each case, and the first row that applies is the answer.
 
 use Rattle.std.specs.Prelude.{◌≡◌, ◌⊎◌, ℕ, List, [], ◌∷◌, Option, Some, None, Bool, false, not, nat_eq, length, slice_get, if◌then◌else◌}
 use Rattle.strips_task.specs.declared.plans.Plan.{Plan}
@@ -12,7 +12,7 @@ use Rattle.intake_rules.specs.declared.stage.Stage.TheVariants as stage
 use Rattle.intake_rules.specs.Jobs.{AcceptedPlan, job_eq}
 use Rattle.intake_rules.specs.Intake.{Intake, has_planner, is_closed_in, has_job, is_out_stage, is_finished_stage, stage_of, least_waiting, next_job, with_job, with_closed, with_stage, with_emitted}
 
--- what is asked of an intake; a finish may come without a finding, where the job that it is taken from is not known
+-- what is asked of an intake; a finish has no finding if the job that was to be judged for it is not known
 pub data Event : Type 0 where
   submit : ℕ → Plan → Event
   close : ℕ → Event
@@ -26,7 +26,7 @@ abbrev pub first_that_applies : List (Bool × Refusal) → Option Refusal
 first_that_applies [] = None
 first_that_applies (row ∷ rows) = (if row.0 then Some row.1 else first_that_applies rows)
 
--- why a plan is not accepted, in an intake of so many places
+-- why a plan is not accepted, in an intake with `places` slots
 abbrev pub submit_refusal : ℕ → Intake → ℕ → Option Refusal
 submit_refusal places intake planner = first_that_applies
     ((not (has_planner intake planner), refusal.NoPlanner)
@@ -67,21 +67,21 @@ finish_refusal intake job finding = first_that_applies
     ∷ (not (is_of_job intake job finding), refusal.OtherPlan)
     ∷ [])
 
--- where all findings of a planner were emitted: whether more may come
+-- why there is no finding once all findings of a planner were emitted: no more will come, or more may come
 abbrev pub nothing_left : Bool → Refusal
 nothing_left closed = (if closed then refusal.Complete else refusal.NothingYet)
 
--- what is emitted of a job at this stage
+-- the reply to an emit whose job is at this stage
 abbrev pub finding_at : ℕ → Stage → Reply
 finding_at job (stage.Finished finding) = reply.Emitted finding
 finding_at job _ = reply.Refused (refusal.NotReady job)
 
--- what is emitted for a planner whose next job is this one, or who has none
+-- the reply to an emit for a planner whose next job is this one, or who has none
 abbrev pub emit_reply_of : Intake → ℕ → Option AcceptedPlan → Reply
 emit_reply_of intake planner (Some job) = finding_at job.number (stage_of intake job.number)
 emit_reply_of intake planner None = reply.Refused (nothing_left (is_closed_in intake planner))
 
--- what is emitted for a planner
+-- the reply to an emit for a planner
 abbrev pub emit_reply : Intake → ℕ → Reply
 emit_reply intake planner =
     (if has_planner intake planner then emit_reply_of intake planner (next_job intake planner) else reply.Refused refusal.NoPlanner)
@@ -96,7 +96,7 @@ abbrev pub taken : Option ℕ → Reply
 taken (Some job) = reply.Taken job
 taken None = reply.NoJob
 
--- the answer of an intake of so many places that always gives out the least waiting job
+-- the answer of an intake with `places` slots that always gives out the least waiting job
 abbrev pub reply_to : ℕ → Intake → Event → Reply
 reply_to places intake (submit planner plan) = refused_or (submit_refusal places intake planner) (reply.Accepted (length intake.jobs))
 reply_to places intake (close planner) = refused_or (close_refusal intake planner) reply.ClosedNow
@@ -106,7 +106,7 @@ reply_to places intake (finish job None) = reply.Refused refusal.UnknownJob
 reply_to places intake (finish job (Some finding)) = refused_or (finish_refusal intake job finding) reply.Finished
 reply_to places intake (emit planner) = emit_reply intake planner
 
--- the answers that the rules allow: to a take, any job that waits, and none only where none waits; else the one answer of the tables
+-- the answers that the rules allow: to a take, any job that waits, and `NoJob` only if none waits; to all else, the one answer of the tables
 abbrev pub Allows : ℕ → Intake → Event → Reply → Type 0
 Allows places intake take_job answer = ((answer ≡ reply.NoJob) × (least_waiting intake ≡ None))
     ⊎ ((job : ℕ) × (answer ≡ reply.Taken job) × (slice_get intake.stages job ≡ Some stage.Waiting))

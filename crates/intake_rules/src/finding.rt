@@ -11,7 +11,7 @@ use strips_judge::Verdict;
 use submitted_plan::{Form, SubmittedPlan};
 use text_judge::{MOST_JUDGES, TextJudge};
 
-/// What was found of a job.
+/// A job that was judged, with its verdict and its cost.
 #[derive(Drop)]
 pub struct Finding {
     /// The job that was judged.
@@ -23,7 +23,7 @@ pub struct Finding {
 }
 
 impl Finding {
-    /// Judges the plan of a job, and adds up what it costs. Its plan gets one owner more. Who judges many plans has a judge of its own
+    /// Judges the plan of a job, and adds up what it costs. The plan gets one more owner. A caller that judges many plans keeps a judge
     /// and calls [`judge_by`](Finding::judge_by).
     pub fn judge(alloc: Global, task: &CostedTask, job: &Job) -> Result<Finding, AllocError>
         ensures right { IfOk result (λ finding. IsRight task.now finding) }
@@ -33,8 +33,8 @@ impl Finding {
         Finding::judge_by(alloc, &mut judge, job)
     }
 
-    /// Judges the plan of a job for the task of a judge, who remembers steps from one plan to the next, and adds up what it costs. Its plan gets
-    /// one owner more.
+    /// Judges the plan of a job for the task of a judge, which remembers steps from one plan to the next, and adds up what it costs. The plan gets
+    /// one more owner.
     #[tactic(auto, unfolding(crate::specs::Findings::verdict_of, crate::specs::Findings::counted_cost))]
     pub fn judge_by(
         alloc: Global,
@@ -54,7 +54,7 @@ impl Finding {
     }
 }
 
-/// Judges a plan in whichever form it is kept, and adds up what it costs.
+/// Judges a plan, read or as its text, and adds up what it costs.
 fn assess_by(
     alloc: Global,
     judge: &mut TextJudge<'_>,

@@ -9,7 +9,7 @@ use submitted_plan::SubmittedPlan;
 /// An accepted plan with its number. Contracts see the number, the planner and the plan's content, however the plan is kept.
 #[derive(Drop)]
 pub struct Job {
-    /// The place of the plan among all that were accepted, counted from 0.
+    /// The index of the plan among all that were accepted, counted from 0.
     pub number: u32,
     /// The planner whose plan it is, counted from 0.
     pub planner: u32,
@@ -27,7 +27,7 @@ impl Model for Job {
 
 impl Job {
     /// Whether the other job has the same number, the same planner and the same plan, however the plans are kept. Compares the plans only
-    /// where the numbers are the same. Takes no memory.
+    /// if the number and the planner are the same. Takes no memory.
     pub fn is_same(&self, other: &Job) -> bool
         ensures { result ≡ job_eq self.now other.now }
     {
@@ -36,7 +36,7 @@ impl Job {
             && self.plan.is_same(&other.plan)
     }
 
-    /// The same job, whose plan has one owner more. Copies nothing; the only error is that there are too many owners.
+    /// The same job, whose plan gets one more owner. Copies nothing; the only error is that there are too many owners.
     pub fn try_clone(&self) -> Result<Job, AllocError>
         ensures { IfOk result (λ job. job ≡ self.now) }
     {

@@ -1,7 +1,8 @@
 //! What follows from the rules: each law is the contract of a function that does nothing.
 //!
-//! The first few say how a history grows: from [`empty_history`] by [`one_more`] pair, by [`least_goes_on`] in the way of an intake that gives
-//! out the least job. The others say what holds of every lawful history, and so, by [`prefixes_are_lawful`], at every moment of it.
+//! The first few say how a history grows: it begins as [`empty_history`] and grows by [`one_more`] event with its reply, and [`least_goes_on`] is
+//! about an intake that gives out the least job. The others say what holds of every lawful history, and so, by [`prefixes_are_lawful`], at every
+//! moment of it.
 ghost use Rattle.std.specs.Prelude.{ℕ, List};
 ghost use Rattle.plan_cost.specs.declared.costs.CostedTask.{CostedTask};
 ghost use Rattle.intake_rules.specs.declared.reply.Reply.{Reply};
@@ -16,34 +17,34 @@ pub fn same_jobs_are_equal(_job: &Job, _other: &Job)
     ensures { ComparesJobs _job.now _other.now }
 {}
 
-/// Where nothing was asked, the intake has no job, no planner is closed and nothing is emitted.
+/// If nothing was asked, the intake has no job, no planner is closed and nothing is emitted.
 pub fn empty_history()
     ensures { (planners places : ℕ) → EmptyHistory planners places }
 {}
 
-/// A lawful history stays lawful with one pair more that the rules allow, and leaves what the rules say that the intake then knows.
+/// A lawful history stays lawful with one more event and reply that the rules allow, and then leaves the intake that the rules give.
 pub fn one_more()
     ensures { (planners places : ℕ) (history : History) (event : Event) (answer : Reply) → OneMore planners places history event answer }
 {}
 
-/// The answer that gives out the least waiting job is one that the rules allow, and keeps to the least jobs.
+/// The rules allow the answer that gives out the least waiting job. With it, a history that always gave out the least one still does.
 pub fn least_goes_on()
     ensures { (planners places : ℕ) (history : History) (event : Event) → LeastGoesOn planners places history event }
 {}
 
-/// For each list of events there is one lawful history that gives out the least jobs, and no other.
+/// For each list of events there is exactly one lawful history that always gives out the least job.
 pub fn one_history_of_events()
     ensures { (planners places : ℕ) (events : List Event) → OneHistory planners places events }
 {}
 
-/// The first pairs of a lawful history are a lawful history, and the same of histories that give out the least jobs, and of those with
-/// right findings.
+/// The first pairs of a lawful history are a lawful history. The same holds of histories that give out the least jobs, and of those with right
+/// findings.
 pub fn prefixes_are_lawful()
     ensures { (planners places : ℕ) (task : CostedTask) (history : History) → PrefixesAreLawful planners places task history }
 {}
 
-/// The verdicts emitted for a planner are the first ones of the verdicts of its accepted plans, in the order of acceptance, each once, and
-/// each with the cost of its plan.
+/// The verdicts emitted for a planner are those of its first accepted plans, in the order of acceptance, each once, and each with the cost of its
+/// plan.
 pub fn verdicts_in_order()
     ensures { (planners places : ℕ) (task : CostedTask) (history : History)
         → IsLawful planners places history → HasRightFindings task history → VerdictsInOrder task history }
@@ -64,7 +65,7 @@ pub fn doubled_findings_are_refused()
     ensures { (planners places : ℕ) (history : History) → IsLawful planners places history → RefusedDoubled history }
 {}
 
-/// No finding is stored for a job that was not given out, or that is another job's.
+/// No finding is stored for a job that was not given out, and no finding of another job.
 pub fn strange_findings_are_refused()
     ensures { (planners places : ℕ) (history : History) → IsLawful planners places history → RefusedStrange history }
 {}
@@ -74,7 +75,7 @@ pub fn whole_list_once_closed()
     ensures { (planners places : ℕ) (history : History) → IsLawful planners places history → WholeListOnceClosed history }
 {}
 
-/// Where `Complete` is answered, the verdicts and costs emitted are those of all accepted plans of the planner.
+/// When `Complete` is answered, the verdicts and costs emitted are those of all accepted plans of the planner.
 pub fn complete_is_whole()
     ensures { (planners places : ℕ) (task : CostedTask) (history : History)
         → IsLawful planners places history → HasRightFindings task history → CompleteIsWhole task history }

@@ -1,17 +1,28 @@
-//! The rules by which plans are taken in, given out, judged and emitted.
+//! The rules by which plans are accepted, given out, judged and emitted.
 //!
-//! A [`Job`] is a plan that was accepted, with its number. A [`Finding`] is a job with its verdict and the cost of its plan, and
-//! [`Finding::judge`] makes the right one. What an intake answers to whoever asks something of it is a [`Reply`], and where it refuses, the
-//! [`Refusal`] says why.
+//! ```text
+//! let job = Job { number: 0, planner: 0, plan };
+//! let finding = Finding::judge(alloc, &task, &job)?;
+//! finding.job.is_same(&job)                             // true
+//! finding.verdict                                       // Verdict::Valid { steps: 1 }, for example
+//! Refusal::NotReady(0).word()                           // "NotReady"
+//! ```
 //!
-//! The rules themselves stand in `specs/`: `Intake.antt` says what an intake knows (the jobs, the [`Stage`] of each, which planners are
-//! closed, how much each was told), `Rules.antt` says by a table what it answers and what it knows afterwards, and `History.antt` says what
-//! a list of events with their replies leaves behind. They are stated over plain lists, so that an intake of one thread and one that is
-//! shared by many can both be held to them.
+//! A [`Job`] is an accepted plan with its number. A [`Finding`] is a job with its verdict and the cost of its plan, and [`Finding::judge`] makes
+//! the right one. A [`Reply`] is what an intake answers to a request, and a [`Refusal`] is the reason if it refuses one.
 //!
-//! What follows from the rules is said by the functions of [`laws`], in the words of `Laws.antt`: what a history leaves is what the rules
-//! give pair by pair; and in every history that keeps to the rules each planner is told the verdicts and costs of its accepted plans in
-//! order, what is refused changes nothing, and a planner that was closed is told all once its jobs are finished.
+//! The rules themselves are definitions in `specs/`:
+//!
+//! - `Intake.antt`: what an intake knows, which is the jobs, the [`Stage`] of each, which planners are closed, and how many findings were
+//!   emitted for each planner.
+//! - `Rules.antt`: what it answers and what it knows afterwards, as tables.
+//! - `History.antt`: what a list of events with their replies leaves behind.
+//!
+//! They are stated over plain lists, so that they apply both to an intake of one thread and to one that many threads share.
+//!
+//! The functions of [`laws`] say what follows from the rules, by the definitions in `Laws.antt`. What a history leaves behind is what the rules
+//! give for one event and reply after another. In every history that keeps to the rules, each planner gets the verdicts and costs of its accepted
+//! plans in order, a refused event changes nothing, and a closed planner gets all of them once its jobs are finished.
 #![tactic(auto)]
 
 mod finding;

@@ -2,14 +2,14 @@
 ghost use Rattle.std.specs.Prelude.{◌≡◌};
 ghost use Rattle.intake_rules.specs.Refusals.{refusal_word};
 
-/// Why an intake refuses what it was asked. Of several reasons the first in the order of the call is given.
+/// Why an intake refuses what it was asked. If there are several reasons, the first in the call's table in `specs/Rules.antt` is given.
 #[derive(Clone, Copy, Debug, Drop, PartialEq, Eq)]
 pub enum Refusal {
     /// There is no planner of this number.
     NoPlanner,
-    /// The planner was closed, and no plan of it is accepted any more.
+    /// The planner was closed, so no more plans of it are accepted.
     Closed,
-    /// All places are used.
+    /// All slots are used.
     Full,
     /// The planner was closed before.
     AlreadyClosed,
@@ -21,11 +21,11 @@ pub enum Refusal {
     NotOut,
     /// The finding is of another job.
     OtherPlan,
-    /// The planner's next finding is not there yet: its job, by number, is not finished.
+    /// The planner's next finding is not there yet: its job, which has this number, is not finished.
     NotReady(u32),
-    /// All accepted plans of the planner were emitted, and more may come.
+    /// The findings of all accepted plans of the planner were emitted, and more plans may come.
     NothingYet,
-    /// All accepted plans of the planner were emitted, and no more will come.
+    /// The findings of all accepted plans of the planner were emitted, and no more plans will come.
     Complete,
 }
 

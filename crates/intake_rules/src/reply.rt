@@ -16,7 +16,7 @@ pub enum Reply {
     Returned,
     /// A finding was stored.
     Finished,
-    /// A finding is given out for good.
+    /// A finding was emitted.
     Emitted(Finding),
     /// The event was refused and changed nothing.
     Refused(Refusal),

@@ -15,14 +15,14 @@ of_planner findings planner = filter (λ finding. nat_eq finding.job.planner pla
 abbrev pub by_planner : ℕ → List Finding → List (List Finding)
 by_planner planners findings = map (of_planner findings) (range_with_len 0 planners)
 
--- what a run finds: for each planner one right finding of each of its plans, in the order in which they were handed in
+-- what a run finds: for each planner one right finding for each of its plans, in the order in which they were handed in
 unfoldable pub findings_of : CostedTask → ℕ → List SubmissionParts → List (List Finding)
 findings_of task planners plans = by_planner planners (map (right_finding task) (jobs_from 0 plans))
 
--- no finding, for so many planners
+-- no findings, for `planners` planners
 abbrev pub nothing_kept : ℕ → List (List Finding)
 nothing_kept planners = replicate planners []
 
--- one finding more, behind those of its planner
+-- one more finding, after those of its planner
 abbrev pub kept : List (List Finding) → Finding → List (List Finding)
 kept lists finding = slice_set lists finding.job.planner (slice_index_or lists finding.job.planner [] ++ finding ∷ [])

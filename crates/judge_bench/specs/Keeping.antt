@@ -17,7 +17,7 @@ use Rattle.judge_bench.specs.Submissions.{SubmissionParts, jobs_from}
 abbrev pub emitted_of : CostedTask → View → ℕ → List Finding
 emitted_of task view planner = take (slice_index view.emitted planner) (map (right_finding task) (jobs_of planner view.jobs))
 
--- for each planner just the findings are kept that were emitted, which are no more than it has jobs
+-- for each planner exactly the emitted findings are kept, and they are no more than it has jobs
 pub record KeptFindings (task : CostedTask) (planners : ℕ) (view : View) (findings : List (List Finding)) : Type 0 where
   pub planners_are : length view.closed ≡ planners
   pub count : length view.emitted ≡ planners
@@ -28,23 +28,23 @@ pub record KeptFindings (task : CostedTask) (planners : ℕ) (view : View) (find
 abbrev pub NextIsUnknown : ℕ → View → Type 0
 NextIsUnknown planner view = (job : AcceptedPlan) → next_job (accepted_intake view) planner ≡ Some job → times job.number view.finished ≡ 0
 
--- a finding of the planner was emitted; or none was, and nothing changed but misses
+-- a finding of the planner was emitted; or none was, its next job was not known to be finished, and only misses were added
 abbrev pub KeptNext : ℕ → Bool → View → View → Type 0
 KeptNext planner true before later = later ≡ with_emission before planner
 KeptNext planner false before later = ((missed : List ℕ) × (later ≡ with_misses before missed)) × NextIsUnknown planner before
 
--- nothing changed but which jobs were accepted, which findings were emitted, and misses
+-- nothing changed except which jobs were accepted, which findings were emitted, and misses
 pub record OnlyAccepts (before later : View) : Type 0 where
   pub closed : later.closed ≡ before.closed
   pub seats_out : later.seats_out ≡ before.seats_out
   pub held : later.held ≡ before.held
   pub finished : later.finished ≡ before.finished
 
--- the plans were accepted as jobs, numbered on from those of before
+-- the plans were accepted as jobs, numbered on from the earlier ones
 abbrev pub AcceptsAll : List SubmissionParts → View → View → Type 0
 AcceptsAll plans before later = later.jobs ≡ before.jobs ++ jobs_from (length before.jobs) plans
 
--- nothing changed but misses and how many findings of this planner were emitted
+-- nothing changed except misses and how many findings of this planner were emitted
 pub record OnlyEmits (planner : ℕ) (before later : View) : Type 0 where
   pub jobs : later.jobs ≡ before.jobs
   pub finished : later.finished ≡ before.finished
@@ -54,7 +54,7 @@ pub record OnlyEmits (planner : ℕ) (before later : View) : Type 0 where
 abbrev pub NoneWaits : View → Type 0
 NoneWaits view = (slot : ℕ) → SeemsWaiting slot view → ⊥
 
--- some slots more are known to be finished, and nothing else changed
+-- more slots are known to be finished, and nothing else changed
 abbrev pub with_more_finished : View → List ℕ → View
 with_more_finished view more = record view { finished = view.finished ++ more }
 
@@ -62,11 +62,11 @@ with_more_finished view more = record view { finished = view.finished ++ more }
 abbrev pub with_all_closed : View → View
 with_all_closed view = record view { closed = replicate (length view.closed) true }
 
--- so many seats more are out
+-- `count` more seats are out
 abbrev pub with_all_out : View → ℕ → View
 with_all_out view count = record view { seats_out = view.seats_out + count }
 
--- so many seats less are out, and what they finished is known
+-- `count` fewer seats are out, and what they finished is known
 abbrev pub with_all_joined : View → ℕ → List ℕ → View
 with_all_joined view count more = record view { seats_out = view.seats_out - count; finished = view.finished ++ more }
 

@@ -1,4 +1,4 @@
--- What the owner and a worker keep beside their seats.
+-- What the owner and a worker keep in addition to their seats.
 
 use Rattle.std.specs.Prelude.{◌≡◌, ◌<◌, ◌≤◌, ℕ, Bool, false, List, [], ◌∷◌, ◌++◌, length, slice_get, Some}
 use Rattle.atomic_table.specs.Seated.{TableId}
@@ -10,12 +10,12 @@ use Rattle.bench_rule.specs.Plays.{SeemsWaiting}
 use Rattle.bench_rule.specs.Views.{Sitting, CarriesHeld, planners_of, slots_of}
 use Rattle.planner_lines.specs.Lines.{LinesValue}
 
--- each held slot is one of so many
+-- each held slot is below `slots`
 abbrev pub HeldWithin : ℕ → List Held → Type 0
 HeldWithin slots [] = Unit {0}
 HeldWithin slots (held ∷ others) = (held.slot < slots) × HeldWithin slots others
 
--- a worker counts what its seat holds, the seat carries just that, and the next round begins at one of the slots or behind them
+-- a worker counts what its seat holds, the seat carries just that, and the next round begins at one of the slots or after the last
 pub record WorkerKept (table : TableId) (me : Sitting) (held next : ℕ) : Type 0 where
   pub role : me.0.role ≡ Worker
   pub carries : me.1 ≡ slots_of me.0.held ++ []
@@ -23,7 +23,7 @@ pub record WorkerKept (table : TableId) (me : Sitting) (held next : ℕ) : Type 
   pub within : HeldWithin table.slots me.0.held
   pub begins : next ≤ table.slots
 
--- no slot from the first of these two to before the other seems to wait
+-- no slot from `from` up to, but not including, `to` seems to wait
 abbrev pub NoneWaitsAmong : ℕ → ℕ → View → Type 0
 NoneWaitsAmong from to view = (slot : ℕ) → from ≤ slot → slot < to → SeemsWaiting slot view → ⊥
 
@@ -35,7 +35,7 @@ NoneWaitsBefore first view = (slot : ℕ) → slot < first → SeemsWaiting slot
 abbrev pub Numbered : List AcceptedPlan → Type 0
 Numbered jobs = (slot : ℕ) (job : AcceptedPlan) → slice_get jobs slot ≡ Some job → job.number ≡ slot
 
--- the owner has the first seat; its tables are what the seat knows, and with no seat out no slot before the first one that it will try seems to wait
+-- the owner has the first seat; its tables are what the seat knows, and while no seat is out, no slot before the first that it will try seems to wait
 pub record OwnerKept (table : TableId) (id : ℕ) (me : Sitting) (lines : LinesValue) (closed : List Bool) (seats_out first : ℕ) : Type 0 where
   pub zero : id ≡ 0
   pub lifted : me.0.lifted ≡ false

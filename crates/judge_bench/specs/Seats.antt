@@ -29,7 +29,7 @@ SitsAt bench seat = (seat.table ≡ bench.table) × (seat.view.setting ≡ Some 
 abbrev pub accepted_intake : View → Intake
 accepted_intake view = record { jobs = view.jobs; stages = []; closed = view.closed; emitted = view.emitted }
 
--- all slots in order, from this one on and round to it again
+-- all slots in order, from `start` to the last, and then from the first to the one before `start`
 abbrev pub round : ℕ → ℕ → List ℕ
 round slots start = range_with_len start (slots - start) ++ range_with_len 0 start
 
@@ -37,11 +37,11 @@ round slots start = range_with_len start (slots - start) ++ range_with_len 0 sta
 abbrev pub with_misses : View → List ℕ → View
 with_misses view missed = record view { misses = view.misses ++ missed }
 
--- the seat went round all slots, and changed nothing but its misses
+-- the seat went round all slots, and nothing about it changed except its misses
 abbrev pub PassedAll : ℕ → View → View → Type 0
 PassedAll slots before later = (start : ℕ) × (start ≤ slots) × (later ≡ with_misses before (round slots start))
 
--- the seat found each slot from the first of these two to before its ticket's in another state than it wanted, and holds that one now
+-- the seat holds the ticket's slot now, which is below `to`, and found each slot from `from` up to it in another state than it wanted
 abbrev pub TookAmong : ℕ → ℕ → Held → View → View → Type 0
 TookAmong from to ticket before later = (passed : ℕ) × (ticket.slot ≡ from + passed) × (ticket.slot < to)
     × (later ≡ with_taken (with_misses before (range_with_len from passed)) ticket.slot ticket.job)
@@ -51,7 +51,7 @@ abbrev pub TookOnRound : ℕ → Held → View → View → Type 0
 TookOnRound slots ticket before later = (start : ℕ) × (passed : ℕ) × (start ≤ slots) × (slice_get (round slots start) passed ≡ Some ticket.slot)
     × (later ≡ with_taken (with_misses before (take passed (round slots start))) ticket.slot ticket.job)
 
--- a refused emit changes nothing, but that one miss more is noted of a job that is not ready; and the owner did not know that it was finished
+-- a refused emit changes nothing, except that a job that is not ready is one more miss; and the owner did not know that it was finished
 abbrev pub AfterRefusal : View → Refusal → View → Type 0
 AfterRefusal before (NotReady job) later = (later ≡ with_miss before job) × (times job before.finished ≡ 0)
 AfterRefusal before why later = later ≡ before

@@ -9,11 +9,11 @@ pub record SubmissionParts : Type 0 where
   pub planner : ℕ
   pub plan : Plan
 
--- the plan as the job of a number
+-- the plan as the job with this number
 abbrev pub job_of : ℕ → SubmissionParts → AcceptedPlan
 job_of number submitted = record { number = number; planner = submitted.planner; plan = submitted.plan }
 
--- the plans as jobs in the same order, numbered from a number on
+-- the plans as jobs in the same order, numbered from this number on
 abbrev pub jobs_from : ℕ → List SubmissionParts → List AcceptedPlan
 jobs_from number [] = []
 jobs_from number (submitted ∷ others) = job_of number submitted ∷ jobs_from (suc number) others

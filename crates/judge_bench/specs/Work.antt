@@ -10,13 +10,13 @@ use Rattle.judge_bench.specs.Seats.{round}
 abbrev pub EndsWithPass : ℕ → List ℕ → Type 0
 EndsWithPass slots missed = (earlier : List ℕ) × (start : ℕ) × (start ≤ slots) × (missed ≡ earlier ++ round slots start)
 
--- among the misses are those of so many passes round all slots, one after another
+-- among the misses are those of this many passes round all slots, one after another
 abbrev pub HasPasses : ℕ → ℕ → List ℕ → Type 0
 HasPasses slots zero missed = ⊤
 HasPasses slots (suc count) missed = (earlier : List ℕ) × (later : List ℕ) × (start : ℕ) × (start ≤ slots) × (missed ≡ earlier ++ (round slots start ++ later)) × HasPasses slots count earlier
 
--- why work ends: after a job that the gate may hold; or after so many passes without a job; or, with nothing left to do, after a pass without a job once
--- the bench was seen to be shut
+-- why work ends: after a pass without a job, if the bench was seen to be shut; or because memory ran out; or for a job that the gate may hold; or
+-- after `idle` passes without a job
 abbrev pub EndsFor : (ℕ → Type 0) → ℕ → ℕ → List ℕ → View → Option WorkFault → Type 0
 EndsFor MayHold slots idle missed later None = EndsWithPass slots missed × (later.noted ≡ true)
 EndsFor MayHold slots idle missed later (Some OutOfMemory) = ⊤

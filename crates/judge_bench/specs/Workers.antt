@@ -8,13 +8,13 @@ use Rattle.judge_bench.specs.declared.working.WorkFault.{WorkFault}
 use Rattle.judge_bench.specs.declared.working.WorkFault.TheVariants.{Held}
 use Rattle.judge_bench.specs.Seats.{BenchFacts, SitsAt}
 
--- a worker's seat came back with nothing held; and where a job was held by the gate, it may be
+-- a worker's seat came back and holds nothing; and a job that it says the gate held is one that the gate may hold
 pub record CameBack (bench : BenchFacts) (MayHold : ℕ → Type 0) (ended : Ended) : Type 0 where
   pub seat : SitsAt bench ended.seat
   pub nothing_held : ended.seat.view.held ≡ []
   pub may_hold : (job : ℕ) → ended.refused ≡ Some (Held job) → MayHold job
 
--- the job that was held first: the one that is known, or else the one for which a worker ended
+-- the job that was held first: the known one, or else the one for which this worker ended
 abbrev pub first_held : Option ℕ → Option WorkFault → Option ℕ
 first_held (Some job) refused = Some job
 first_held None (Some (Held job)) = Some job

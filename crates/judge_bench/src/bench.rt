@@ -28,8 +28,8 @@ impl Model for Bench {
 }
 
 impl Bench {
-    /// A bench for so many planners and so many plans at which nothing was done yet, and the seat of its owner. Takes all the memory that
-    /// the calls at the bench need: a word and a slot for each plan, and what the owner keeps of each plan and each planner.
+    /// A new bench for `planners` planners and at most `slots` plans, and the seat of its owner. Takes all the memory that the calls at the
+    /// bench need: a word and a slot for each plan, and what the owner keeps about each plan and each planner.
     pub fn make(
         alloc: Global,
         task: &CostedTask,

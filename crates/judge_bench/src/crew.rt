@@ -40,7 +40,7 @@ impl<G: Gate> Promise<Ended> for WorksAt<G> {
 /// The workers that were started and not joined.
 pub(crate) type Crew<G> = Vec<PromisedHandle<Ended, WorksAt<G>>>;
 
-/// Starts so many workers. Where a thread can't be started, its seat is lost, and those that were started before are in the list.
+/// Starts `workers` workers. If a thread can't be started, its seat is lost, and `crew` has those that were started before.
 pub(crate) fn start_all<'s, E, G: Gate + Sync>(
     scope: &Scope<'s, E>,
     alloc: Global,
@@ -78,7 +78,7 @@ pub(crate) fn start_all<'s, E, G: Gate + Sync>(
     Ok(())
 }
 
-/// A worker's turn at a bench from its first job on, as one of so many that judge.
+/// A worker's turn at a bench from its first job on, as one of `judges` that judge.
 fn whole_work<G: Gate>(
     alloc: Global,
     bench: &Bench,
@@ -94,8 +94,8 @@ fn whole_work<G: Gate>(
     work_among(alloc, bench, seat, task, gate, IDLE_ROUNDS, judges)
 }
 
-/// The owner's thread works as the others do, one of so many, with a seat of its own, until it finds no job that waits and the bench is shut. Answers the job for which it
-/// ended, if the gate held one.
+/// The owner's thread works as the others do, as one of `judges`, with a seat of its own, until it finds no job that waits and the bench is shut.
+/// Returns the job for which it ended, if the gate held one.
 pub(crate) fn take_part<G: Gate>(
     alloc: Global,
     bench: &Bench,
@@ -117,7 +117,7 @@ pub(crate) fn take_part<G: Gate>(
     first_held(None, refused)
 }
 
-/// Waits for all workers and hands their seats in. Answers the job for which the first of them ended that found one held.
+/// Waits for all workers and hands their seats in. Returns the job of the first of them that ended because its job was held.
 pub(crate) fn join_all<R: Threads, G: Gate>(
     rt: &R,
     crew: Crew<G>,
@@ -140,7 +140,7 @@ pub(crate) fn join_all<R: Threads, G: Gate>(
     held
 }
 
-/// The job that was held first, where one is known or this worker ended for one.
+/// The job that was held first, if one is known or this worker ended for one.
 fn first_held(known: Option<u32>, refused: Option<WorkFault>) -> Option<u32>
     ensures { result ≡ first_held known refused }
 {

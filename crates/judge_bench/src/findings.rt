@@ -1,4 +1,4 @@
-//! What was found of the plans of each planner.
+//! The findings of the plans of each planner.
 ghost use Rattle.std.specs.Prelude.{◌≡◌, ◌<◌, [], List, length, slice_index_or, IfOk, OnOk, Some, slice_get};
 ghost use Rattle.judge_bench.specs.Findings.{kept, nothing_kept};
 
@@ -7,7 +7,7 @@ use std::alloc::{AllocError, Global};
 use std::marker::Model;
 use strips_judge::Seq;
 
-/// For each planner, what was found of its plans, in the order in which they were handed in. Contracts see a list of lists.
+/// For each planner, the findings of its plans, in the order in which the plans were handed in. Contracts see a list of lists.
 #[derive(Drop)]
 pub struct Findings {
     lists: Vec<Seq<Finding>>,
@@ -23,7 +23,7 @@ impl Model for Findings {
 }
 
 impl Findings {
-    /// No finding, for so many planners.
+    /// No findings, for `planners` planners.
     pub(crate) fn new(alloc: Global, planners: u32) -> Result<Findings, AllocError>
         ensures { IfOk result (λ findings. findings ≡ nothing_kept planners) }
     {
@@ -34,7 +34,7 @@ impl Findings {
         Ok(Findings { lists })
     }
 
-    /// Keeps a finding behind those of its planner.
+    /// Keeps a finding after those of its planner.
     pub(crate) fn push(&mut self, finding: Finding) -> Result<(), AllocError>
         requires { finding.job.planner < length self.old }
         ensures { OnOk result (self.new ≡ kept self.old finding) }
@@ -59,7 +59,7 @@ impl Findings {
         self.lists[planner].len()
     }
 
-    /// What was found of a plan of a planner; both count from 0. Takes no memory.
+    /// The finding of a planner's plan; both are counted from 0. Takes no memory.
     pub fn get(&self, planner: usize, plan: usize) -> &Finding
         requires planner { planner < length self.now }
         requires plan { plan < length (slice_index_or self.now planner []) }

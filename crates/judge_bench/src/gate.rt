@@ -1,7 +1,7 @@
-//! Who may keep a job from being judged.
+//! What may keep a job from being judged.
 ghost use Rattle.std.specs.Prelude.{ℕ, IsTrue};
 
-/// Who may keep a job from being judged. It is asked of each job before it is judged, by several threads at once.
+/// What may keep a job from being judged. Several threads may ask it at once, about each job before it is judged.
 pub trait Gate {
     // Holds of a gate and the numbers of the jobs that it may hold.
     ghost may_hold: { Self → ℕ → Type 0 };

@@ -14,7 +14,7 @@ pub trait Intake {
     // The plans that are still to come, in order.
     ghost to_come: { Self → List SubmissionParts };
 
-    /// The next plan, and `None` exactly at the end. After a refusal nothing is known of what is still to come.
+    /// The next plan, and `None` exactly at the end. After an error nothing is known about what is still to come.
     fn next(&mut self) -> Result<Option<Submission>, AllocError>
         ensures { IfOk result (λ found. MatchOption found ((to_come self.old ≡ []) × (to_come self.new ≡ [])) (λ submission. to_come self.old ≡ submission ∷ to_come self.new)) };
 }

@@ -23,8 +23,8 @@ pub(crate) struct Keeper {
 }
 
 impl Keeper {
-    /// Accepts all plans that are to come. What is found meanwhile stays in the slots: a look at a slot that a worker may be writing costs as much as
-    /// reading a short plan.
+    /// Accepts all plans that are to come. Findings that are made meanwhile stay in the slots: reading a slot that a worker may be writing costs as
+    /// much as reading a short plan.
     pub(crate) fn accept_all<I: Intake>(
         &mut self,
         bench: &Bench,
@@ -63,7 +63,7 @@ impl Keeper {
         }
     }
 
-    /// Emits the next finding of a planner and keeps it, if it is there.
+    /// Emits the next finding of a planner, if it is there, and keeps it.
     fn keep_next(&mut self, bench: &Bench, planner: u32) -> Result<bool, AllocError>
         requires seat { SitsAt bench.now self.old.owner }
         requires planner { planner < bench.now.setting.planners }
@@ -174,7 +174,7 @@ fn judge_rest(
     Ok(())
 }
 
-/// The owner judges a job that it took and finishes it. Where memory runs out, it is handed back.
+/// The owner judges a job that it took and finishes it. If memory runs out, the job is handed back.
 fn judge_own(
     alloc: Global,
     bench: &Bench,

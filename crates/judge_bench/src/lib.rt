@@ -1,19 +1,26 @@
 //! Judging on several threads, with the same findings for any number of them.
 //!
-//! [`run`] takes the plans of all planners from an [`Intake`] and answers [`Findings`]: for each planner, one finding of each of its plans, in
-//! the order in which they came. Its contract says so by a definition that knows nothing of threads (`findings_of` in `specs/Findings.antt`).
+//! ```text
+//! let mut intake = Listed::new(plans);                                   // a list of two plans of planner 0
+//! let findings = run(rt, alloc, &task, 1, 2, &mut intake, 4, &Open)?;    // 1 planner, 2 slots, 4 workers
+//! findings.plans(0)                                                      // 2
+//! findings.get(0, 1)                                                     // the finding of its second plan
+//! ```
+//!
+//! [`run`] takes the plans of all planners from an [`Intake`] and returns [`Findings`]: for each planner, one finding for each of its plans, in
+//! the order in which they came. Its contract says so by a definition that does not mention threads (`findings_of` in `specs/Findings.antt`).
 //!
 //! A run goes this way:
 //!
 //! 1. The calling thread makes a [`Bench`], with a slot for each plan that may come. It is the [`Owner`].
-//! 2. It starts the workers, each on a thread of its own with a [`WorkerSeat`]. A worker does [`work`]: it takes a job, asks the [`Gate`] whether
-//!    it is held, judges it, finishes it, and goes on with the next.
-//! 3. The owner asks the intake for one plan after another and accepts each as a job. What is found meanwhile stays in the slots.
-//! 4. At the end of the intake it closes all planners and shuts the bench. Each worker ends once it has seen the shut and then finds no job.
-//! 5. The owner waits for all workers and takes their seats back. From then on it knows which jobs are finished. What they left, since memory ran
-//!    out for them, it judges itself, and it keeps the findings of each planner to the last.
+//! 2. It starts the other workers, each on a thread of its own with a [`WorkerSeat`]. A worker does [`work`]: it takes a job, asks the [`Gate`]
+//!    whether it is held, judges it, finishes it, and goes on with the next.
+//! 3. The owner asks the intake for one plan after another and accepts each as a job. The findings that are made meanwhile stay in the slots.
+//! 4. At the end of the intake it closes all planners and shuts the bench. A worker ends when it finds no job after it saw that the bench is shut.
+//! 5. The owner's thread is the last worker. Then it waits for the others and takes their seats back, so it knows which jobs are finished. It
+//!    judges what they left because memory ran out for them, and collects all findings of each planner.
 //!
-//! Nobody waits for a lock; the bench says by itself who may judge what. What it promises is told in the contracts of its seats.
+//! No thread waits for a lock: the words of the bench say who may judge which job. The contracts of its seats state what it promises.
 #![tactic(auto)]
 
 mod bench;

@@ -29,7 +29,7 @@ pub struct Owner {
     lines: PlannerLines,
     closed: Vec<bool>,
     seats_out: u32,
-    /// The slot from which on the owner tries to take jobs.
+    /// The first slot at which the owner tries to take a job.
     first: u32,
 }
 
@@ -65,7 +65,7 @@ impl Owner {
         })
     }
 
-    /// Accepts a plan of an open planner, while a slot is unused. It becomes the job with the number of those that were accepted before.
+    /// Accepts a plan of an open planner as a job, if a slot is unused. The job's number is the count of jobs that were accepted before.
     pub fn submit(
         &mut self,
         bench: &Bench,
@@ -84,7 +84,7 @@ impl Owner {
         }
     }
 
-    /// Closes a planner: no plan of it is accepted any more.
+    /// Closes a planner: no more plans of it are accepted.
     pub fn close(&mut self, bench: &Bench, planner: u32) -> Result<(), Refusal>
         requires { SitsAt bench.now self.old }
         ensures seat { SitsAt bench.now self.new }
@@ -102,8 +102,8 @@ impl Owner {
         }
     }
 
-    /// Gives the finding of the first of a planner's jobs that was not emitted out for good. While seats are out, a job may be finished that is
-    /// not seen to be: it is one miss more. With no seat out the owner knows which jobs are finished.
+    /// Emits a planner's next finding: that of its first job whose finding was not emitted yet. While seats are out, a job that a worker has
+    /// finished may still be refused as `NotReady`; each such refusal is a miss. While no seat is out, the owner knows which jobs are finished.
     pub fn emit(&mut self, bench: &Bench, planner: u32) -> Result<Finding, Refusal>
         requires { SitsAt bench.now self.old }
         ensures seat { SitsAt bench.now self.new }
@@ -123,7 +123,7 @@ impl Owner {
         }
     }
 
-    /// A seat for a worker.
+    /// Gives out a seat for a worker.
     pub fn seat(&mut self, bench: &Bench) -> WorkerSeat
         requires seat { SitsAt bench.now self.old }
         requires few { self.old.view.seats_out < 1024 }
@@ -136,14 +136,14 @@ impl Owner {
         WorkerSeat::at(seat)
     }
 
-    /// How many seats were given out and not handed in again.
+    /// How many seats were given out and not handed in yet.
     pub fn seats_out(&self) -> u32
         ensures { result ≡ self.now.view.seats_out }
     {
         self.seats_out
     }
 
-    /// A worker's seat that holds nothing ends, and the owner knows what it finished.
+    /// Ends a worker's seat that holds nothing. From then on the owner knows what it finished.
     pub fn hand_in(&mut self, bench: &Bench, seat: WorkerSeat)
         requires owner { SitsAt bench.now self.old }
         requires seat { SitsAt bench.now seat × (length seat.view.held ≡ 0) }
@@ -155,8 +155,8 @@ impl Owner {
         self.first = 0;
     }
 
-    /// Takes a job that waits, as a worker does, in the order of the slots. With no seat out it is the least job that waits, and none is
-    /// answered only if none waits.
+    /// Takes a job that waits, as a worker does, in the order of the slots. While no seat is out, it is the least job that waits, and `None` is
+    /// returned only if none waits.
     pub fn take_own(&mut self, bench: &Bench) -> Option<Ticket>
         requires { SitsAt bench.now self.old }
         ensures seat { SitsAt bench.now self.new }
@@ -188,7 +188,7 @@ impl Owner {
         steps::finish(bench.words(), &mut self.seat, ticket.slot, finding);
     }
 
-    /// Hands a job back that the owner took, which waits again.
+    /// Hands back a job that the owner took. It waits again.
     pub fn hand_back_own(&mut self, bench: &Bench, ticket: Ticket)
         requires seat { SitsAt bench.now self.old }
         requires ticket { HoldsJob ticket.slot ticket.job self.old.view.held }
@@ -200,8 +200,8 @@ impl Owner {
         self.first = self.first.min(slot);
     }
 
-    /// Shuts the bench for good: no more plans will come, so workers that find nothing to do may end. If it is shut already, nothing changes. It
-    /// closes no planner.
+    /// Shuts the bench, which stays shut: no more plans will come, so workers that find nothing to do may end. If it is shut already, nothing
+    /// changes. This closes no planner.
     pub fn shut(&mut self, bench: &Bench)
         requires { SitsAt bench.now self.old }
         ensures seat { SitsAt bench.now self.new }
@@ -270,7 +270,7 @@ impl Owner {
         }
     }
 
-    /// Takes the first job that waits in these slots, from the one to before the other.
+    /// Takes the first job that waits in the slots from `from` up to, but not including, `to`.
     fn take_from(&mut self, bench: &Bench, from: u32, to: u32) -> Option<Ticket>
         requires seat { SitsAt bench.now self.old }
         requires slots { to ≡ length self.old.view.jobs }
@@ -298,7 +298,7 @@ impl Owner {
         Some(Ticket { slot, job })
     }
 
-    /// Notes that no slot before this one waits, if that is known: only with no seat out.
+    /// Notes that no slot before this one waits, if that is known, which it is only while no seat is out.
     fn tried_before(&mut self, slot: u32)
         requires within { slot ≤ length self.old.view.jobs }
         requires tried { self.old.view.seats_out ≡ 0 → NoneWaitsBefore slot self.old.view }

@@ -25,8 +25,8 @@ pub enum RunFault {
     OutOfMemory,
     /// A thread could not be started.
     NoThread,
-    /// The gate held the job with this number. Where it held several, it is the one for which the first worker ended, in the order in which they were started;
-    /// the calling thread is the last.
+    /// The gate held the job with this number. If several workers ended for a held job, it is that of the worker that was started first; the calling
+    /// thread counts as the last.
     Held(u32),
 }
 
@@ -52,13 +52,14 @@ impl From<NoThread> for RunFault {
     }
 }
 
-/// Judges the plans of all planners on so many threads, the calling one among them, and answers one finding of each plan.
+/// Judges the plans of all planners on `workers` threads, including the calling one, and returns one finding for each plan.
 ///
-/// The plans are jobs, numbered from 0 in the order of the intake, and the gate is asked of each before a worker judges it. The workers meet at a
-/// [`Bench`]. All but the last are threads that are started first, and judge while the intake still gives plans. The last is the calling thread, once it has
-/// accepted all plans. What is left then, since memory ran out for a worker, it judges once the others have ended. Waits until all its threads are done.
+/// The plans are jobs, numbered from 0 in the order of the intake, and the gate is asked about each before a worker judges it. The workers share a
+/// [`Bench`]. All but the last are threads that are started first, and judge while the intake still gives plans. The last is the calling thread, once
+/// it has accepted all plans. If memory ran out for a worker, the calling thread judges what is left once the others have ended. Waits until all
+/// its threads are done.
 ///
-/// First of all the memory of the bench and of the lists is taken. After that the order of faults is: a thread that can't be started, or memory
+/// The memory for the bench and the lists is taken first. After that, faults are reported in this order: a thread that can't be started, or memory
 /// that runs out for the intake or for what is kept while it lasts; a held job; memory that runs out afterwards.
 pub fn run<R: Threads + Wait + Sync, I: Intake, G: Gate + Sync>(
     rt: &R,
@@ -160,7 +161,7 @@ fn conduct<'s, E, R: Threads, I: Intake, G: Gate + Sync>(
     }
 }
 
-/// What is found once all plans are accepted: the owner's thread takes part, waits for the other threads, and judges what is left.
+/// The rest of a run once all plans are accepted: the owner's thread takes part, waits for the other threads, and judges what is left.
 fn see_through<R: Threads, G: Gate + Sync>(
     rt: &R,
     alloc: Global,

@@ -6,7 +6,7 @@ use std::marker::Model;
 
 /// The right of a seat to finish a job that it took, or to hand it back. Contracts see the slot that the seat holds, and the job.
 ///
-/// It is spent by either. If it is dropped, the slot stays held for good, and its seat can never be handed in.
+/// Either uses it up. If it is dropped, the slot stays held forever, and its seat can never be handed in.
 #[derive(Drop)]
 pub struct Ticket {
     pub(crate) slot: u32,

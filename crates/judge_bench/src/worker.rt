@@ -12,9 +12,9 @@ use bench_rule::{BenchSeat, steps};
 use intake_rules::Finding;
 use std::marker::Model;
 
-/// The seat of a worker, which one thread has. Contracts see at which bench it is, and what it knows.
+/// The seat of a worker, for one thread. Contracts see at which bench it is, and what it knows.
 ///
-/// If it is dropped, it stays out for good, and so do the slots that it holds.
+/// If it is dropped, it stays out forever, and so do the slots that it holds.
 #[derive(Drop)]
 pub struct WorkerSeat {
     seat: BenchSeat,
@@ -60,15 +60,15 @@ impl WorkerSeat {
         seat
     }
 
-    /// How many tickets of the seat are not spent.
+    /// How many tickets of the seat are not used up.
     pub fn holds(&self) -> u32
         ensures { result ≡ length self.now.view.held }
     {
         self.held
     }
 
-    /// Takes a job that waits. Goes round all slots once, from where the seat last found a job, and tries each one that it sees waiting. What is
-    /// answered is not known beforehand: a slot may come to wait behind the seat, and another seat may be faster.
+    /// Takes a job that waits. Goes round all slots once, from where the seat last found a job, and tries each one that it sees waiting. It may find
+    /// none although a job waits: a slot that it has passed may begin to wait, and another seat may be faster.
     pub fn take(&mut self, bench: &Bench) -> Option<Ticket>
         requires { SitsAt bench.now self.old }
         ensures seat { SitsAt bench.now self.new }
@@ -81,7 +81,7 @@ impl WorkerSeat {
         }
     }
 
-    /// Takes the first job that waits in these slots, from the one to before the other.
+    /// Takes the first job that waits in the slots from `from` up to, but not including, `to`.
     fn take_among(&mut self, bench: &Bench, from: u32, to: u32) -> Option<Ticket>
         requires seat { SitsAt bench.now self.old }
         requires slots { (from ≤ to) × (to ≤ bench.now.setting.slots) }
@@ -125,7 +125,7 @@ impl WorkerSeat {
         self.held -= 1;
     }
 
-    /// Hands a job back, which waits again.
+    /// Hands a job back. It waits again.
     pub fn hand_back(&mut self, bench: &Bench, ticket: Ticket)
         requires seat { SitsAt bench.now self.old }
         requires ticket { HoldsJob ticket.slot ticket.job self.old.view.held }
@@ -137,7 +137,7 @@ impl WorkerSeat {
         self.held -= 1;
     }
 
-    /// Whether the bench is shut. Once that was seen, it is always answered.
+    /// Whether the bench is shut. Once the seat has seen that it is, the answer is always `true`.
     pub fn look(&mut self, bench: &Bench) -> bool
         requires { SitsAt bench.now self.old }
         ensures seat { SitsAt bench.now self.new }

@@ -12,17 +12,17 @@ use std::alloc::{AllocError, Global};
 use std::{hint, thread};
 use text_judge::{MOST_JUDGES, TextJudge};
 
-/// How often a worker yields at most before it looks for a job again: together some tens of microseconds on a machine that has nothing else to do.
+/// The most times that a worker yields before it looks for a job again: in all some tens of microseconds on an idle machine.
 const MOST_YIELDS: u32 = 32;
 
 /// Why a worker ended before its work was done.
 #[derive(Clone, Copy, Debug, Drop, PartialEq, Eq)]
 pub enum WorkFault {
-    /// Memory ran out while a job was judged.
+    /// Memory ran out, for the judge of the worker or while a job was judged.
     OutOfMemory,
     /// The gate held the job with this number.
     Held(u32),
-    /// The worker went round all slots without a job as often as it was allowed to.
+    /// The worker went round all slots without finding a job as often as it was allowed to.
     Idle,
 }
 
@@ -35,10 +35,11 @@ pub struct Ended {
     pub refused: Option<WorkFault>,
 }
 
-/// Takes jobs, judges them and finishes them, until none is found after the bench was seen to be shut, or for so many rounds without a job.
+/// Takes jobs, judges them and finishes them, until it finds none after it saw that the bench is shut, or until `idle` rounds found none.
 ///
-/// The gate is asked of each job before it is judged. Where it holds one, or where memory runs out, the job is handed back and the worker ends. Between
-/// two rounds without a job it pauses, and lets other threads run. The worker has a judge of its own, which remembers steps from one job to the next.
+/// The gate is asked about each job before it is judged. If it holds the job, or if memory runs out, the job is handed back and the worker ends.
+/// Between two rounds without a job the worker pauses, and lets other threads run. It has a judge of its own, which remembers steps from one job
+/// to the next.
 pub fn work<G: Gate>(
     alloc: Global,
     bench: &Bench,
@@ -56,7 +57,7 @@ pub fn work<G: Gate>(
     work_among(alloc, bench, seat, task, gate, idle, MOST_JUDGES)
 }
 
-/// Works as [`work`] says, with a judge of its own that is one of so many.
+/// Works as [`work`] says, with a judge of its own that is one of `judges`.
 pub(crate) fn work_among<G: Gate>(
     alloc: Global,
     bench: &Bench,
@@ -126,7 +127,7 @@ fn work_by<G: Gate>(
     }
 }
 
-/// Judges a job that the seat took and finishes it. Where the gate holds it, or where memory runs out, it is handed back.
+/// Judges a job that the seat took and finishes it. If the gate holds it, or if memory runs out, it is handed back.
 fn judge_one<G: Gate>(
     alloc: Global,
     bench: &Bench,
@@ -162,7 +163,7 @@ fn judge_one<G: Gate>(
     }
 }
 
-/// Lets other threads run, for longer the more rounds in a row found no job, and counts one round more.
+/// Lets other threads run, for longer the more rounds in a row found no job, and counts one more round.
 fn pause(rounds: u32) -> u32 {
     hint::spin_loop();
     for _ in 0..rounds.min(MOST_YIELDS) {

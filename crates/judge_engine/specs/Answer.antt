@@ -1,6 +1,6 @@
 -- The answer to the input bytes: what the report of a run has to be.
 
-use Rattle.std.specs.Prelude.{ℕ, Bool, List, ◌∷◌, length, map, nat_lt, nat_le, ◌&&◌, Option, None, Some, is_none, if◌then◌else◌}
+use Rattle.std.specs.Prelude.{ℕ, Bool, List, length, map, nat_lt, nat_le, ◌&&◌, Option, None, Some, is_none, if◌then◌else◌}
 use Rattle.std.specs.List.{position_from, sum_by}
 use Rattle.std.specs.Option.{option_map}
 use Rattle.plan_cost.specs.declared.costs.CostedTask.{CostedTask}

@@ -20,7 +20,7 @@ format_named name =
 abbrev pub asks_to_explain : List (List ℕ) → Bool
 asks_to_explain words = has_command (codes "explain") words
 
--- the dialect that is named, or else STRIPS
+-- the dialect that is named, or STRIPS if none is
 abbrev pub dialect_or_default : Option (List ℕ) → Option Dialect
 dialect_or_default None = Some Strips
 dialect_or_default (Some name) = dialect_named name
@@ -29,7 +29,7 @@ dialect_or_default (Some name) = dialect_named name
 abbrev pub dialect_asked : List (List ℕ) → Option Dialect
 dialect_asked words = dialect_or_default (value_of (codes "--dialect") words)
 
--- the format that is named, or else lines
+-- the format that is named, or lines if none is
 abbrev pub format_or_default : Option (List ℕ) → Option Format
 format_or_default None = Some Lines
 format_or_default (Some name) = format_named name
@@ -38,7 +38,7 @@ format_or_default (Some name) = format_named name
 abbrev pub format_asked : List (List ℕ) → Option Format
 format_asked words = format_or_default (value_of (codes "--format") words)
 
--- the command line asks to judge plans in a dialect and a format: those of the files with these names
+-- the command line asks to judge the plans of the files with these names, in a dialect and a format
 pub record AsksToJudge (words : List (List ℕ)) (dialect : Dialect) (format : Format) (domain problem : List ℕ) (plans : List (List ℕ)) : Type 0 where
   pub command : has_command (codes "judge") words ≡ true
   pub in_dialect : dialect_asked (arguments words) ≡ Some dialect

@@ -14,7 +14,7 @@ plan_of_part planner part = record { planner = planner; plan = plan_of part }
 unfoldable pub plans_of_file : ℕ → BundleValue → List SubmissionParts
 plans_of_file planner bundle = map (plan_of_part planner) (parts bundle.bytes)
 
--- the plans of the files of planners, who are numbered from a number on
+-- the plans of the planners' files; the first planner has this number
 abbrev pub plans_of_files : ℕ → List BundleValue → List SubmissionParts
 plans_of_files planner [] = []
 plans_of_files planner (bundle ∷ bundles) = plans_of_file planner bundle ++ plans_of_files (suc planner) bundles

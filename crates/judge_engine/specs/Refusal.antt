@@ -35,13 +35,13 @@ refusal_of_run run.OutOfMemory = OutOfMemory
 refusal_of_run run.NoThread = NoThread
 refusal_of_run (run.Held job) = Held job
 
--- the fault is one of the text, which has no value; where bytes or parentheses of the text are wrong, it is their first fault
+-- the fault is one of the text, which has no value; if bytes or parentheses of the text are wrong, it is the first such fault
 pub record IsFaultOf {A : Type 0} (text : List ℕ) (value : Option A) (fault : ReadFault) : Type 0 where
   pub no_value : value ≡ None
   pub of_the_text : fault.kind ≢ Memory
   pub first : (e : ReadFault) → text_fault text ≡ Some e → fault ≡ e
 
--- the refusal that a domain text and a problem text call for in a dialect: the domain's comes first, and the problem is looked at beside a domain
+-- the refusal that a domain text and a problem text call for in a dialect: the domain's comes first, since a problem is read with its domain
 abbrev pub ReadingCallsFor : Dialect → List ℕ → List ℕ → JudgeFault → Type 0
 ReadingCallsFor dialect domain problem (Domain fault) = IsFaultOf domain (domain_in_text dialect domain) fault
 ReadingCallsFor dialect domain problem (Problem fault) =
@@ -70,6 +70,6 @@ TextsCallForIn dialect domain problem bundles OutOfMemory = ⊥
 TextsCallForIn dialect domain problem bundles NoThread = ⊥
 TextsCallForIn dialect domain problem bundles (Held job) = ⊥
 
--- the refusal that they call for in the default dialect
+-- the refusal that the texts call for in the default dialect
 abbrev pub TextsCallFor : List ℕ → List ℕ → List BundleValue → JudgeFault → Type 0
 TextsCallFor domain problem bundles fault = TextsCallForIn Strips domain problem bundles fault

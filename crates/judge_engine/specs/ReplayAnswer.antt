@@ -1,6 +1,6 @@
 -- The answer to the bytes of a replay: what its lines have to be.
 
-use Rattle.std.specs.Prelude.{◌≡◌, ℕ, List, [], ◌∷◌, Option, Some, None, Result, Ok, Err, is_none, if◌then◌else◌}
+use Rattle.std.specs.Prelude.{◌≡◌, ℕ, List, Option, Some, None, Result, Ok, Err, is_none, if◌then◌else◌}
 use Rattle.std.specs.Option.{option_and_then}
 use Rattle.plan_cost.specs.declared.costs.CostedTask.{CostedTask}
 use Rattle.pddl_syntax.specs.declared.dialect.Dialect.{Dialect}
@@ -22,7 +22,7 @@ use Rattle.judge_engine.specs.ReplayText.{reply_lines}
 abbrev pub replies_to : CostedTask → StepsValue → List Reply
 replies_to task value = replies_of (history_of task value.planners value.places value.steps)
 
--- the lines of a replay, where the steps file has a value
+-- the lines of a replay, if the steps file has a value
 abbrev pub replay_of : CostedTask → Result StepsValue StepsFault → Option (List ℕ)
 replay_of task (Ok value) = Some (reply_lines task.task (replies_to task value))
 replay_of task (Err fault) = None
@@ -42,7 +42,7 @@ replay_answer_in dialect domain problem steps =
     then option_and_then (λ task. replay_of task (steps_text steps)) (task_in dialect domain problem)
     else None)
 
--- the lines are those of a replay whose history keeps the rules of an intake, and of which all their laws hold
+-- the lines are those of a replay whose history keeps the rules of an intake, and for which all laws of these rules hold
 pub record IsLawfulReplay (dialect : Dialect) (domain problem steps : List ℕ) (lines : List ℕ) : Type 0 where
   pub task : CostedTask
   pub value : StepsValue
@@ -71,6 +71,6 @@ ReplayCallsForIn dialect domain problem steps OutOfMemory = ⊥
 ReplayCallsForIn dialect domain problem steps NoThread = ⊥
 ReplayCallsForIn dialect domain problem steps (Held job) = ⊥
 
--- the refusal that they call for in the default dialect
+-- the refusal that the texts call for in the default dialect
 abbrev pub ReplayCallsFor : List ℕ → List ℕ → List ℕ → JudgeFault → Type 0
 ReplayCallsFor domain problem steps fault = ReplayCallsForIn Strips domain problem steps fault

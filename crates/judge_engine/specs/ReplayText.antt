@@ -11,12 +11,12 @@ use Rattle.intake_rules.specs.Refusals.{refusal_word}
 use Rattle.report_text.specs.Report.{as_judged}
 use Rattle.report_text.specs.Report.{judged_text}
 
--- what stands behind the word of a refusal: the number of the job that is not ready
+-- what follows the word of a refusal: the number of the job that is not ready
 abbrev pub refusal_number : Refusal → List ℕ
 refusal_number (NotReady job) = codes " " ++ decimal job
 refusal_number _ = []
 
--- what is answered; of an emitted finding, the number of its job, its verdict, and its cost as in a report
+-- what is answered; for an emitted finding, the number of its job, its verdict, and its cost as in a report
 abbrev pub reply_text : TaskParts → Reply → List ℕ
 reply_text task (Accepted job) = codes "accepted " ++ decimal job
 reply_text task ClosedNow = codes "closed"

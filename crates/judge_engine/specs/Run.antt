@@ -40,7 +40,7 @@ pub record WritesReport (dialect : Dialect) (format : Format) (MayHold : List �
   pub is_report : IsReportOver dialect format MayHold domain problem plans report
   pub went_out : Appends old new report
 
--- a front of a report of the run went out, and nothing else
+-- the beginning of a report of the run went out, and nothing else
 pub record CutsReport (dialect : Dialect) (format : Format) (MayHold : List ℕ → List ℕ → Type 0) (domain problem : List ℕ) (plans : List (List ℕ)) (old new : Option (List ℕ)) : Type 0 where
   pub report : List ℕ
   pub is_report : IsReportOver dialect format MayHold domain problem plans report
@@ -62,13 +62,13 @@ pub record WritesReplay (dialect : Dialect) (MayHold : List ℕ → List ℕ →
   pub is_report : IsReplayOver dialect MayHold domain problem steps report
   pub went_out : Appends old new report
 
--- a front of the lines of the replay went out, and nothing else
+-- the beginning of the lines of the replay went out, and nothing else
 pub record CutsReplay (dialect : Dialect) (MayHold : List ℕ → List ℕ → Type 0) (domain problem steps : List ℕ) (old new : Option (List ℕ)) : Type 0 where
   pub report : List ℕ
   pub is_report : IsReplayOver dialect MayHold domain problem steps report
   pub went_out : AppendsFront old new report
 
--- a file of plans as `explain` reads it: the word `-` is standard input
+-- a file of plans as `explain` reads it: the word `-` means standard input
 abbrev pub file_named : List ℕ → List ℕ
 file_named name = if bytes_eq name (codes "-") then codes "/dev/stdin" else name
 
@@ -105,7 +105,7 @@ pub record WritesReplayed (MayHold : List ℕ → List ℕ → Type 0) (words : 
   pub asked : AsksToReplay words dialect domain problem steps
   pub written : WritesReplay dialect MayHold domain problem steps old new
 
--- all plans are valid of which a command line asks for an explanation
+-- all plans that a command line asks to explain are valid
 pub record AreExplainedValid (MayHold : List ℕ → List ℕ → Type 0) (words : List (List ℕ)) : Type 0 where
   pub dialect : Dialect
   pub domain : List ℕ
@@ -114,6 +114,6 @@ pub record AreExplainedValid (MayHold : List ℕ → List ℕ → Type 0) (words
   pub asked : AsksToExplain words dialect domain problem plans
   pub valid : AreAllValidOver dialect MayHold domain problem plans
 
--- what a command line asks for went out; of an explanation, that all plans are valid
+-- what a command line asks for went out; if it is an explanation, all plans are valid
 abbrev pub Answers : (List ℕ → List ℕ → Type 0) → List (List ℕ) → Option (List ℕ) → Option (List ℕ) → Type 0
 Answers MayHold words old new = WritesJudged MayHold words old new ⊎ WritesReplayed MayHold words old new ⊎ AreExplainedValid MayHold words

@@ -4,7 +4,7 @@ use Rattle.std.specs.Prelude.{ℕ}
 use Rattle.judge_engine.specs.declared.fault.JudgeFault.{JudgeFault}
 use Rattle.judge_engine.specs.declared.fault.JudgeFault.TheVariants.{TooLarge, TooManyPlanners, Domain, Problem, TooManyPlans, Steps, OutOfMemory, NoThread, Held}
 
--- 1 where an input is refused, 3 where memory or threads are missing
+-- 1 if an input is refused, 3 if memory or threads are missing or a gate held a job
 abbrev pub status_of : JudgeFault → ℕ
 status_of (TooLarge large) = 1
 status_of TooManyPlanners = 1

@@ -41,8 +41,8 @@ impl Bundle {
         self.bytes.as_slice()
     }
 
-    /// The plan of the bytes from `start` up to and without `end`, which is not read now. Copies nothing; the only error is that the bytes have
-    /// too many owners.
+    /// The plan of the bytes from `start` up to but not including `end`. Its text is not read yet. Copies nothing; the only error is that the bytes
+    /// have too many owners.
     pub fn plan(&self, start: usize, end: usize) -> Result<SubmittedPlan, AllocError>
         requires ordered { start ≤ end }
         requires within { end ≤ length self.now.bytes }

@@ -1,6 +1,6 @@
 //! The command line.
 //!
-//! [`parse`] turns the words of the command line into a [`Request`]. `clap` says which command lines there are, and its texts carry no promise here.
+//! [`parse`] turns the words of the command line into a [`Request`]. `clap` decides which command lines are accepted; its texts carry no promise.
 
 ghost use Rattle.std.specs.Prelude.{◌≡◌, true, codes, map, IfOk, IfSome};
 ghost use Rattle.std.specs.String.{string_bytes};
@@ -137,7 +137,7 @@ Documents, in the folder docs of the repository: TUTORIAL.md, SPECIFICATION.md."
 
 /// What the words of a command line ask for; the first is the program's name.
 ///
-/// `clap` says whether there is such a command line; what it asks for is read from its words.
+/// `clap` decides whether the command line is accepted; what it asks for is read from its words.
 pub(crate) fn parse<'a>(alloc: Global, words: &'a [String]) -> Result<Request<'a>, AllocError>
     ensures { IfOk result (IsAskedFor (map string_bytes words.now)) }
 {
@@ -260,7 +260,7 @@ fn explain_request<'a>(
     Ok(None)
 }
 
-/// What a command line asks for that names no run: help, or nothing that there is.
+/// What a command line that starts no run asks for: help, or nothing if it is refused.
 fn refusal<'a>(alloc: Global, words: &[String], error: Error) -> Result<Request<'a>, AllocError>
     ensures { IfOk result (IsAskedFor (map string_bytes words.now)) }
 {

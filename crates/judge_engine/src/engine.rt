@@ -53,7 +53,7 @@ pub fn judge_bytes<R: Threads + Wait + Sync, G: Gate + Sync>(
     ensures cause { IfErr result (λ fault. IsOfTexts fault → TextsCallFor domain.now problem.now bundles.now fault) }
     ensures held { IfErr result (λ fault. (job : ℕ) → fault ≡ Held job → G.may_hold gate.now job) }
 
-    // What takes no memory to find is always told.
+    // Faults that take no memory to find are always reported.
     ensures large { (large : Input) → (result ≡ Err (TooLarge large)) ↔ (too_large domain.now problem.now bundles.now ≡ Some large) }
     ensures planners { too_large domain.now problem.now bundles.now ≡ None → most_planners < length bundles.now → result ≡ Err TooManyPlanners }
     ensures domain_text { (e : read_fault.ReadFault) → too_large domain.now problem.now bundles.now ≡ None → length bundles.now ≤ most_planners
@@ -90,7 +90,7 @@ pub fn judge_bytes_in<R: Threads + Wait + Sync, G: Gate + Sync>(
     ensures cause { IfErr result (λ fault. IsOfTexts fault → TextsCallForIn dialect domain.now problem.now bundles.now fault) }
     ensures held { IfErr result (λ fault. (job : ℕ) → fault ≡ Held job → G.may_hold gate.now job) }
 
-    // What takes no memory to find is always told.
+    // Faults that take no memory to find are always reported.
     ensures large { (large : Input) → (result ≡ Err (TooLarge large)) ↔ (too_large domain.now problem.now bundles.now ≡ Some large) }
     ensures planners { too_large domain.now problem.now bundles.now ≡ None → most_planners < length bundles.now → result ≡ Err TooManyPlanners }
     ensures domain_text { (e : read_fault.ReadFault) → too_large domain.now problem.now bundles.now ≡ None → length bundles.now ≤ most_planners
@@ -113,16 +113,16 @@ pub fn judge_bytes_in<R: Threads + Wait + Sync, G: Gate + Sync>(
 /// The report of a run over a domain text and a problem text, both in this dialect, and the files of planners, in a format. At most `workers` threads
 /// judge the plans.
 ///
-/// A file holds one plan or more (`plan_text::Parts`). Reading and judging a plan never refuses the run: a text that is no plan is a
-/// verdict. The plans are jobs, numbered from 0 in the order of the files and of the parts of each. The threads read and judge them side by
-/// side, and the gate is asked of each before it is judged. If the domain declares `total-cost`, the cost of each
-/// valid plan is reported beside its verdict, and the least of them in the planner's last line. The whole report is made before anything
-/// is written; without planners it is what begins it alone. Tables of names and atoms hash with the seed; the report is the same with any.
+/// A file holds one plan or more (`plan_text::Parts`). No plan is a reason to refuse the run: a text that is no plan gets a verdict, too.
+/// The plans are jobs, numbered from 0 in the order of the files and of the parts of each. The threads read and judge them side by
+/// side, and the gate is asked before each is judged. If the domain declares `total-cost`, the cost of each valid plan is reported
+/// with its verdict, and the least of them in the planner's last line. The whole report is made before anything is written; without
+/// planners it is only its head. Tables of names and atoms hash with the seed; the report does not depend on it.
 /// Waits until all threads are done.
 ///
-/// A run without a report is refused for the first cause in the order of `JudgeFault`. The plans are counted before any is read. Which kind
-/// of fault a text has, and where, once its bytes and parentheses are right, is the reader's to say. Running out of memory can come in place
-/// of any cause but those that take no memory to find: that a text is too large, too many planners, and the wrong bytes and parentheses of
+/// If there is no report, the fault is the first in the order of `JudgeFault`. The plans are counted before any is read. Once the bytes and
+/// parentheses of a text are right, the reader decides which fault it reports, and where. Running out of memory can be reported instead of any
+/// fault but those that take no memory to find: that a text is too large, too many planners, and the wrong bytes and parentheses of
 /// the domain.
 pub fn judge_bytes_as<R: Threads + Wait + Sync, G: Gate + Sync>(
     rt: &R,
@@ -142,7 +142,7 @@ pub fn judge_bytes_as<R: Threads + Wait + Sync, G: Gate + Sync>(
     ensures cause { IfErr result (λ fault. IsOfTexts fault → TextsCallForIn dialect domain.now problem.now bundles.now fault) }
     ensures held { IfErr result (λ fault. (job : ℕ) → fault ≡ Held job → G.may_hold gate.now job) }
 
-    // What takes no memory to find is always told.
+    // Faults that take no memory to find are always reported.
     ensures large { (large : Input) → (result ≡ Err (TooLarge large)) ↔ (too_large domain.now problem.now bundles.now ≡ Some large) }
     ensures planners { too_large domain.now problem.now bundles.now ≡ None → most_planners < length bundles.now → result ≡ Err TooManyPlanners }
     ensures domain_text { (e : read_fault.ReadFault) → too_large domain.now problem.now bundles.now ≡ None → length bundles.now ≤ most_planners
@@ -204,7 +204,7 @@ pub(crate) fn read_task(
     }
 }
 
-/// Why a run stops at a reader's refusal: want of memory is one wherever it comes.
+/// Why a run stops if a reader refuses a text: running out of memory is the same fault for any text.
 fn refusal(fault: ReadFault, other: JudgeFault) -> JudgeFault
     ensures memory { fault.kind ≡ FaultKind.OutOfMemory → result ≡ OutOfMemory }
     ensures other { fault.kind ≢ FaultKind.OutOfMemory → result ≡ other }
@@ -245,7 +245,7 @@ fn judge_planners<R: Threads + Wait + Sync, G: Gate + Sync>(
     }
 }
 
-/// What is found of the plans of all files. No more threads judge than there are plans.
+/// What is found about the plans of all files. No more threads judge than there are plans.
 fn judge_plans<R: Threads + Wait + Sync, G: Gate + Sync>(
     rt: &R,
     alloc: Global,
@@ -273,7 +273,7 @@ fn judge_plans<R: Threads + Wait + Sync, G: Gate + Sync>(
     }
 }
 
-/// The report of a task's plans, of which this was found.
+/// The report of a task's plans, from what was found about them.
 fn report_of(
     alloc: Global,
     format: Format,

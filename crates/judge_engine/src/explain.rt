@@ -1,4 +1,4 @@
-//! The command `explain`: the texts of the files that it names, and what is to be said of them.
+//! The command `explain`: reads the files that it names, and explains them.
 ghost use Rattle.std.specs.Prelude.{◌≡◌, ◌≤◌, List, true, map, length, IfOk};
 ghost use Rattle.explanations.specs.AllValid.{all_valid_for, task_in};
 ghost use Rattle.judge_engine.specs.Run.{AreAllValidOver, AreTexts, file_named};
@@ -14,7 +14,7 @@ use std::alloc::{AllocError, AllocFailed, Global};
 /// The word for standard input among the files of plans.
 const STANDARD_INPUT: &str = "-";
 
-/// The file that standard input is.
+/// The file name of standard input.
 const STANDARD_INPUT_FILE: &str = "/dev/stdin";
 
 /// What is explained, and whether all is well.
@@ -27,7 +27,7 @@ pub(crate) struct Explained {
 /// Why nothing can be explained.
 #[derive(Debug, Drop)]
 enum Unread {
-    /// A file can't be read or is too large; this is said.
+    /// A file can't be read or is too large, as this text says.
     Said(Text),
     /// Memory ran out.
     OutOfMemory,
@@ -168,7 +168,7 @@ fn file_named(name: &str) -> &str
     }
 }
 
-/// The text of a file that is called by a name.
+/// The text of `file`, which messages call `name`.
 fn read<S: Sources>(alloc: Global, sources: &S, name: &str, file: &str) -> Result<NamedText, Unread>
     ensures { IfOk result (λ text. S.may_hold sources.now file.now text.bytes.items) }
 {
@@ -197,7 +197,7 @@ fn why_unread(absence: Absence) -> &'static str {
     }
 }
 
-/// What is said of a file.
+/// The message about a file.
 fn said(alloc: Global, name: &str, what: &str) -> Result<Unread, AllocError> {
     let mut text = Text::new(alloc);
     text.push(name.as_bytes())?;

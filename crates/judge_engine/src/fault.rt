@@ -1,5 +1,5 @@
 //! Why a run gives no report.
-ghost use Rattle.std.specs.Prelude.{◌≡◌};
+ghost use Rattle.std.specs.Prelude.{◌≡◌, ◌⊎◌};
 ghost use Rattle.judge_engine.specs.Status.{status_of};
 
 use judge_bench::RunFault;
@@ -7,7 +7,7 @@ use pddl_reader::ReadFault;
 use std::alloc::{AllocError, AllocFailed};
 pub use steps_text::{StepsFault, StepsFaultKind};
 
-/// An input of a run or of a replay. They are read in this order, but for the last: a replay has steps and no plans.
+/// An input of a run or of a replay. Inputs are read in this order. A run has no steps, and a replay has no plans.
 #[derive(Clone, Copy, Debug, PartialEq, Eq)]
 pub enum Input {
     /// The domain.
@@ -20,7 +20,7 @@ pub enum Input {
     Steps,
 }
 
-/// Why a run gives no report. Of several causes the first in this order is told; the last three may come in another order.
+/// Why a run gives no report. If there are several causes, the first in this order is reported; the last three may come in another order.
 #[derive(Clone, Copy, Debug, PartialEq, Eq)]
 pub enum JudgeFault {
     /// This input is longer than 16,777,216 bytes, and none before it is.
@@ -44,9 +44,10 @@ pub enum JudgeFault {
 }
 
 impl JudgeFault {
-    /// The exit status of a program that stops for this reason: 1 where an input is refused, 3 where memory or threads are missing.
+    /// The exit status of a program that stops for this reason: 1 if an input is refused, 3 if memory or threads are missing or a gate held a job.
     pub fn status(&self) -> u8
-        ensures { result ≡ status_of self.now }
+        ensures meaning { result ≡ status_of self.now }
+        ensures range { (result ≡ 1) ⊎ (result ≡ 3) }
     {
         match self {
             JudgeFault::TooLarge(_)

@@ -19,7 +19,7 @@ pub const FILE_LIMIT: usize = 16_777_216;
 /// How many bytes are asked for at a time.
 const PIECE: usize = 65_536;
 
-/// Why a text could not be had.
+/// Why a text could not be read.
 #[derive(Clone, Copy, Debug, PartialEq, Eq)]
 pub enum InFault {
     /// The file is not there, or reading it failed.
@@ -46,11 +46,11 @@ pub trait Sources {
     // Whether the text with a name may be these bytes.
     ghost may_hold: { Self → List ℕ → List ℕ → Type 0 };
 
-    /// The text with a name, or its first 16,777,217 bytes where there are more.
+    /// The text with a name, or its first 16,777,217 bytes if there are more.
     fn text(&self, name: &str) -> Result<Vec<u8>, InFault>
         ensures { IfOk result (λ bytes. may_hold self.now name.now bytes.items) };
 
-    /// Why the text with a name cannot be had.
+    /// Why the text with a name can't be read.
     fn absence(&self, _name: &str) -> Absence {
         Absence::Other
     }
@@ -58,13 +58,13 @@ pub trait Sources {
 
 /// What gives bytes in order, some at a time.
 pub trait Inlet {
-    // The bytes that are still to be given, where the inlet tells them.
+    // The bytes that are still to come, if the inlet says.
     ghost left: { Self → Option (List ℕ) };
 
     // Whether a get has failed.
     ghost failed: { Self → Bool };
 
-    /// Puts bytes into the front of a buffer, and answers how many. None in a buffer that is not empty is the end, and no failure.
+    /// Puts bytes at the front of a buffer, and answers how many. 0 for a buffer that is not empty is the end, and no failure.
     fn get(&mut self, buffer: &mut [u8]) -> Result<usize, Failed>
         ensures bound { IfOk result (λ count. count ≤ length buffer.new) }
         ensures bytes { ReadConsumes (left self.old) (left self.new) result buffer.new }
@@ -83,7 +83,7 @@ pub struct Feed<R> {
 }
 
 impl<R: Read> Feed<R> {
-    /// An inlet from which nothing was got yet.
+    /// An inlet from which nothing was read yet.
     pub fn new(reader: R) -> Self
         ensures unused { ⟦<Feed<R> as Inlet>⟧.failed result ≡ false }
         ensures bytes { ⟦<Feed<R> as Inlet>⟧.left result ≡ R.remaining reader }
@@ -115,23 +115,23 @@ impl<R: Read> Inlet for Feed<R> {
     }
 }
 
-/// The bytes of an inlet up to its end, or the first 16,777,217 where there are more.
+/// The bytes of an inlet up to its end, or the first 16,777,217 if there are more.
 ///
-/// It is refused as unreadable exactly where a get has failed.
+/// It is refused as unreadable exactly if a get has failed.
 pub fn read_file<I: Inlet>(alloc: Global, inlet: &mut I) -> Result<Vec<u8>, InFault>
     requires { I.failed inlet.old ≡ false }
     ensures limit { IfOk result (λ bytes. length bytes.items ≤ FILE_LIMIT + 1) }
     ensures text { IfOk result (λ bytes. IfSome (I.left inlet.old) (λ all. bytes.items ≡ take (FILE_LIMIT + 1) all)) }
     ensures failure { (result ≡ Err InFault.Unreadable) ↔ (I.failed inlet.new ≡ true) }
 
-    // What stands after it: the bytes are gone from the inlet, which is at its end where they are within the limit.
+    // Afterwards the bytes are gone from the inlet, which is at its end if they are within the limit.
     ensures given { IfOk result (λ bytes. Consumes (I.left inlet.old) (I.left inlet.new) bytes.items) }
     ensures ended { IfOk result (λ bytes. length bytes.items ≤ FILE_LIMIT → IsAtEnd (I.left inlet.new)) }
 {
     read_expected(alloc, inlet, 0)
 }
 
-/// The same, where so many bytes are expected: memory for them is taken at once. More or fewer may come.
+/// The same, with memory for `expected` bytes taken at once. More or fewer may come.
 fn read_expected<I: Inlet>(
     alloc: Global,
     inlet: &mut I,
@@ -177,7 +177,7 @@ impl<'a, R: std::rt::Files + AllocGlobal> Files<'a, R> {
 }
 
 impl<R: std::rt::Files + AllocGlobal> Sources for Files<'_, R> {
-    // Nothing is known of what a file holds.
+    // Nothing is known about what a file holds.
     ghost may_hold = { λ _ _ _. ⊤ };
 
     fn text(&self, name: &str) -> Result<Vec<u8>, InFault> {

@@ -7,7 +7,7 @@ use command_words::value_of;
 use pddl_reader::Dialect;
 use report_text::Format;
 
-/// The dialect that some words ask for: STRIPS, unless they name another. None where they name one that is not known.
+/// The dialect that some words ask for: STRIPS, unless they name another. `None` if they name an unknown one.
 pub(crate) fn dialect_asked(words: &[String]) -> Option<Dialect>
     ensures { result ≡ dialect_asked (map string_bytes words.now) }
 {
@@ -30,7 +30,7 @@ fn dialect_named(name: &str) -> Option<Dialect>
     }
 }
 
-/// The format that some words ask for: lines, unless they name another. None where they name one that is not known.
+/// The format that some words ask for: lines, unless they name another. `None` if they name an unknown one.
 pub(crate) fn format_asked(words: &[String]) -> Option<Format>
     ensures { result ≡ format_asked (map string_bytes words.now) }
 {

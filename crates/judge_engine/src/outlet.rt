@@ -1,7 +1,7 @@
 //! Where a report goes: an outlet takes bytes, some at a time, or fails.
 //!
 //! [`write_report`] hands a whole report to an [`Outlet`]. [`Sink`] makes an outlet of any writer of the standard library, and tests
-//! make outlets of their own that stop when they are told to.
+//! make outlets of their own that fail on purpose.
 ghost use Rattle.std.specs.Prelude.{◌≡◌, ◌<◌, ◌≤◌, ◌||◌, ℕ, Bool, List, Option, length, take, false, true, IfOk, IfErr, OnOk};
 ghost use Rattle.std.specs.Io.KnownBytes.{WriteAppends, Appends};
 ghost use Rattle.judge_engine.specs.Outlet.{put_fails};
@@ -15,10 +15,10 @@ pub struct Failed;
 
 /// What takes bytes in order, some at a time.
 pub trait Outlet {
-    // The bytes that were taken, where the outlet tells them.
+    // The bytes that were taken, if the outlet says.
     ghost taken: { Self → Option (List ℕ) };
 
-    // Whether a put has failed, or took none of some bytes.
+    // Whether a put has failed, or took none of the bytes although there were some.
     ghost failed: { Self → Bool };
 
     /// Takes bytes from the front of those handed in, and answers how many it took.
@@ -27,7 +27,7 @@ pub trait Outlet {
         ensures bytes { WriteAppends (taken self.old) (taken self.new) result bytes.now }
         ensures failure { failed self.new ≡ (failed self.old || put_fails result bytes.now) };
 
-    /// Whether a put has failed, or took none of some bytes.
+    /// Whether a put has failed, or took none of the bytes although there were some.
     fn has_failed(&self) -> bool
         ensures { result ≡ failed self.now };
 
@@ -46,7 +46,7 @@ pub struct Sink<W> {
 }
 
 impl<W: Write> Sink<W> {
-    /// An outlet to which nothing was put yet.
+    /// An outlet to which nothing was written yet.
     pub fn new(writer: W) -> Self
         ensures unused { ⟦<Sink<W> as Outlet>⟧.failed result ≡ false }
         ensures bytes { ⟦<Sink<W> as Outlet>⟧.taken result ≡ W.contents writer }
@@ -141,7 +141,7 @@ pub(crate) fn write_bytes<O: Outlet>(bytes: &[u8], outlet: &mut O) -> Result<(),
     Ok(())
 }
 
-/// The fault of a report of which so many bytes went out.
+/// The fault of a report of which `written` bytes went out.
 fn fault_at(written: usize) -> WriteFault
     ensures { result.written ≡ written }
 {

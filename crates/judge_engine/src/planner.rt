@@ -1,4 +1,4 @@
-//! What a report has of one planner: what was found about its plans, how many of them are valid, and the best of these.
+//! What a report says about one planner: what was found about its plans, how many of them are valid, and the best of these.
 ghost use Rattle.std.specs.Prelude.{◌≡◌, ◌++◌, ◌<◌, ◌≤◌, [], length, map, slice_index_or, OnOk};
 ghost use Rattle.plan_cost.specs.Costs.{cost_answer};
 ghost use Rattle.report_text.specs.Format.{planner_text};
@@ -25,7 +25,7 @@ pub(crate) struct Tally {
     pub(crate) cost: Option<u128>,
 }
 
-/// Adds all of a planner: its plans, which count from 1, and their sum.
+/// Adds all that a report says about a planner: its plans, counted from 1, and their sum.
 pub(crate) fn push_planner(
     text: &mut Text,
     format: Format,
@@ -45,9 +45,9 @@ pub(crate) fn push_planner(
         best: None,
         cost: None,
     };
-    for place in 0..findings.plans(planner) {
-        let finding = findings.get(planner, place);
-        push_plan_in(text, format, &task.task, name, place + 1, finding)?;
+    for index in 0..findings.plans(planner) {
+        let finding = findings.get(planner, index);
+        push_plan_in(text, format, &task.task, name, index + 1, finding)?;
         tally = counted(tally, finding);
     }
     let cost = least_cost(&task.costs, tally.cost);
@@ -62,7 +62,7 @@ pub(crate) fn push_planner(
     )
 }
 
-/// A tally with one plan more.
+/// A tally with one more plan.
 fn counted(tally: Tally, finding: &Finding) -> Tally
     requires few { tally.plans < 65536 }
     requires some { tally.valid ≤ tally.plans }
@@ -75,7 +75,7 @@ fn counted(tally: Tally, finding: &Finding) -> Tally
     )
 }
 
-/// A tally with one plan more, which has this number of steps if it is valid, and this cost if that is defined.
+/// A tally with one more plan, which has this number of steps if it is valid, and this cost if that is defined.
 fn tally_over(tally: Tally, steps: Option<u32>, cost: Option<u128>) -> Tally
     requires few { tally.plans < 65536 }
     requires some { tally.valid ≤ tally.plans }
@@ -113,7 +113,7 @@ fn defined_cost(cost: Cost) -> Option<u128>
     }
 }
 
-/// The lesser of two numbers of steps, as far as there are any.
+/// The lesser of two numbers of steps, either of which may be missing.
 fn lesser_steps(steps: Option<u32>, other: Option<u32>) -> Option<u32>
     ensures { result ≡ lesser steps other }
 {
@@ -124,7 +124,7 @@ fn lesser_steps(steps: Option<u32>, other: Option<u32>) -> Option<u32>
     }
 }
 
-/// The lesser of two costs, as far as there are any.
+/// The lesser of two costs, either of which may be missing.
 fn lesser_cost(cost: Option<u128>, other: Option<u128>) -> Option<u128>
     ensures { result ≡ lesser cost other }
 {

@@ -1,7 +1,7 @@
 //! The plans of the planners' files.
 //!
-//! A file is cut into its parts, and each part is handed in as a plan that is kept as its text: a range of the file's bytes, which nobody copies.
-//! Whoever judges it reads it.
+//! A file is cut into its parts, and each part becomes a plan that is kept as its text: a range of the file's bytes, which are not copied.
+//! It is read when it is judged.
 ghost use Rattle.std.specs.Prelude.{◌≡◌, ◌≤◌, ◌<◌, ◌+◌, ◌++◌, ◌∷◌, [], length, slice_range, IfOk, OnOk, MatchBool, MatchOption};
 ghost use Rattle.plan_text.specs.Bundle.{parts};
 ghost use Rattle.judge_engine.specs.Answer.{plan_count, most_plans};
@@ -33,7 +33,7 @@ pub(crate) fn cut_plans(
     Ok(Some(plans))
 }
 
-/// Adds the plans of a planner's file, unless they would be too many; then only some are added.
+/// Adds the plans of a planner's file, unless there would be too many; then only some are added.
 fn push_parts(
     plans: &mut Vec<Submission>,
     planner: u32,
@@ -52,7 +52,7 @@ fn push_parts(
         }
         push_plan(plans, planner, bundle, start, end)?;
         match next {
-            Some(place) => start = place,
+            Some(offset) => start = offset,
             None => return Ok(true),
         }
     }

@@ -32,10 +32,10 @@ use std::thread::Threads;
 /// Why a run over files stops without a report.
 #[derive(Debug, Drop)]
 enum Stop {
-    /// An input is refused; this is told.
-    Input(Vec<u8>),
-    /// Something that the run needs is missing; this is told.
-    Lacking(Vec<u8>),
+    /// A file can't be read, as this line says.
+    Unreadable(Vec<u8>),
+    /// The run gives no report, for this reason, as this line says.
+    NoReport(JudgeFault, Vec<u8>),
     /// Memory ran out.
     OutOfMemory,
 }
@@ -53,14 +53,13 @@ impl<T: Drop> From<AllocFailed<T>> for Stop {
 }
 
 /// Runs the program on the words of a command line, the first of which is the program's name, and answers the exit status:
-/// 0 where a report or help was written, 1 where an input was refused, 2 where the command line was, 3 where memory ran out or a thread could not
-/// be started, and 4 where
-/// the report or help could not be written.
+/// 0 if a report or help was written, 1 if an input was refused, 2 if the command line was, 3 if memory ran out or a thread could not be started,
+/// and 4 if the report or help could not be written.
 ///
-/// A report goes to `out` whole or, where `out` fails, from its front. What else is told goes to `err`, whose faults are ignored. Tables of
-/// names and atoms hash with the seed, which shows in nothing that is written.
+/// A report goes to `out` as a whole. If `out` fails, it has taken only the beginning. Messages go to `err`, whose faults are ignored. Tables of
+/// names and atoms hash with the seed, and nothing that is written depends on it.
 ///
-/// The command `explain` writes also where its status is 1: what is wrong is what it writes.
+/// The command `explain` writes to `out` even with status 1, since what is wrong is what it is asked for.
 pub fn main_with<R: AllocGlobal + Threads + Wait + Sync, S: Sources + Sync, O: Outlet, E: Outlet>(
     rt: &R,
     seed: Seed,
@@ -137,7 +136,7 @@ pub fn replay_with<S: Sources, O: Outlet, E: Outlet>(
 }
 
 /// Explains why texts are refused and plans fail, and answers the exit status, as `main_with` does for a command line that names these files: 0
-/// where all plans are valid, and 1 where something was explained. What is wrong with files that can't be read is explained, too.
+/// if all plans are valid, and 1 if something is wrong. If files can't be read, that is explained, too.
 pub fn explain_with<S: Sources, O: Outlet, E: Outlet>(
     alloc: Global,
     seed: Seed,
@@ -163,24 +162,24 @@ pub fn explain_with<S: Sources, O: Outlet, E: Outlet>(
     }
 }
 
-/// Tells why a run stops without a report, and answers the exit status for it.
+/// Writes why a run stops without a report, and answers the exit status.
 fn stopped<E: Outlet>(stop: Stop, err: &mut E) -> u8
     ensures status { (result ≡ 1) ⊎ (result ≡ 3) }
 {
     match stop {
-        Stop::Input(text) => {
-            tell(err, text.as_slice());
+        Stop::Unreadable(line) => {
+            tell(err, line.as_slice());
             1
         }
-        Stop::Lacking(text) => {
-            tell(err, text.as_slice());
-            3
+        Stop::NoReport(fault, line) => {
+            tell(err, line.as_slice());
+            fault.status()
         }
         Stop::OutOfMemory => out_of_memory(err),
     }
 }
 
-/// Writes a report or help, and answers the exit status: 0 where all of it went out, and else 4.
+/// Writes a report or help, and answers the exit status: 0 if all of it was written, and 4 if not.
 fn write_out<O: Outlet, E: Outlet>(report: &Report, out: &mut O, err: &mut E) -> u8
     requires { O.failed out.old ≡ false }
     ensures status { (result ≡ 0) ⊎ (result ≡ 4) }
@@ -197,7 +196,7 @@ fn write_out<O: Outlet, E: Outlet>(report: &Report, out: &mut O, err: &mut E) ->
     }
 }
 
-/// Tells that memory ran out, and answers the exit status for it. Takes no memory.
+/// Writes that memory ran out, and answers the exit status. Takes no memory.
 pub fn out_of_memory<E: Outlet>(err: &mut E) -> u8
     ensures { result ≡ 3 }
 {
@@ -281,7 +280,7 @@ fn replay_files<S: Sources>(
     }
 }
 
-/// The files of planners, in the order of their names. A planner has the name of its file. At most so many threads read.
+/// The files of planners, in the order of their names. A planner has the name of its file. At most `threads` threads read.
 fn read_bundles<R: AllocGlobal + Threads + Sync, S: Sources + Sync>(
     rt: &R,
     sources: &S,
@@ -326,7 +325,7 @@ fn read<S: Sources>(alloc: Global, sources: &S, name: &str) -> Result<Vec<u8>, S
             text.push(b"cannot read ")?;
             text.push(name.as_bytes())?;
             text.push(b"\n")?;
-            Err(Stop::Input(text.into_bytes()))
+            Err(Stop::Unreadable(text.into_bytes()))
         }
     }
 }
@@ -355,7 +354,7 @@ impl<'a> Names<'a> {
     }
 }
 
-/// What is told where a run gives no report.
+/// Why a run stops without a report, with the line that says so.
 fn stop_for(
     alloc: Global,
     fault: JudgeFault,
@@ -384,14 +383,10 @@ fn stop_for(
         JudgeFault::Held(_) => text.push(b"a job is held")?,
     }
     text.push(b"\n")?;
-    if fault.status() == 1 {
-        Ok(Stop::Input(text.into_bytes()))
-    } else {
-        Ok(Stop::Lacking(text.into_bytes()))
-    }
+    Ok(Stop::NoReport(fault, text.into_bytes()))
 }
 
-/// Adds what is wrong with a text and where: its line, its bytes from the first up to the one behind the last, and its kind.
+/// Adds what is wrong with a text and where: the line, the offsets of the first byte and of the end, and the kind of fault.
 fn push_fault(
     text: &mut Text,
     what: &[u8],
@@ -409,10 +404,10 @@ fn push_fault(
     text.push(fault.kind.word().as_bytes())
 }
 
-/// The line of a place in a text; a place behind its end counts as its end, and a text of 2^31 bytes or more as one line.
-fn line_at(bytes: &[u8], place: u32) -> u32 {
+/// The line of an offset in a text. An offset past the end counts as the end, and a text of 2^31 bytes or more as one line.
+fn line_at(bytes: &[u8], offset: u32) -> u32 {
     if bytes.len() >= 1 << 31 {
         return 1;
     }
-    line_of(bytes, place.min(bytes.len() as u32))
+    line_of(bytes, offset.min(bytes.len() as u32))
 }

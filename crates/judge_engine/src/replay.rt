@@ -1,7 +1,7 @@
 //! The replay over texts: a domain, a problem and steps in, the lines of the answers out.
 //!
-//! [`replay_bytes`] reads the domain and the problem as [`judge_bytes`](crate::engine::judge_bytes) does, reads the steps, asks them of a new
-//! desk, and makes the lines of what it answered.
+//! [`replay_bytes`] reads the domain and the problem as [`judge_bytes`](crate::engine::judge_bytes) does, reads the steps, runs them on a new
+//! desk, and makes the lines of its answers.
 ghost use Rattle.std.specs.Prelude.{◌≡◌, ◌≢◌, ◌≤◌, ◌⊎◌, length, IfNone, IfOk, IfErr, Some, None, Err};
 ghost use Rattle.steps_text.specs.StepsTexts.{steps_text};
 ghost use Rattle.steps_text.specs.Telling.{value_of};
@@ -41,8 +41,8 @@ pub fn replay_bytes(
 /// The lines that a new desk answers to the steps of a text, for the task of a domain text and a problem text, both in this dialect.
 ///
 /// All texts are read before a step is run, and all lines are made before anything is written. Tables of names and atoms hash with the
-/// seed; the lines are the same with any. A replay without lines is refused for the first cause in the order of `JudgeFault`. Running out
-/// of memory can come in place of any cause but that a text is too large.
+/// seed; the lines do not depend on it. If there are no lines, the fault is the first in the order of `JudgeFault`. Running out
+/// of memory can be reported instead of any fault but that a text is too large.
 #[tactic(auto, using(crate::proofs::ReplayAnswers::too_large_text, crate::proofs::ReplayAnswers::no_task, crate::proofs::ReplayAnswers::of_task, crate::proofs::ReplayAnswers::faulty_steps, crate::proofs::ReplayAnswers::lawful_replay))]
 pub fn replay_bytes_in(
     alloc: Global,

@@ -1,4 +1,4 @@
-//! The lines of a replay: what an intake answered, one line an answer.
+//! The lines of a replay: what an intake answered, one answer on each line.
 ghost use Rattle.std.specs.Prelude.{◌≡◌, ◌++◌, ◌∷◌, [], ℕ, List, IfOk, OnOk, codes, decimal};
 ghost use Rattle.intake_rules.specs.Refusals.{refusal_word};
 ghost use Rattle.judge_engine.specs.ReplayText.{refusal_number, reply_text, reply_line, reply_lines};
@@ -55,7 +55,7 @@ fn push_reply(text: &mut Text, task: &Task, reply: &Reply) -> Result<(), AllocEr
     }
 }
 
-/// Adds words and a number behind them.
+/// Adds words, followed by a number.
 fn push_with_number(text: &mut Text, words: &[u8], number: u32) -> Result<(), AllocError>
     ensures { OnOk result (text.new ≡ text.old ++ words.now ++ decimal number) }
 {

@@ -26,7 +26,7 @@ pub struct JudgeRequest<'a> {
     pub domain: &'a str,
     /// The name of the file of the problem.
     pub problem: &'a str,
-    /// The names of the files of plans, one for each planner, who has the name of the file.
+    /// The names of the files of plans, one for each planner; the planner has the name of the file.
     pub plans: Vec<&'a str>,
     /// The dialect of the domain and the problem.
     pub dialect: Dialect,
@@ -49,7 +49,7 @@ pub struct ExplainRequest<'a> {
     pub plans: Vec<&'a str>,
     /// The dialect of the domain and the problem.
     pub dialect: Dialect,
-    /// Whether what each step changes is told, too.
+    /// Whether to show what each step changes, too.
     pub trace: bool,
 }
 

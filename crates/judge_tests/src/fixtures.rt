@@ -1,4 +1,4 @@
-//! The lamp's domain and problem, files that are held in memory, an outlet that stops when it is told to, and flags that are waited for.
+//! The lamp's domain and problem, files that are held in memory, an outlet that stops where it is made to, and flags that are waited for.
 
 ghost use Rattle.std.specs.Prelude.{◌≡◌, false};
 
@@ -130,7 +130,7 @@ fn line(alloc: Global, words: &str) -> Result<Vec<String>, AllocError> {
     Ok(line)
 }
 
-/// The status of a run of these words over the shelf's files; 9 where memory ran out before it.
+/// The status of a run of these words over the shelf's files; 9 if memory ran out before it.
 pub(crate) fn run(
     rt: &(impl AllocGlobal + Threads + Wait + Sync),
     words: &str,
@@ -152,7 +152,7 @@ pub(crate) fn run(
     }
 }
 
-/// Whether a flag is raised before it was looked at a hundred million times.
+/// Whether a flag is raised before it was checked a hundred million times.
 pub(crate) fn is_raised_in_time(flag: &AtomicBool) -> bool {
     for _ in 0..100_000_000u32 {
         if flag.load(Ordering::SeqCst) {

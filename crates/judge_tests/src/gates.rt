@@ -12,6 +12,7 @@ use judge_engine::report::Report;
 use std::alloc::{AllocError, Global};
 use std::sync::atomic::{AtomicBool, Ordering};
 use std::sync::{Arc, Wait};
+use std::test::Fail;
 use std::thread::Threads;
 
 /// The gate that may hold the jobs from one to another, and holds them all.
@@ -31,7 +32,7 @@ impl Gate for Holds {
     }
 }
 
-/// The gate where jobs 0 and 1 wait for each other, and are held where that takes too long.
+/// The gate where jobs 0 and 1 wait for each other, and are held if that takes too long.
 #[derive(Drop)]
 pub(crate) struct Meeting {
     asked_of_0: AtomicBool,
@@ -62,7 +63,7 @@ impl Gate for Meeting {
     }
 }
 
-/// Raises a flag and waits for the other, in vain where that takes too long.
+/// Raises a flag and waits for the other, in vain if that takes too long.
 fn waits_in_vain(mine: &AtomicBool, other: &AtomicBool) -> bool {
     mine.store(true, Ordering::SeqCst);
     !is_raised_in_time(other)
@@ -114,53 +115,58 @@ fn judged<G: Gate + Sync>(
     judged_all(rt, &[bundle(rt.alloc(), plans)?], workers, gate)
 }
 
-/// The first of the held jobs from `first` to `last` that a run over three plans tells.
-fn held(
+/// Why a run over three plans gives no report, if it gives none, with a gate that holds the jobs from `first` to `last`.
+fn fault_of_holding(
     rt: &(impl AllocGlobal + Threads + Wait + Sync),
     workers: u32,
     first: u32,
     last: u32,
-) -> Option<u32>
+) -> Option<JudgeFault>
     requires { (1 ≤ workers) × (workers ≤ 32) }
 {
-    match judged(rt, THREE, workers, &Holds { first, last }) {
-        Err(JudgeFault::Held(job)) => Some(job),
-        _ => None,
-    }
+    judged(rt, THREE, workers, &Holds { first, last }).err()
 }
 
 #[test]
 fn a_held_job_is_told(rt: HostRuntime) {
     for workers in [1, 2, 32] {
-        assert!(rt; held(&rt, workers, 1, 1) == Some(1));
-        assert!(rt; matches!(held(&rt, workers, 1, 2), Some(1 | 2)));
-        assert!(rt; judged(&rt, THREE, workers, &Holds { first: 3, last: 9 }).is_ok());
+        let one = fault_of_holding(&rt, workers, 1, 1);
+        assert_eq!(rt; one, Some(JudgeFault::Held(1)), "{workers} workers");
+        let two = fault_of_holding(&rt, workers, 1, 2);
+        assert!(rt;
+            matches!(two, Some(JudgeFault::Held(1 | 2))),
+            "{workers} workers: {two:?}"
+        );
+        let none = fault_of_holding(&rt, workers, 3, 9);
+        assert_eq!(rt; none, None, "{workers} workers");
     }
 }
 
 #[test]
-fn two_workers_judge_at_once(rt: HostRuntime) {
+fn two_workers_judge_at_once(rt: HostRuntime) -> Result<(), Fail> {
     let expected: &[u8] =
         b"domain lamp problem lamp-1\np 1 valid 1\np 2 valid 1\np plans 2 valid 2 best 1\n";
-    let met = judged(&rt, TWO, 2, &Meeting::new());
+    let met = judged(&rt, TWO, 2, &Meeting::new())?;
+    assert_eq!(rt; met.bytes(), expected);
+    let alone = judged(&rt, TWO, 1, &Meeting::new()).err();
     assert!(rt;
-        met.is_ok_and(|report| report.bytes() == expected),
-        "both jobs were asked for at once"
+        matches!(alone, Some(JudgeFault::Held(0 | 1))),
+        "one worker: {alone:?}"
     );
-    let alone = judged(&rt, TWO, 1, &Meeting::new());
-    assert!(rt;
-        alone.is_err_and(|fault| { fault == JudgeFault::Held(0) || fault == JudgeFault::Held(1) })
-    );
+    Ok(())
 }
 
-/// Whether a run without planners writes these bytes.
-fn writes_of_none(rt: &(impl AllocGlobal + Threads + Wait + Sync), expected: &[u8]) -> bool {
-    judged_all(rt, &[], 4, &Open).is_ok_and(|report| report.bytes() == expected)
+/// The report of a run without planners.
+fn judged_none(rt: &(impl AllocGlobal + Threads + Wait + Sync)) -> Result<Report, JudgeFault> {
+    judged_all(rt, &[], 4, &Open)
 }
 
 #[test]
-fn a_run_without_planners_has_the_first_line_alone(rt: HostRuntime) {
-    assert!(rt; writes_of_none(&rt, b"domain lamp problem lamp-1\n"));
+fn a_run_without_planners_has_the_first_line_alone(rt: HostRuntime) -> Result<(), Fail> {
+    let expected: &[u8] = b"domain lamp problem lamp-1\n";
+    let report = judged_none(&rt)?;
+    assert_eq!(rt; report.bytes(), expected);
+    Ok(())
 }
 
 #[test]

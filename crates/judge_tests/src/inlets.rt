@@ -3,6 +3,7 @@
 use judge_engine::inlet::{Feed, InFault, read_file};
 use std::io;
 use std::io::{ErrorKind, Read};
+use std::test::Fail;
 
 /// A reader that gives one byte at a time, and then ends or fails.
 #[derive(Drop)]
@@ -29,13 +30,19 @@ impl Read for Drip<'_> {
 }
 
 #[test]
-fn readers_that_stop(rt: HostRuntime) {
+fn readers_that_stop(rt: HostRuntime) -> Result<(), Fail> {
     let text: &[u8] = b"(light)";
     for count in 0..=text.len() {
         let left = &text[..count];
         let whole = read_file(rt.alloc(), &mut Feed::new(Drip { left, fails: false }));
-        assert!(rt; whole.is_ok_and(|bytes| bytes.as_slice() == left));
+        let expected = left.to_vec(rt.alloc())?;
+        assert_eq!(rt; whole, Ok(expected), "ending after {count} bytes");
         let failed = read_file(rt.alloc(), &mut Feed::new(Drip { left, fails: true }));
-        assert!(rt; failed.is_err_and(|fault| fault == InFault::Unreadable));
+        assert_eq!(rt;
+            failed,
+            Err(InFault::Unreadable),
+            "failing after {count} bytes"
+        );
     }
+    Ok(())
 }

@@ -35,7 +35,7 @@ impl Gate for Watched {
     }
 }
 
-/// The intake of two plans. It gives the second when the flag is raised, or where that takes too long.
+/// The intake of two plans. It gives the second when the flag is raised, or if that takes too long.
 #[derive(Drop)]
 struct Late<'a> {
     first: Option<Submission>,
@@ -89,17 +89,41 @@ fn two_lights(alloc: Global) -> Result<Vec<Submission>, AllocError>
     Ok(plans)
 }
 
-/// Whether there are two findings of one planner, and each says that the plan is valid and has one step.
-fn are_both_valid(findings: &Findings) -> bool {
-    if findings.planners() != 1 || findings.plans(0) != 2 {
-        return false;
+/// How many steps a plan has, if it is valid.
+pub(crate) fn steps_if_valid(verdict: &Verdict) -> Option<u32> {
+    match verdict {
+        Verdict::Valid { steps } => Some(*steps),
+        _ => None,
     }
-    for plan in 0..2 {
-        if !matches!(findings.get(0, plan).verdict, Verdict::Valid { steps: 1 }) {
-            return false;
-        }
+}
+
+/// What the findings of a run are about.
+#[derive(Clone, Copy, Debug, PartialEq, Eq)]
+enum Found {
+    /// Two plans of one planner, and how many steps each has if it is valid.
+    TwoOfOne([Option<u32>; 2]),
+    /// A number of planners other than one.
+    Planners(usize),
+    /// One planner, with a number of plans other than two.
+    Plans(usize),
+}
+
+/// Two plans of one planner, both valid and of one step.
+const BOTH_VALID: Found = Found::TwoOfOne([Some(1), Some(1)]);
+
+/// Sums up findings as a value that can be compared.
+fn summary(findings: &Findings) -> Found {
+    let planners = findings.planners();
+    if planners != 1 {
+        return Found::Planners(planners);
     }
-    true
+    let plans = findings.plans(0);
+    if plans != 2 {
+        return Found::Plans(plans);
+    }
+    let first = steps_if_valid(&findings.get(0, 0).verdict);
+    let second = steps_if_valid(&findings.get(0, 1).verdict);
+    Found::TwoOfOne([first, second])
 }
 
 /// The intake of two plans that light the lamp, the second of which waits for the flag.
@@ -134,7 +158,7 @@ fn judges_while_the_intake_goes_on(rt: HostRuntime) -> Result<(), Fail> {
     };
     let mut intake = two_with_a_pause(rt.alloc(), &gate.asked_of_0)?;
     let findings = run_late(&rt, &task, &mut intake, &gate)?;
-    assert!(rt; are_both_valid(&findings));
+    assert_eq!(rt; summary(&findings), BOTH_VALID);
     assert!(rt;
         intake.was_asked,
         "job 0 was taken before the second plan came"
@@ -160,12 +184,12 @@ fn run_meeting(
 #[test]
 fn two_workers_are_at_work_at_once(rt: HostRuntime) -> Result<(), Fail> {
     let task = lamp_1(rt.alloc())?;
-    let met = run_meeting(&rt, &task, two_lights(rt.alloc())?, 2);
+    let met = run_meeting(&rt, &task, two_lights(rt.alloc())?, 2)?;
+    assert_eq!(rt; summary(&met), BOTH_VALID);
+    let alone = run_meeting(&rt, &task, two_lights(rt.alloc())?, 1).err();
     assert!(rt;
-        met.is_ok_and(|findings| are_both_valid(&findings)),
-        "both jobs were asked for at once"
+        matches!(alone, Some(RunFault::Held(0 | 1))),
+        "one worker: {alone:?}"
     );
-    let alone = run_meeting(&rt, &task, two_lights(rt.alloc())?, 1);
-    assert!(rt; alone.is_err_and(|fault| fault == RunFault::Held(0) || fault == RunFault::Held(1)));
     Ok(())
 }

@@ -1,37 +1,59 @@
 //! Outlets that stop after any number of bytes.
 
 use crate::fixtures::{JUDGE, Narrow, REPORT, run};
+use std::alloc::{AllocError, Global};
 use std::sync::Wait;
+use std::test::Fail;
 use std::thread::Threads;
 
-/// Whether a run to an outlet that takes one byte at a time, and `room` bytes in all, writes a front of the report and ends as it should.
-fn writes_front(rt: &(impl AllocGlobal + Threads + Wait + Sync), room: usize, fails: bool) -> bool {
+/// How a run ended, and what it wrote.
+#[derive(Debug, Drop, PartialEq)]
+struct Written {
+    status: u8,
+    report: Vec<u8>,
+    errors: Vec<u8>,
+}
+
+/// What a run writes to an outlet that takes one byte at a time, and `room` bytes in all.
+fn write_to(rt: &(impl AllocGlobal + Threads + Wait + Sync), room: usize, fails: bool) -> Written {
     let mut out = Narrow::new(rt.alloc(), 1, room, fails);
     let mut err = Narrow::wide(rt.alloc());
     let status = run(rt, JUDGE, &mut out, &mut err);
-    let (expected, told): (u8, &[u8]) = if room < REPORT.len() {
+    Written {
+        status,
+        report: out.taken,
+        errors: err.taken,
+    }
+}
+
+/// What a run has to write if its outlet takes no more than this front of the report.
+fn written_of(alloc: Global, front: &[u8]) -> Result<Written, AllocError> {
+    let (status, errors): (u8, &[u8]) = if front.len() < REPORT.len() {
         (4, b"cannot write the report\n")
     } else {
         (0, b"")
     };
-    status == expected
-        && out.taken.len() == room.min(REPORT.len())
-        && REPORT.starts_with(out.taken.as_slice())
-        && err.taken.as_slice() == told
+    Ok(Written {
+        status,
+        report: front.to_vec(alloc)?,
+        errors: errors.to_vec(alloc)?,
+    })
 }
 
 #[test]
-fn reports_are_written_from_the_front(rt: HostRuntime) {
-    for room in 0..=REPORT.len() {
-        assert!(rt; writes_front(&rt, room, true), "failing after {room} bytes");
-        assert!(rt;
-            writes_front(&rt, room, false),
-            "taking none after {room} bytes"
-        );
+fn reports_are_written_from_the_front(rt: HostRuntime) -> Result<(), Fail> {
+    let report: &[u8] = REPORT;
+    for room in 0..=report.len() {
+        let expected = written_of(rt.alloc(), &report[..room])?;
+        let failing = write_to(&rt, room, true);
+        assert_eq!(rt; failing, expected, "failing after {room} bytes");
+        let full = write_to(&rt, room, false);
+        assert_eq!(rt; full, expected, "taking none after {room} bytes");
     }
+    Ok(())
 }
 
-/// The status of a run whose outlets take `room` bytes of the report and `told` bytes of what is told of errors.
+/// The status of a run whose outlets take `room` bytes of the report and `told` bytes of the error messages.
 fn status_with(
     rt: &(impl AllocGlobal + Threads + Wait + Sync),
     words: &str,

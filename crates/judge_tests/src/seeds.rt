@@ -12,6 +12,7 @@ use std::hash::{BuildHasher, RandomState};
 use std::io;
 use std::random::RandomSource;
 use std::sync::Wait;
+use std::test::Fail;
 use std::thread::Threads;
 
 /// A source of bytes that are all the same.
@@ -56,13 +57,12 @@ const REPORT: &[u8] =
     b"domain lamp problem lamp-1\np 1 valid 1\np 2 fails at 2 (light): missing (dark)\np plans 2 valid 1 best 1\n";
 
 #[test]
-fn a_seed_changes_hashes_and_no_report(rt: HostRuntime) {
-    let (Ok(one), Ok(other)) = (seed_of(1), seed_of(2)) else {
-        return assert!(rt; false, "the bytes are always given");
-    };
-    let hashes = (hash_of_dark(&rt, one), hash_of_dark(&rt, other));
-    assert!(rt; matches!(hashes, (Ok(first), Ok(second)) if first != second));
+fn a_seed_changes_hashes_and_no_report(rt: HostRuntime) -> Result<(), Fail> {
+    let one = seed_of(1)?;
+    let other = seed_of(2)?;
+    assert_ne!(rt; hash_of_dark(&rt, one)?, hash_of_dark(&rt, other)?);
     for seed in [one, other] {
-        assert!(rt; report(&rt, seed).is_ok_and(|report| report.bytes() == REPORT));
+        assert_eq!(rt; report(&rt, seed)?.bytes(), REPORT);
     }
+    Ok(())
 }

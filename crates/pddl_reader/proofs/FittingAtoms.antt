@@ -8,11 +8,11 @@ use Rattle.std.specs.Map.{values_of}
 use Rattle.std.specs.Option.{option_map}
 use Rattle.strips_task.specs.declared.actions.Pattern.{Pattern}
 use Rattle.strips_task.specs.declared.actions.Term.{Term}
-use Rattle.strips_task.specs.declared.actions.Term.TheVariants.{Param, Object}
+use Rattle.strips_task.specs.declared.actions.Term.TheVariants.{Object}
 use Rattle.strips_task.specs.declared.atoms.Atom.{Atom}
 use Rattle.strips_task.specs.declared.tasks.TaskParts.{TaskParts}
 use Rattle.strips_task.specs.WellFormed.{term_types, is_fitting, are_fitting, is_pattern, is_atom}
-use Rattle.pddl_reader.specs.Declarations.{Known, types_of_term, fitted_all, fitted_places, object_number, term_named, term_fitted, term_in_place, object_fitted, object_in_place, pattern_with, pattern_by, pattern_of, ground_with, ground_by, ground_of, predicate_number}
+use Rattle.pddl_reader.specs.Declarations.{Known, fitted_all, fitted_places, object_number, term_named, term_fitted, term_in_place, object_fitted, object_in_place, pattern_with, pattern_by, pattern_of, ground_with, ground_by, ground_of, predicate_number}
 use Rattle.pddl_reader.specs.Functions.{Vocabulary}
 use Rattle.pddl_syntax.specs.Optional.{followed_by}
 use Rattle.pddl_syntax.specs.Syntax.{AtomForm}
@@ -26,11 +26,6 @@ known_of task = record { parents = task.parents; objects = task.objects; predica
 -- the same, beside functions
 abbrev pub vocabulary_of : TaskParts → Known → Vocabulary
 vocabulary_of task functions = record { atoms = known_of task; functions = functions }
-
-pub same_types : (task : TaskParts) (params : List (List ℕ)) (t : Term) → types_of_term (known_of task) params t ≡ term_types task params t
-unfolding types_of_term term_types
-same_types task params (Param n) = refl
-same_types task params (Object n) = refl
 
 -- items that fit their places one by one
 record AreInPlaces {A : Type 0} (parents : List ℕ) (types : A → Option (List ℕ)) (places : List (List ℕ)) (items : List A) : Type 0 where
@@ -70,30 +65,30 @@ module _ {A : Type 0} (parents : List ℕ) (types : A → Option (List ℕ)) (fi
       rw (eq-eqb (length (map types items)) (length places) (length-map items types ∙ all.as_many), all.fitting) refl
 
 term_fits_by : (task : TaskParts) (params : List (List ℕ)) (place : List ℕ) (found : Option Term) (x : Term) → term_fitted (known_of task) params place found ≡ Some x →
-    is_fitting task.parents (term_types task params x) place ≡ true
+    is_fitting task.parents (term_types task.objects params x) place ≡ true
 unfolding term_fitted
 term_fits_by task params place None x h = cc
 term_fits_by task params place (Some t) x h =
-    let held = guard_held (is_fitting task.parents (types_of_term (known_of task) params t) place) t x h in
-    let P : Term → Type 0 = λ y. is_fitting task.parents (term_types task params y) place ≡ true in
-    subst P held.1 (rw (← same_types task params t) held.0)
+    let held = guard_held (is_fitting task.parents (term_types task.objects params t) place) t x h in
+    let P : Term → Type 0 = λ y. is_fitting task.parents (term_types task.objects params y) place ≡ true in
+    subst P held.1 held.0
 
 term_fits : (task : TaskParts) (p : Parameters) (place word : List ℕ) (x : Term) → term_in_place (known_of task) p place word ≡ Some x →
-    is_fitting task.parents (term_types task p.types x) place ≡ true
+    is_fitting task.parents (term_types task.objects p.types x) place ≡ true
 unfolding term_in_place
 term_fits task p place word x h = term_fits_by task p.types place (term_named (known_of task) p word) x h
 
 object_fits_by : (task : TaskParts) (place : List ℕ) (found : Option ℕ) (x : ℕ) → object_fitted (known_of task) place found ≡ Some x →
-    is_fitting task.parents (term_types task [] (Object x)) place ≡ true
+    is_fitting task.parents (term_types task.objects [] (Object x)) place ≡ true
 unfolding object_fitted
 object_fits_by task place None x h = cc
 object_fits_by task place (Some n) x h =
-    let held = guard_held (is_fitting task.parents (types_of_term (known_of task) [] (Object n)) place) n x h in
-    let P : ℕ → Type 0 = λ y. is_fitting task.parents (term_types task [] (Object y)) place ≡ true in
-    subst P held.1 (rw (← same_types task [] (Object n)) held.0)
+    let held = guard_held (is_fitting task.parents (term_types task.objects [] (Object n)) place) n x h in
+    let P : ℕ → Type 0 = λ y. is_fitting task.parents (term_types task.objects [] (Object y)) place ≡ true in
+    subst P held.1 held.0
 
 object_fits : (task : TaskParts) (place word : List ℕ) (x : ℕ) → object_in_place (known_of task) place word ≡ Some x →
-    is_fitting task.parents (term_types task [] (Object x)) place ≡ true
+    is_fitting task.parents (term_types task.objects [] (Object x)) place ≡ true
 unfolding object_in_place
 object_fits task place word x h = object_fits_by task place (object_number task.objects word) x h
 
@@ -110,7 +105,7 @@ pattern_fits_in task p words number pattern (Some places) e h = by (fitted_all (
     by (Some ts) k g =
         let same : pattern_with number ts ≡ pattern = cc in
         let P : Pattern → Type 0 = λ q. is_pattern task p.types q ≡ true in
-        subst P same (rw e (fitted task.parents (term_types task p.types) (term_in_place (known_of task) p) (term_fits task p) places words ts k))
+        subst P same (rw e (fitted task.parents (term_types task.objects p.types) (term_in_place (known_of task) p) (term_fits task p) places words ts k))
 
 pattern_fits_by : (task : TaskParts) (p : Parameters) (words : List (List ℕ)) (number : Option ℕ) (pattern : Pattern) →
     pattern_by (known_of task) p words number ≡ Some pattern → is_pattern task p.types pattern ≡ true
@@ -136,7 +131,7 @@ atom_fits_in task words number atom (Some places) e h = by (fitted_all (object_i
     by (Some ns) k g =
         let same : ground_with number ns ≡ atom = cc in
         let P : Atom → Type 0 = λ a. is_atom task a ≡ true in
-        subst P same (rw e (fitted task.parents (λ o. term_types task [] (Object o)) (object_in_place (known_of task)) (object_fits task) places words ns k))
+        subst P same (rw e (fitted task.parents (λ o. term_types task.objects [] (Object o)) (object_in_place (known_of task)) (object_fits task) places words ns k))
 
 atom_fits_by : (task : TaskParts) (words : List (List ℕ)) (number : Option ℕ) (atom : Atom) → ground_by (known_of task) words number ≡ Some atom → is_atom task atom ≡ true
 unfolding ground_by

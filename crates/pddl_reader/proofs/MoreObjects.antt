@@ -62,7 +62,7 @@ object_stays task objects front n type h =
     rw (front.1, map-append (λ (e : List ℕ × ℕ). e.1) task.objects front.0, slice_get-more (values_of task.objects) (values_of front.0) n (slice_get_within (values_of task.objects) n type h)) h
 
 types_stay : (task : TaskParts) (objects : Objects) → IsFront task.objects objects → (params : List (List ℕ)) (t : Term) (types : List ℕ) →
-    term_types task params t ≡ Some types → term_types (over task objects) params t ≡ Some types
+    term_types task.objects params t ≡ Some types → term_types objects params t ≡ Some types
 unfolding term_types
 types_stay task objects front params (Param place) types h = h
 types_stay task objects front params (Object n) types h = by (slice_get (values_of task.objects) n) (object_stays task objects front n) h
@@ -76,7 +76,7 @@ pattern_stays : (task : TaskParts) (objects : Objects) → IsFront task.objects 
     is_pattern task params p ≡ true → is_pattern (over task objects) params p ≡ true
 unfolding is_pattern
 pattern_stays task objects front params p h =
-    are_fitting-weaker task.parents (term_types task params) (term_types (over task objects) params) (types_stay task objects front params) p.terms
+    are_fitting-weaker task.parents (term_types task.objects params) (term_types objects params) (types_stay task objects front params) p.terms
     (slice_get (values_of task.preds) p.pred) h
 
 known_stays : (task : TaskParts) (objects : Objects) → IsFront task.objects objects → (params : List (List ℕ)) (t : Term) →

@@ -2,16 +2,13 @@
 
 use Rattle.std.proofs.Common.{◌≡◌, ℕ, true, false, List, [], ◌∷◌, Option, Some, None, refl}
 use Rattle.std.proofs.lemmas.List.{append-nil}
-use Rattle.std.specs.List.{slice_get}
-use Rattle.std.specs.Map.{values_of}
 use Rattle.pddl_words.specs.Words.{folded}
 use Rattle.strips_task.specs.declared.actions.Term.{Term}
 use Rattle.strips_task.specs.declared.actions.Term.TheVariants.{Param, Object}
 use Rattle.strips_task.specs.Names.{number_named}
-use Rattle.strips_task.specs.Types.{fits}
-use Rattle.strips_task.specs.WellFormed.{is_fitting}
+use Rattle.strips_task.specs.WellFormed.{is_fitting, term_types}
 use Rattle.pddl_syntax.specs.declared.walk.Word.{Word}
-use Rattle.pddl_reader.specs.Declarations.{Known, types_of_term, fitted_all, object_number, term_named, term_fitted, term_in_place, object_fitted, object_in_place}
+use Rattle.pddl_reader.specs.Declarations.{Known, fitted_all, object_number, term_named, term_fitted, term_in_place, object_fitted, object_in_place}
 use Rattle.pddl_syntax.specs.Forms.{word_forms}
 use Rattle.pddl_syntax.specs.Heads.{is_variable}
 use Rattle.pddl_reader.specs.Objects.{Objects}
@@ -19,28 +16,6 @@ use Rattle.pddl_syntax.specs.Optional.{guard, with_front}
 use Rattle.pddl_reader.specs.Variables.{Parameters, parameter_number}
 use Rattle.pddl_reader.proofs.Items.{item_steps, word_item_steps}
 use Rattle.pddl_syntax.proofs.ListsOf.{with_item, with_front-followed_by, item_none, item_some, front_none}
-
-pub parameter_fits : (known : Known) (params : List (List ℕ)) (place : List ℕ) (number : ℕ) (types : List ℕ) → slice_get params number ≡ Some types →
-    is_fitting known.parents (types_of_term known params (Param number)) place ≡ fits known.parents types place
-unfolding types_of_term is_fitting
-parameter_fits known params place number types h = rw h refl
-
-pub parameter_unknown : (known : Known) (params : List (List ℕ)) (place : List ℕ) (number : ℕ) → slice_get params number ≡ None →
-    is_fitting known.parents (types_of_term known params (Param number)) place ≡ false
-unfolding types_of_term is_fitting
-parameter_unknown known params place number h = rw h refl
-
-pub object_fits : (known : Known) (params : List (List ℕ)) (place : List ℕ) (number type : ℕ) → slice_get (values_of known.objects) number ≡ Some type →
-    is_fitting known.parents (types_of_term known params (Object number)) place ≡ fits known.parents (type ∷ []) place
-unfolding types_of_term is_fitting
-object_fits known params place number type h = rw h refl
-
-pub object_unknown : (known : Known) (params : List (List ℕ)) (place : List ℕ) (number : ℕ) → slice_get (values_of known.objects) number ≡ None →
-    is_fitting known.parents (types_of_term known params (Object number)) place ≡ false
-unfolding types_of_term is_fitting
-object_unknown known params place number h = rw h refl
-
-pub ruleset fitting_steps = (parameter_fits, parameter_unknown, object_fits, object_unknown)
 
 pub object_named : (objects : Objects) (w : List ℕ) → object_number objects w ≡ number_named objects (folded w)
 unfolding object_number
@@ -53,12 +28,12 @@ unfolding object_in_place object_fitted
 object_missing known place w h = rw h refl
 
 pub object_misplaced : (known : Known) (place w : List ℕ) (number : ℕ) → object_number known.objects w ≡ Some number →
-    is_fitting known.parents (types_of_term known [] (Object number)) place ≡ false → object_in_place known place w ≡ None
+    is_fitting known.parents (term_types known.objects [] (Object number)) place ≡ false → object_in_place known place w ≡ None
 unfolding object_in_place object_fitted guard
 object_misplaced known place w number h e = rw (h, e) refl
 
 pub object_placed : (known : Known) (place w : List ℕ) (number : ℕ) → object_number known.objects w ≡ Some number →
-    is_fitting known.parents (types_of_term known [] (Object number)) place ≡ true → object_in_place known place w ≡ Some number
+    is_fitting known.parents (term_types known.objects [] (Object number)) place ≡ true → object_in_place known place w ≡ Some number
 unfolding object_in_place object_fitted guard
 object_placed known place w number h e = rw (h, e) refl
 
@@ -100,12 +75,12 @@ unfolding term_in_place term_fitted
 term_missing known p place w h = rw h refl
 
 pub term_misplaced : (known : Known) (p : Parameters) (place w : List ℕ) (term : Term) → term_named known p w ≡ Some term →
-    is_fitting known.parents (types_of_term known p.types term) place ≡ false → term_in_place known p place w ≡ None
+    is_fitting known.parents (term_types known.objects p.types term) place ≡ false → term_in_place known p place w ≡ None
 unfolding term_in_place term_fitted guard
 term_misplaced known p place w term h e = rw (h, e) refl
 
 pub term_placed : (known : Known) (p : Parameters) (place w : List ℕ) (term : Term) → term_named known p w ≡ Some term →
-    is_fitting known.parents (types_of_term known p.types term) place ≡ true → term_in_place known p place w ≡ Some term
+    is_fitting known.parents (term_types known.objects p.types term) place ≡ true → term_in_place known p place w ≡ Some term
 unfolding term_in_place term_fitted guard
 term_placed known p place w term h e = rw (h, e) refl
 

@@ -1,6 +1,6 @@
 -- Types declared and ordered, one equation for each case.
 
-use Rattle.std.proofs.Common.{◌≡◌, ◌≢◌, ℕ, ◌+◌, ◌<◌, ◌≤◌, ◌++◌, Bool, true, false, ◌||◌, nat_eq, nat_lt, is_some, List, [], ◌∷◌, length, map, take, drop, get_or, Option, Some, None, unwrap_or, if◌then◌else◌, refl, sym, ◌∙◌, subst, true≢false, arith, length-append, append_assoc, add-one, suc, zero, ◌↔◌, IsTrue}
+use Rattle.std.proofs.Common.{◌≡◌, ℕ, ◌+◌, ◌<◌, ◌≤◌, ◌++◌, Bool, true, false, ◌||◌, nat_lt, is_some, List, [], ◌∷◌, length, map, drop, Option, Some, None, if◌then◌else◌, refl, arith, length-append, append_assoc, add-one, suc, zero}
 use Rattle.std.proofs.lemmas.List.{drop_all, append-nil}
 use Rattle.std.proofs.lemmas.Bool.{le-ltb, lt-ltb, ltb-true}
 use Rattle.std.specs.List.{slice_get, list_any}

@@ -2,7 +2,7 @@
 
 use Rattle.std.proofs.Common.{◌≡◌, ℕ, ◌+◌, ◌<◌, ◌≤◌, ◌++◌, ◌&&◌, Bool, true, false, nat_le, nat_lt, is_none, is_some, List, [], ◌∷◌, length, map, drop, get_or, Option, Some, None, refl, sym, ◌∙◌, arith, append_assoc, length-append}
 use Rattle.std.proofs.lemmas.Bool.{le-ltb, lt-ltb, leb-true}
-use Rattle.std.proofs.lemmas.List.{append-nil, length-map, map_push}
+use Rattle.std.proofs.lemmas.List.{append-nil, length-map}
 use Rattle.std.specs.List.{position_from}
 use Rattle.std.specs.Option.{option_map}
 use Rattle.pddl_words.specs.Kinds.{is_same_word}
@@ -14,10 +14,10 @@ use Rattle.pddl_syntax.specs.Optional.{guard, through}
 use Rattle.pddl_syntax.specs.Syntax.{VariableGroup}
 use Rattle.pddl_reader.specs.Variables.{alternative_behind, alternative_named, alternatives_of, places_behind, group_placed, places_of, Parameters, parameter_number, parameter_named, parameters_with, group_named, parameters_of}
 use Rattle.std.proofs.lemmas.List.{drop_all}
-use Rattle.pddl_reader.proofs.Items.{item_steps, word_at, word_item_steps}
+use Rattle.pddl_reader.proofs.Items.{word_at, word_item_steps}
 use Rattle.pddl_reader.proofs.ObjectSteps.{named_steps}
 use Rattle.pddl_syntax.proofs.Guards.{guard_held}
-use Rattle.pddl_reader.proofs.Through.{through_behind, through_item, through_end, through_steps, through_keeps}
+use Rattle.pddl_reader.proofs.Through.{through_behind, through_item, through_end, through_steps}
 use Rattle.pddl_syntax.proofs.WordSteps.{no_words, word_forms-push}
 
 pub alternatives_many : (types : List (List ℕ)) (numbers word : List ℕ) → 32 ≤ length numbers → alternative_named types numbers word ≡ None

@@ -8,7 +8,7 @@ use Rattle.strips_task.specs.declared.atoms.Atom.{Atom}
 use Rattle.strips_task.specs.declared.actions.Pattern.{Pattern}
 use Rattle.strips_task.specs.declared.actions.Term.{Term}
 use Rattle.strips_task.specs.declared.actions.Term.TheVariants.{Param, Object}
-use Rattle.strips_task.specs.WellFormed.{is_fitting}
+use Rattle.strips_task.specs.WellFormed.{is_fitting, term_types}
 use Rattle.pddl_syntax.specs.Heads.{is_variable}
 use Rattle.pddl_reader.specs.Objects.{Objects}
 use Rattle.pddl_reader.specs.Variables.{Parameters, parameter_number}
@@ -18,7 +18,7 @@ use Rattle.strips_task.specs.Names.{number_named}
 use Rattle.pddl_syntax.specs.Optional.{guard, followed_by}
 use Rattle.pddl_syntax.specs.Syntax.{AtomForm, LiteralForm, atom_literal, equality_literal, increase_literal, value_literal}
 
--- the declared predicates: for each its name and, for each argument, the types of which it may be
+-- the declared predicates: for each its name and, for each argument, the types that it may have
 abbrev pub Predicates : Type 0
 Predicates = List (List ℕ × List (List ℕ))
 
@@ -30,43 +30,38 @@ may_declare most table name = is_none (number_named table name) && nat_lt (lengt
 unfoldable pub declared : {V : Type 0} → ℕ → List (List ℕ × V) → List ℕ → V → Option (List (List ℕ × V))
 declared most table name value = guard (may_declare most table name) (Some (table ++ (name, value) ∷ []))
 
--- whether the places are as many as the terms
+-- whether there is a predicate, and it has `count` arguments
 abbrev pub are_as_many : Option (List (List ℕ)) → ℕ → Bool
 are_as_many None count = false
 are_as_many (Some places) count = nat_eq (length places) count
 
--- whether the predicate with a number takes so many terms
+-- whether the predicate with a number takes `count` terms
 unfoldable pub takes_terms : Predicates → ℕ → ℕ → Bool
 takes_terms predicates number count = are_as_many (slice_get (values_of predicates) number) count
 
--- the number of a predicate that is declared and takes so many terms
+-- the number of a predicate, if it is declared and takes `count` terms
 unfoldable pub predicate_taking : Predicates → ℕ → Option ℕ → Option ℕ
 predicate_taking predicates count None = None
 predicate_taking predicates count (Some number) = guard (takes_terms predicates number count) (Some number)
 
--- the number of an atom's predicate, where it takes so many terms
+-- the number of an atom's predicate, if it takes as many terms as the atom has
 unfoldable pub predicate_number : Predicates → AtomForm → Option ℕ
 predicate_number predicates atom = predicate_taking predicates (length atom.terms) (number_named predicates (folded atom.predicate))
 
--- what atoms may speak of: types with their order, objects and predicates
+-- what atoms may name: types with their order, objects and predicates
 pub record Known : Type 0 where
   pub parents : List ℕ
   pub objects : Objects
   pub predicates : Predicates
 
--- the types of a term, where there is such a parameter or object
-unfoldable pub types_of_term : Known → List (List ℕ) → Term → Option (List ℕ)
-types_of_term known params (Param place) = slice_get params place
-types_of_term known params (Object object) = option_map (λ type. type ∷ []) (slice_get (values_of known.objects) object)
-
--- a term for each place, where there are as many and each fits
+-- what each word stands for, if there are as many words as arguments and each fits its argument
 unfoldable pub fitted_all : {A : Type 0} → (List ℕ → List ℕ → Option A) → List (List ℕ) → List (List ℕ) → Option (List A)
 fitted_all fit [] [] = Some []
 fitted_all fit [] (word ∷ words) = None
 fitted_all fit (place ∷ places) [] = None
 fitted_all fit (place ∷ places) (word ∷ words) = followed_by (fit place word) (fitted_all fit places words)
 
--- what the words stand for, each fitting its place, if there are such places
+-- what the words stand for, if there is such a predicate and each word fits its argument
 unfoldable pub fitted_places : {A : Type 0} → (List ℕ → List ℕ → Option A) → Option (List (List ℕ)) → List (List ℕ) → Option (List A)
 fitted_places fit None words = None
 fitted_places fit (Some places) words = fitted_all fit places words
@@ -81,21 +76,21 @@ term_named known parameters word =
     (if is_variable word then option_map (λ number. Param number) (parameter_number parameters.names word)
     else option_map (λ number. Object number) (object_number known.objects word))
 
--- a term that fits its place: each of its types is below some type of the place
+-- a term that fits its argument: each of its types is below some type that the argument may have
 unfoldable pub term_fitted : Known → List (List ℕ) → List ℕ → Option Term → Option Term
 term_fitted known params place None = None
-term_fitted known params place (Some term) = guard (is_fitting known.parents (types_of_term known params term) place) (Some term)
+term_fitted known params place (Some term) = guard (is_fitting known.parents (term_types known.objects params term) place) (Some term)
 
--- the term that a word stands for, if its type fits the place
+-- the term that a word stands for, if it fits its argument
 unfoldable pub term_in_place : Known → Parameters → List ℕ → List ℕ → Option Term
 term_in_place known parameters place word = term_fitted known parameters.types place (term_named known parameters word)
 
--- an object that fits its place
+-- an object that fits its argument
 unfoldable pub object_fitted : Known → List ℕ → Option ℕ → Option ℕ
 object_fitted known place None = None
-object_fitted known place (Some number) = guard (is_fitting known.parents (types_of_term known [] (Object number)) place) (Some number)
+object_fitted known place (Some number) = guard (is_fitting known.parents (term_types known.objects [] (Object number)) place) (Some number)
 
--- the object that a word names, if its type fits the place
+-- the object that a word names, if it fits its argument
 unfoldable pub object_in_place : Known → List ℕ → List ℕ → Option ℕ
 object_in_place known place word = object_fitted known place (object_number known.objects word)
 
@@ -131,7 +126,7 @@ ground_of known atom = ground_by known atom.terms (predicate_number known.predic
 abbrev pub condition : Bool → Pattern → Cond
 condition positive pattern = record { positive = positive; formula = asked.Atom pattern }
 
--- a condition that two terms, where both are known, stand for the same object or for two. They may be of any types
+-- the condition that two terms, of any types, stand for the same object, or for different ones, if both are known
 unfoldable pub equality_by : Bool → Option Term → Option Term → Option Cond
 equality_by positive None right = None
 equality_by positive (Some left) None = None

@@ -10,7 +10,7 @@ use Rattle.pddl_reader.specs.Texts.{domain_in_text, problem_in_text}
 abbrev pub AreDomainTextsKept : Type 0
 AreDomainTextsKept = (text : List ℕ) (domain : DomainValue) → domain_in_text Strips text ≡ Some domain → (domain_in_text Ipc text ≡ Some domain) × (domain.functions ≡ [])
 
--- a text that is a problem of STRIPS stands for the same task in the larger dialect, and counts no costs beside a domain without functions
+-- a text that is a problem of STRIPS stands for the same task in the larger dialect, and counts no costs if the domain has no functions
 abbrev pub AreProblemTextsKept : Type 0
 AreProblemTextsKept = (text : List ℕ) (domain : DomainValue) (task : CostedTask) → problem_in_text Strips domain text ≡ Some task →
     (problem_in_text Ipc domain text ≡ Some task) × (domain.functions ≡ [] → task.costs ≡ None)

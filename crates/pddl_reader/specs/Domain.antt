@@ -25,7 +25,7 @@ use Rattle.pddl_syntax.specs.Optional.{guard, through}
 use Rattle.pddl_reader.specs.Variables.{Parameters, parameters_of, places_of}
 use Rattle.pddl_syntax.specs.Syntax.{VariableGroup, LiteralForm, atom_literal, equality_literal, increase_literal, value_literal, PredicateForm, ActionForm, DomainForm}
 
--- what a domain gives of a task, the names of its types, its functions, and the increases of each action
+-- what a domain says: its part of a task, the names of its types, its functions, and the increases of each action
 pub record DomainValue : Type 0 where
   pub name : List ℕ
   pub types : List (List ℕ)
@@ -36,7 +36,7 @@ pub record DomainValue : Type 0 where
   pub actions : List (List ℕ × Action)
   pub increases : List (List Amount)
 
--- the table with an entry, where there are places for it
+-- the table with one more predicate, if the types of its arguments are known
 unfoldable pub declared_predicate : Predicates → List ℕ → Option (List (List ℕ)) → Option Predicates
 declared_predicate table name None = None
 declared_predicate table name (Some places) = declared most_predicates table name places
@@ -62,7 +62,7 @@ with_function types table function = guard (may_have (folded function.name) func
 unfoldable pub functions_from : List (List ℕ) → Predicates → List PredicateForm → Option Predicates
 functions_from types table functions = through (with_function types) table functions
 
--- an action before any effect of it is known
+-- no effects
 abbrev pub no_effects : Effects
 no_effects = record { add = []; del = []; increases = [] }
 
@@ -80,7 +80,7 @@ with_change effects positive (Some pattern) = Some (changed effects positive pat
 abbrev pub increased : Effects → List Amount → Effects
 increased effects increases = record effects { increases = increases }
 
--- the effects with that of one more literal: an atom adds, a negated one deletes, and an increase is one more increase
+-- the effects with those of one more literal: an atom is added, a negated one is deleted, and an increase joins the other increases
 unfoldable pub with_effect : Vocabulary → Parameters → Effects → LiteralForm → Option Effects
 with_effect vocabulary parameters effects (atom_literal positive atom) = with_change effects positive (pattern_of vocabulary.atoms parameters atom)
 with_effect vocabulary parameters effects (equality_literal positive sides) = None
@@ -105,7 +105,7 @@ action_with params None effects = None
 action_with params (Some pre) None = None
 action_with params (Some pre) (Some effects) = Some (action_doing params pre effects)
 
--- the action over these parameters, if there are such parameters
+-- the action with these parameters, if they are declared correctly
 unfoldable pub action_by : Vocabulary → ActionForm → Option Parameters → Option CostedAction
 action_by vocabulary action None = None
 action_by vocabulary action (Some parameters) =
@@ -119,15 +119,15 @@ action_meant types vocabulary action = action_by vocabulary action (parameters_o
 abbrev pub Actions : Type 0
 Actions = List (List ℕ × Action)
 
--- tables without an entry
+-- empty tables
 abbrev pub no_actions : ActionTables
 no_actions = record { actions = []; increases = [] }
 
--- these actions, and the increases of one more action behind those of the others
+-- these actions, and the increases of one more action after those of the others
 abbrev pub tables_with : ActionTables → CostedAction → Actions → ActionTables
 tables_with tables meant actions = record { actions = actions; increases = tables.increases ++ meant.increases ∷ [] }
 
--- the tables with an entry, where there is an action for it
+-- the tables with one more action, if there is one
 unfoldable pub declared_action : ActionTables → List ℕ → Option CostedAction → Option ActionTables
 declared_action tables name None = None
 declared_action tables name (Some meant) = option_map (tables_with tables meant) (declared most_actions tables.actions name meant.action)
@@ -149,7 +149,7 @@ unfoldable pub head_typed : DomainForm → Option KnownTypes → Option Head
 head_typed domain None = None
 head_typed domain (Some types) = option_map (head domain.name types) (objects_from (keys_of types.names) [] domain.constants)
 
--- the types, objects and predicates that a domain declares, if they are declared correctly
+-- the name, types and constants of a domain, if they are declared correctly
 unfoldable pub head_of : Dialect → DomainForm → Option Head
 head_of dialect domain = head_typed domain (types_of dialect domain.types)
 
@@ -166,7 +166,7 @@ domain_value head predicates functions tables = record {
   increases = tables.increases;
 }
 
--- what the actions of a domain may speak of
+-- what the actions of a domain may name
 abbrev pub vocabulary_by : Head → Predicates → Predicates → Vocabulary
 vocabulary_by head predicates functions = vocabulary head.parents head.objects predicates functions
 
@@ -178,7 +178,7 @@ domain_with domain head (Some predicates) (Some functions) =
     option_map (domain_value head predicates functions)
     (actions_from (keys_of head.types) (vocabulary_by head predicates functions) no_actions domain.actions)
 
--- the domain over these declarations, if there are such declarations
+-- the domain with these types and constants, if they are declared correctly
 unfoldable pub domain_headed : DomainForm → Option Head → Option DomainValue
 domain_headed domain None = None
 domain_headed domain (Some head) =

@@ -1,26 +1,16 @@
 -- What contracts see of a domain that is kept in tables.
 
 use Rattle.std.specs.Prelude.{◌≡◌, ◌≤◌, length, []}
-use Rattle.std.specs.Map.{keys_of}
 use Rattle.pddl_reader.specs.declared.resolution.domain.Domain.TheInside.{Inside}
 use Rattle.strips_task.specs.WellFormed.{IsWellFormed, most_predicates}
-use Rattle.pddl_reader.specs.Domain.{DomainValue}
+use Rattle.pddl_reader.specs.Domain.{DomainValue, domain_value}
 use Rattle.strips_task.specs.declared.tasks.TaskParts.{TaskParts}
 
 -- the record of what is kept
 abbrev pub domain_kept : Inside → DomainValue
-domain_kept d = record {
-  name = d.name;
-  types = keys_of d.types;
-  parents = d.parents;
-  objects = d.objects;
-  predicates = d.predicates;
-  functions = d.functions;
-  actions = d.actions;
-  increases = d.increases;
-}
+domain_kept d = domain_value d.head d.tables.predicates d.tables.functions d.tables.actions
 
--- a task of the domain that asks and gives nothing
+-- the domain as a task without initial atoms and without goal conditions
 abbrev pub bare_task : DomainValue → TaskParts
 bare_task domain = record {
   domain = domain.name;
@@ -33,7 +23,7 @@ bare_task domain = record {
   goal = [];
 }
 
--- what a domain says is well formed, each type has a name, and there are few functions
+-- a domain is well formed, each of its types has a name, and there are few functions
 pub record IsDomain (domain : DomainValue) : Type 0 where
   pub fits : IsWellFormed (bare_task domain)
   pub types_named : length domain.types ≡ length domain.parents

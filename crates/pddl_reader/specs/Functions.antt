@@ -1,4 +1,4 @@
--- The functions of a domain, and the amounts and values that speak of them (PDDL 2.1, Fox and Long 2003, section 3). `total-cost` is the
+-- The functions of a domain, and the amounts and values that use them (PDDL 2.1, Fox and Long 2003, section 3). `total-cost` is the
 -- function that effects may increase under the requirement `:action-costs` of the planning competitions; the limits are this validator's choice.
 
 use Rattle.std.specs.Prelude.{ℕ, Bool, true, false, nat_lt, is_some, List, [], ◌∷◌, ◌++◌, length, Option, Some, None}
@@ -20,12 +20,12 @@ use Rattle.pddl_reader.specs.Declarations.{Known, Predicates, pattern_of, ground
 use Rattle.pddl_reader.specs.Objects.{Objects}
 use Rattle.pddl_reader.specs.Variables.{Parameters}
 
--- what effects and initial literals may speak of: atoms, and functions, which are looked up as predicates are
+-- what effects and initial literals may name: what atoms may, and functions, which are looked up like predicates
 pub record Vocabulary : Type 0 where
   pub atoms : Known
   pub functions : Known
 
--- what these tables let them speak of
+-- the vocabulary of these tables
 abbrev pub vocabulary : List ℕ → Objects → Predicates → Predicates → Vocabulary
 vocabulary parents objects predicates functions = record {
   atoms = record { parents = parents; objects = objects; predicates = predicates };
@@ -49,24 +49,24 @@ unfoldable pub amount_meant : Known → Parameters → AmountForm → Option Amo
 amount_meant functions parameters (number_amount number) = Some (Number number)
 amount_meant functions parameters (function_amount function) = option_map amount_by (pattern_of functions parameters function)
 
--- an amount behind others, if there is one
+-- the amounts with one more, if there is one
 unfoldable pub amount_behind : List Amount → Option Amount → Option (List Amount)
 amount_behind amounts None = None
 amount_behind amounts (Some amount) = Some (amounts ++ amount ∷ [])
 
--- the increases of an action with one more: `total-cost` is declared, and there are no more increases than the limit
+-- the increases of an action with one more, if `total-cost` is declared and there are fewer increases than the limit
 unfoldable pub with_increase : Vocabulary → Parameters → List Amount → AmountForm → Option (List Amount)
 with_increase vocabulary parameters increases amount =
     guard (nat_lt (length increases) MOST_INCREASES)
     (guard (counts_costs vocabulary.functions.predicates) (amount_behind increases (amount_meant vocabulary.functions parameters amount)))
 
--- whether a function has no other value before
+-- whether a function has no other value yet
 unfoldable pub is_not_another : Given → Bool
 is_not_another First = true
 is_not_another Again = true
 is_not_another Another = false
 
--- the values of ground functions with one for this function, if there is one: it has no value yet, or this value
+-- the values with one for this ground function, if there is one and it has no value yet or the same one
 unfoldable pub value_given : List (Atom × ℕ) → ℕ → Option Atom → Option (List (Atom × ℕ))
 value_given values value None = None
 value_given values value (Some function) = guard (is_not_another (given_over (value_of values function) value)) (Some (with_value values function value))
@@ -75,7 +75,7 @@ value_given values value (Some function) = guard (is_not_another (given_over (va
 unfoldable pub with_value_of : Known → List (Atom × ℕ) → ValueForm → Option (List (Atom × ℕ))
 with_value_of functions values form = value_given values form.value (ground_of functions form.function)
 
--- the costs of a task: what each action adds, the values of functions, and what the cost is at the start
+-- the costs of a task: what each action adds, the values of functions, and the number of `total-cost`
 abbrev pub costs_with : List (List Amount) → List (Atom × ℕ) → ℕ → Costs
 costs_with increases values number = record { total_cost = number; increases = increases; values = values }
 

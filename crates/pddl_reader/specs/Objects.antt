@@ -13,11 +13,11 @@ use Rattle.pddl_reader.specs.Tables.{value_named}
 abbrev pub Objects : Type 0
 Objects = List (List ℕ × ℕ)
 
--- the number of a type by its word
+-- the number of the type that a word names
 unfoldable pub type_number : List (List ℕ) → List ℕ → Option ℕ
 type_number types word = position_from (bytes_eq (folded word)) 0 types
 
--- an object that is declared already keeps its type, and has no other; there are no more objects than the limit
+-- a new object is added, up to the limit; one that is declared already may only have the same type again
 unfoldable pub of_type : Option ℕ → Objects → List ℕ → ℕ → Option Objects
 of_type None objects name type = guard (nat_lt (length objects) most_objects) (Some (objects ++ (name, type) ∷ []))
 of_type (Some known) objects name type = guard (nat_eq known type) (Some objects)
@@ -26,7 +26,7 @@ of_type (Some known) objects name type = guard (nat_eq known type) (Some objects
 unfoldable pub object_declared : ℕ → Objects → List ℕ → Option Objects
 object_declared type objects word = of_type (value_named objects (folded word)) objects (folded word) type
 
--- the objects of a group, where their type is declared
+-- the objects with those of a group, if its type is declared
 unfoldable pub objects_typed : Option ℕ → Objects → List (List ℕ) → Option Objects
 objects_typed None objects words = None
 objects_typed (Some type) objects words = through (object_declared type) objects words

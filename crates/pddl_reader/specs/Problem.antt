@@ -20,7 +20,7 @@ use Rattle.pddl_syntax.specs.Syntax.{LiteralForm, NameGroup, ProblemForm, atom_l
 abbrev pub ground_condition : Bool → Atom → GroundCond
 ground_condition positive atom = record { positive = positive; formula = asked.Atom atom }
 
--- a ground condition that two objects, where both are known, are the same or are two
+-- the ground condition that two objects are the same, or different, if both are known
 unfoldable pub ground_equality_by : Bool → Option ℕ → Option ℕ → Option GroundCond
 ground_equality_by positive None right = None
 ground_equality_by positive (Some left) None = None
@@ -39,7 +39,7 @@ unfoldable pub ground_conditions_of : Known → List LiteralForm → Option (Lis
 ground_conditions_of known [] = Some []
 ground_conditions_of known (literal ∷ literals) = followed_by (ground_condition_of known literal) (ground_conditions_of known literals)
 
--- a problem before any of its initial literals is known
+-- nothing is given initially
 abbrev pub no_initial : InitialState
 no_initial = record { atoms = []; values = [] }
 
@@ -102,20 +102,20 @@ task_with domain problem (Some initial) goal = option_map (costed_value domain p
 abbrev pub domain_over : DomainValue → Objects → DomainValue
 domain_over domain objects = record domain { objects = objects }
 
--- the domain with the objects of a problem behind its constants
+-- the domain with the objects of a problem after its constants
 unfoldable pub domain_extended : DomainValue → List NameGroup → Option DomainValue
 domain_extended domain groups = option_map (domain_over domain) (objects_from domain.types domain.objects groups)
 
--- what the literals of a problem may speak of
+-- what the literals of a problem may name
 abbrev pub vocabulary_in : DomainValue → Vocabulary
 vocabulary_in domain = vocabulary domain.parents domain.objects domain.predicates domain.functions
 
--- the task of a problem beside a domain that has its objects
+-- the task of a problem and a domain that already has the problem's objects
 unfoldable pub problem_within : ProblemForm → Option DomainValue → Option CostedTask
 problem_within problem None = None
 problem_within problem (Some domain) =
     task_with domain problem.name (initial_of (vocabulary_in domain) problem.init) (ground_conditions_of (vocabulary_in domain).atoms problem.goal)
 
--- the task that the syntax stands for, where objects are declared once and the names used are declared
+-- the task that the syntax stands for, if its objects are declared correctly and all names that it uses are declared
 unfoldable pub problem_of : DomainValue → ProblemForm → Option CostedTask
 problem_of domain problem = problem_within problem (domain_extended domain problem.objects)

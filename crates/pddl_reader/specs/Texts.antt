@@ -22,7 +22,7 @@ unless_fault (Some fault) value = None
 unfoldable pub domain_in_text : Dialect → List ℕ → Option DomainValue
 domain_in_text dialect text = unless_fault (text_fault text) (option_and_then (domain_of dialect) (domain_syntax dialect (trees text)))
 
--- the task that a text stands for in a dialect, beside a domain, and what it says about costs
+-- the task that a text and a domain stand for in a dialect, and what it says about costs
 unfoldable pub problem_in_text : Dialect → DomainValue → List ℕ → Option CostedTask
 problem_in_text dialect domain text = unless_fault (text_fault text) (option_and_then (problem_of domain) (problem_syntax dialect (trees text)))
 
@@ -30,6 +30,6 @@ problem_in_text dialect domain text = unless_fault (text_fault text) (option_and
 unfoldable pub domain_of_text : List ℕ → Option DomainValue
 domain_of_text text = domain_in_text Strips text
 
--- the task that a text stands for beside a domain, without what the larger dialect adds
+-- the task that a text and a domain stand for, without what the larger dialect adds
 unfoldable pub problem_of_text : DomainValue → List ℕ → Option TaskParts
 problem_of_text domain text = option_map (λ costed. costed.task) (problem_in_text Strips domain text)

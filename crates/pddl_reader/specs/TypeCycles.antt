@@ -1,4 +1,4 @@
--- Types that are above themselves: what the readers look for where the types of a domain form no tree.
+-- Types that are above themselves: what the readers look for if the types of a domain form no tree.
 
 use Rattle.std.specs.Prelude.{ℕ, Bool, false, ◌&&◌, nat_lt, List, slice_index, Option, Some, None}
 use Rattle.std.specs.List.{list_any}
@@ -7,9 +7,9 @@ use Rattle.strips_task.specs.Names.{number_named}
 use Rattle.strips_task.specs.Types.{is_below}
 use Rattle.pddl_syntax.specs.declared.dialect.Dialect.{Dialect}
 use Rattle.pddl_syntax.specs.Syntax.{NameGroup}
-use Rattle.pddl_reader.specs.TypeOrder.{TypeNames, under, counts_as_parent}
+use Rattle.pddl_reader.specs.TypeOrder.{TypeNames, counts_as_parent}
 
--- whether a type but `object` stands above its own parent, so that a chain of parents returns to it
+-- whether a type other than `object` is above its own parent, so that a chain of parents returns to it
 unfoldable pub is_under_itself : List ℕ → ℕ → Bool
 is_under_itself parents type = nat_lt 0 type && is_below parents (slice_index parents type) type
 

@@ -24,13 +24,13 @@ TypeNames = List (List ℕ × Unit {0})
 abbrev pub TypeParents : Type 0
 TypeParents = List (List ℕ × List ℕ)
 
--- a type is numbered where its name stands first; there are no more types than the limit
+-- a type is numbered where its name first appears; there are no more types than the limit
 unfoldable pub numbered : TypeNames → List ℕ → Option TypeNames
 numbered names name =
     (if is_some (number_named names name) then Some names
     else guard (nat_lt (length names) most_types) (Some (names ++ (name, tt) ∷ [])))
 
--- a type that is declared already stays under its parent, and under no other
+-- a type that is declared already may be declared again under the same parent only
 unfoldable pub under : Option (List ℕ) → TypeParents → List ℕ → List ℕ → Option TypeParents
 under None parents name parent = Some (parents ++ (name, parent) ∷ [])
 under (Some known) parents name parent = guard (bytes_eq known parent) (Some parents)
@@ -57,7 +57,7 @@ unfoldable pub type_declared : Dialect → List ℕ → TypeTables → List ℕ 
 type_declared dialect parent tables word =
     tables_of (numbered tables.names (folded word)) (declared_under dialect tables.parents (folded word) (folded parent))
 
--- the parent is numbered behind the types under it
+-- the parent is numbered after the types under it
 unfoldable pub parent_numbered : List ℕ → Option TypeTables → Option TypeTables
 parent_numbered parent None = None
 parent_numbered parent (Some tables) = tables_of (numbered tables.names (folded parent)) (Some tables.parents)
@@ -66,7 +66,7 @@ parent_numbered parent (Some tables) = tables_of (numbered tables.names (folded 
 unfoldable pub group_declared : Dialect → TypeTables → NameGroup → Option TypeTables
 group_declared dialect tables group = parent_numbered group.type (through (type_declared dialect group.type) tables group.names)
 
--- at first there is `object`, which stands under no type but itself
+-- at first there is only `object`, which is its own parent
 abbrev pub object_alone : TypeTables
 object_alone = record { names = (object_word, tt) ∷ []; parents = (object_word, object_word) ∷ [] }
 
@@ -74,7 +74,7 @@ object_alone = record { names = (object_word, tt) ∷ []; parents = (object_word
 unfoldable pub types_declared : Dialect → List NameGroup → Option TypeTables
 types_declared dialect groups = through (group_declared dialect) object_alone groups
 
--- the name of the parent of a type: `object` where the type is not declared
+-- the name of the parent of a type: `object` if the type is not declared
 unfoldable pub parent_name : TypeParents → List ℕ → List ℕ
 parent_name parents name = unwrap_or (value_named parents name) object_word
 
@@ -99,15 +99,15 @@ is_tree parents =
     && (list_all (λ parent. nat_lt parent (length parents)) parents
     && all_below (λ type. is_below parents type 0) (length parents)))
 
--- the test is passed by the trees below `object`, and by nothing else
+-- exactly the trees below `object` pass the test
 abbrev pub IsTreeTested : Type 0
 IsTreeTested = (parents : List ℕ) → IsTrue (is_tree parents) ↔ IsTypeTree parents
 
--- in a tree no type but `object` stands some parents above itself
+-- in a tree no type but `object` is its own ancestor
 abbrev pub HasNoCycles : Type 0
 HasNoCycles = (parents : List ℕ) → IsTypeTree parents → (type steps : ℕ) → type < length parents → ancestor parents (suc steps) type ≡ type → type ≡ 0
 
--- the types with their order, where their parents form a tree
+-- the types with their order, if their parents form a tree
 unfoldable pub ordered : Option TypeTables → Option KnownTypes
 ordered None = None
 ordered (Some tables) = guard (is_tree (parents_of tables)) (Some (record { names = tables.names; parents = parents_of tables }))

@@ -1,4 +1,4 @@
--- The types of which variables may be, and the parameters of actions.
+-- The types that variables may have, and the parameters of actions.
 
 use Rattle.std.specs.Prelude.{ℕ, ◌+◌, ◌&&◌, nat_le, nat_lt, is_none, List, [], ◌∷◌, ◌++◌, length, map, Option, Some, None}
 use Rattle.std.specs.List.{position_from}
@@ -9,7 +9,7 @@ use Rattle.pddl_reader.specs.Objects.{type_number}
 use Rattle.pddl_syntax.specs.Optional.{guard, through}
 use Rattle.pddl_syntax.specs.Syntax.{VariableGroup}
 
--- one more alternative behind others, where it is a type
+-- the alternatives with one more, if it is a type
 unfoldable pub alternative_behind : List ℕ → Option ℕ → Option (List ℕ)
 alternative_behind numbers None = None
 alternative_behind numbers (Some number) = Some (numbers ++ number ∷ [])
@@ -22,21 +22,21 @@ alternative_named types numbers word = guard (nat_lt (length numbers) most_alter
 unfoldable pub alternatives_of : List (List ℕ) → List (List ℕ) → Option (List ℕ)
 alternatives_of types words = through (alternative_named types) [] words
 
--- places behind others, one of these types for each variable
+-- the types of arguments, followed by these types for each variable
 unfoldable pub places_behind : List (List ℕ) → List (List ℕ) → List ℕ → List (List ℕ)
 places_behind places variables types = places ++ map (λ _. types) variables
 
--- the places of a group; there are no more variables than the limit
+-- the types of arguments with those of a group; there are no more variables than the limit
 unfoldable pub group_placed : List (List ℕ) → List (List ℕ) → VariableGroup → Option (List (List ℕ))
 group_placed types places group =
     guard (nat_le (length places + length group.variables) most_variables)
     (option_map (places_behind places group.variables) (alternatives_of types group.types))
 
--- for each variable the types of which it may be
+-- for each variable the types that it may have
 unfoldable pub places_of : List (List ℕ) → List VariableGroup → Option (List (List ℕ))
 places_of types groups = through (group_placed types) [] groups
 
--- the parameters of an action: their names, and for each the types of which it may be
+-- the parameters of an action: their names, and for each the types that it may have
 pub record Parameters : Type 0 where
   pub names : List (List ℕ)
   pub types : List (List ℕ)
@@ -49,13 +49,13 @@ parameter_number names word = position_from (is_same_word word) 0 names
 unfoldable pub parameter_named : List (List ℕ) → List ℕ → Option (List (List ℕ))
 parameter_named names word = guard (nat_lt (length names) most_variables && is_none (parameter_number names word)) (Some (names ++ word ∷ []))
 
--- parameters and those of a group, if its variables and its types are there
+-- the parameters with those of a group, if its variables and its types are declared correctly
 unfoldable pub parameters_with : Parameters → List (List ℕ) → Option (List (List ℕ)) → Option (List ℕ) → Option Parameters
 parameters_with parameters variables None types = None
 parameters_with parameters variables (Some names) None = None
 parameters_with parameters variables (Some names) (Some types) = Some (record { names = names; types = places_behind parameters.types variables types })
 
--- the parameters of a group behind others
+-- the parameters with those of a group
 unfoldable pub group_named : List (List ℕ) → Parameters → VariableGroup → Option Parameters
 group_named types parameters group =
     parameters_with parameters group.variables (through parameter_named parameters.names group.variables) (alternatives_of types group.types)

@@ -3,12 +3,12 @@
 ghost use Rattle.pddl_reader.specs.DialectLaws.{AreDomainTextsKept, AreProblemTextsKept};
 ghost use Rattle.pddl_reader.specs.TypeOrder.{HasNoCycles, IsTreeTested};
 
-/// The test that a domain's types pass is passed by the trees below `object` and by nothing else.
+/// Exactly the trees below `object` pass the test of a domain's types.
 pub fn type_trees_are_tested()
     ensures { IsTreeTested }
 {}
 
-/// In a tree of types no type but `object` stands above itself by one step or more.
+/// In a tree of types no type but `object` is its own ancestor.
 pub fn type_trees_have_no_cycles()
     ensures { HasNoCycles }
 {}
@@ -18,7 +18,7 @@ pub fn domain_texts_are_kept()
     ensures { AreDomainTextsKept }
 {}
 
-/// A text that is a problem of STRIPS stands for the same task in the larger dialect, and counts no costs beside a domain without functions.
+/// A text that is a problem of STRIPS stands for the same task in the larger dialect, and counts no costs if the domain has no functions.
 pub fn problem_texts_are_kept()
     ensures { AreProblemTextsKept }
 {}

@@ -10,7 +10,7 @@
 //! let task = read_problem_in(alloc, Dialect::Ipc, domain, problem_text)?;    // a CostedTask
 //! ```
 //!
-//! [`read_plan`] and [`Parts`] of `plan_text` are passed on, so that a reader of plans needs this crate alone.
+//! [`read_plan`] and [`Parts`] of `plan_text` are re-exported, so that a reader of plans needs only this crate.
 //!
 //! A text passes through three layers. The first two are the crate `pddl_syntax`: a pass that finds bad bytes and wrong parentheses, and
 //! the grammar, which keeps tables of slices of the text. The third is [`resolution`] here: it looks the names up and makes the domain and

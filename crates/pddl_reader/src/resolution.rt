@@ -1,7 +1,7 @@
 //! The third layer: names are looked up, and the domain and the task are made.
 //!
-//! Tables are filled in text order, so that a name's number is its place among those declared. Each look-up is one hash;
-//! the names of initial literals, of which there are most, are guessed first.
+//! Tables are filled in text order, so that a name's number is its index among those declared. Each look-up is one hash;
+//! the names of initial literals, which are the most numerous, are guessed first.
 
 pub(crate) mod actions;
 pub(crate) mod atoms;

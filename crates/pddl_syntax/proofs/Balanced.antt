@@ -55,20 +55,6 @@ has_levels end (suc depth) (token Left span text ∷ more) h =
 has_levels end zero (token Right span text ∷ more) h = cc
 has_levels end (suc depth) (token Right span text ∷ more) h = before_right_depth depth (levels more) (has_levels end depth more h)
 
-pub levels_without_fault : (text : List ℕ) → text_fault text ≡ None → IsSome (levels (pieces text))
-levels_without_fault text h =
-    elim (cases_lt (length text) (2 ^ 31)) [
-      | inl lt ↦ some_levels 0 (levels (pieces text)) (has_levels (length text) 0 (pieces text) (sym (text_fault_short text lt) ∙ h))
-      | inr le ↦ no_fault (sym (text_fault_long text le) ∙ h)
-    ]
-  where
-    some_levels : (depth : ℕ) (found : Option Levels) → HasDepth depth found → IsSome found
-    some_levels depth None h = absurd h
-    some_levels depth (Some l) h = refl
-
-    no_fault : {A : Type 0} {e : ReadFault} → Some e ≡ None → A
-    no_fault h = cc
-
 -- a text without a text fault is short
 pub short_without_fault : (text : List ℕ) → text_fault text ≡ None → length text < 2 ^ 31
 short_without_fault text h =
@@ -76,5 +62,16 @@ short_without_fault text h =
   where
     no_fault : {A : Type 0} {e : ReadFault} → Some e ≡ None → A
     no_fault h = cc
+
+-- every list of a text without a text fault is closed
+pub closed_without_fault : (text : List ℕ) → text_fault text ≡ None → HasDepth 0 (levels (pieces text))
+closed_without_fault text h = has_levels (length text) 0 (pieces text) (sym (text_fault_short text (short_without_fault text h)) ∙ h)
+
+pub levels_without_fault : (text : List ℕ) → text_fault text ≡ None → IsSome (levels (pieces text))
+levels_without_fault text h = some_levels 0 (levels (pieces text)) (closed_without_fault text h)
+  where
+    some_levels : (depth : ℕ) (found : Option Levels) → HasDepth depth found → IsSome found
+    some_levels depth None h = absurd h
+    some_levels depth (Some l) h = refl
 
 pub ruleset balanced_steps = (levels_without_fault, short_without_fault)

@@ -1,4 +1,4 @@
--- What the dialects have to do with one another.
+-- How the dialects are related.
 
 use Rattle.std.specs.Prelude.{◌≡◌, [], Some}
 use Rattle.pddl_syntax.specs.declared.dialect.Dialect.TheVariants.{Strips, Ipc}

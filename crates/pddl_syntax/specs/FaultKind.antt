@@ -1,4 +1,4 @@
--- The kinds of fault by name.
+-- The names of the kinds of fault.
 
 use Rattle.std.specs.Prelude.{ℕ, List, codes}
 use Rattle.pddl_syntax.specs.declared.fault.FaultKind.{FaultKind}

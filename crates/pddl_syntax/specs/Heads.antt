@@ -1,4 +1,4 @@
--- What the first word of a list says of it.
+-- What the first word of a list says about the list.
 
 use Rattle.std.specs.Prelude.{ℕ, List, Bool, true, false, ◌||◌, ◌&&◌, Option, Some, None, if◌then◌else◌}
 use Rattle.pddl_words.specs.Words.{is_name}
@@ -58,7 +58,7 @@ is_variable_kind Other = false
 unfoldable pub is_variable : List ℕ → Bool
 is_variable w = is_variable_kind (kind_of_word w)
 
--- a place in a text of a dialect
+-- where a literal is, in a text of a dialect
 abbrev pub scope_at : Dialect → Place → Scope
 scope_at dialect place = record { dialect = dialect; place = place }
 
@@ -78,7 +78,7 @@ formula_head w =
     else (if is_name w then formula.Name
     else formula.Other)))
 
--- what `=` heads, before a list or not: terms are compared in preconditions and goals, and functions get their values among the initial atoms
+-- what `=` heads, if a list follows or not: terms are compared in preconditions and goals, and functions get their values among the initial atoms
 abbrev pub equals_head : Dialect → Place → Bool → LiteralHead
 equals_head dialect.Strips place opens = head.Reserved
 equals_head dialect.Ipc place.Precondition opens = head.Equality
@@ -86,7 +86,7 @@ equals_head dialect.Ipc place.Goal opens = head.Equality
 equals_head dialect.Ipc place.Initial opens = (if opens then head.Value else head.Reserved)
 equals_head dialect.Ipc place.Effect opens = head.Reserved
 
--- whether numbers are changed at a place
+-- whether numbers may be changed here
 abbrev pub has_changes : Dialect → Place → Bool
 has_changes dialect.Strips place = false
 has_changes dialect.Ipc place.Precondition = false
@@ -94,13 +94,13 @@ has_changes dialect.Ipc place.Effect = true
 has_changes dialect.Ipc place.Initial = false
 has_changes dialect.Ipc place.Goal = false
 
--- what a name heads, before a list or not: it is a predicate, unless it changes a number, which is always that of a list
+-- what a name heads, if a list follows or not: it is a predicate, unless it changes a number, which a list after it names
 abbrev pub name_head : Scope → List ℕ → Bool → LiteralHead
 name_head scope w opens =
     if has_changes scope.dialect scope.place && (is_change w && opens) then (if is_same_word w increase_word then head.Increase else head.Reserved)
     else head.Atom
 
--- what a reserved word besides `and` and `not` heads, before a list or not
+-- what a reserved word besides `and` and `not` heads, if a list follows or not
 abbrev pub reserved_head : Scope → List ℕ → Bool → LiteralHead
 reserved_head scope w opens = if is_same_word w equals_word then equals_head scope.dialect scope.place opens else head.Reserved
 
@@ -112,7 +112,7 @@ head_by formula.Reserved scope w opens = reserved_head scope w opens
 head_by formula.Name scope w opens = name_head scope w opens
 head_by formula.Other scope w opens = head.Other
 
--- what a word heads where a literal is due; a list follows it directly, or none does
+-- what a word heads where a literal is due, if a list follows it directly or not
 unfoldable pub literal_head : Scope → List ℕ → Bool → LiteralHead
 literal_head scope w opens = head_by (formula_head w) scope w opens
 

@@ -1,4 +1,4 @@
--- The words that PDDL gives a meaning (PDDL 2.1, Fox and Long 2003, appendix A).
+-- The words that have a meaning in PDDL (PDDL 2.1, Fox and Long 2003, appendix A).
 
 use Rattle.std.specs.Prelude.{ℕ, List, Bool, ◌||◌, codes}
 use Rattle.pddl_words.specs.Kinds.{is_same_word}
@@ -47,7 +47,7 @@ total_cost_word = codes "total-cost"
 abbrev pub number_word : List ℕ
 number_word = codes "number"
 
--- what stands before a type
+-- what is written before a type
 abbrev pub dash_word : List ℕ
 dash_word = codes "-"
 
@@ -71,7 +71,7 @@ objects_keyword = codes ":objects"
 abbrev pub metric_keyword : List ℕ
 metric_keyword = codes ":metric"
 
--- a section of PDDL 1.2 that is read over
+-- a section of PDDL 1.2 that is skipped
 abbrev pub length_keyword : List ℕ
 length_keyword = codes ":length"
 

@@ -1,4 +1,4 @@
--- What is left of each open list at a place among the tokens of a text.
+-- What is left of each open list, from a token of a text on.
 
 use Rattle.std.specs.Prelude.{ℕ, List, [], ◌∷◌, Option, Some, None}
 use Rattle.std.specs.Option.{option_map, option_and_then}
@@ -6,7 +6,7 @@ use Rattle.pddl_tokens.specs.declared.spans.TokenKind.TheVariants.{Left, Right, 
 use Rattle.pddl_tokens.specs.Tokens.{Piece, token, bad, pieces}
 use Rattle.pddl_syntax.specs.Trees.{Trees, none, word, list}
 
--- what is left of the list in which one stands, and of each list around it, from the inside out
+-- what is left of the innermost open list, and of each list around it, from the inside out
 pub record Levels : Type 0 where
   pub top : Trees
   pub below : List Trees
@@ -15,7 +15,7 @@ pub record Levels : Type 0 where
 abbrev pub before_word : List ℕ → Levels → Levels
 before_word text levels = record { top = word text levels.top; below = levels.below }
 
--- the list of what it holds, and the levels behind it
+-- the levels before a list, from what it holds and the levels after it
 abbrev pub around : Trees → List Trees → Option Levels
 around inside [] = None
 around inside (others ∷ below) = Some (record { top = list inside others; below = below })
@@ -24,11 +24,11 @@ around inside (others ∷ below) = Some (record { top = list inside others; belo
 abbrev pub before_left : Levels → Option Levels
 before_left levels = around levels.top levels.below
 
--- the levels before a `)`, from those behind its list
+-- the levels before a `)`, from those after its list
 abbrev pub before_right : Levels → Levels
 before_right levels = record { top = none; below = levels.top ∷ levels.below }
 
--- the levels before the tokens, read from the text's end; none where a byte is bad or a `(` has no `)`
+-- the levels before the tokens, read from the text's end; none if a byte is bad or a `(` has no `)`
 unfoldable pub levels : List Piece → Option Levels
 levels [] = Some (record { top = none; below = [] })
 levels (bad at ∷ more) = None

@@ -5,7 +5,7 @@ use Rattle.pddl_tokens.specs.Bytes.{is_other_blank}
 use Rattle.pddl_syntax.specs.declared.marks.Mark.{Mark}
 use Rattle.pddl_syntax.specs.declared.marks.Mark.TheVariants.{Plain, Left, Right, Semicolon, Bad}
 
--- by the classes of bytes, of which LF (10), the other blanks and the bytes of words (33 to 126) are all alike; `(` is 40, `)` is 41, `;` is 59
+-- the mark of a byte: LF (10), the other blanks and the bytes of words (33 to 126) have the same one; `(` is 40, `)` is 41, `;` is 59
 unfoldable pub mark_of : ℕ → Mark
 mark_of b =
     if b == 10 then Plain

@@ -3,26 +3,26 @@
 use Rattle.std.specs.Prelude.{Bool, List, [], ◌∷◌, ◌++◌, Option, Some, None, if◌then◌else◌}
 use Rattle.std.specs.Option.{option_map, option_and_then}
 
--- the value where the test holds, and else none
+-- the value if the test holds, and otherwise none
 unfoldable pub guard : {A : Type 0} → Bool → Option A → Option A
 guard test value = (if test then value else None)
 
--- a value, and others behind it, where there are all of them
+-- a value followed by others, if all of them exist
 unfoldable pub followed_by : {A : Type 0} → Option A → Option (List A) → Option (List A)
 followed_by None others = None
 followed_by (Some x) others = option_map (λ xs. x ∷ xs) others
 
--- the values behind those of a list that is there
+-- the values of a given list, followed by others, if those exist
 unfoldable pub with_front : {A : Type 0} → List A → Option (List A) → Option (List A)
 with_front front None = None
 with_front front (Some others) = Some (front ++ others)
 
--- the values of one list and then those of another, where there are both
+-- the values of one list and then those of another, if both exist
 unfoldable pub joined : {A : Type 0} → Option (List A) → Option (List A) → Option (List A)
 joined None others = None
 joined (Some xs) others = with_front xs others
 
--- a state taken through a list, item by item, where each step is allowed
+-- a state taken through a list, item by item, if each step is allowed
 unfoldable pub through : {S X : Type 0} → (S → X → Option S) → S → List X → Option S
 through step state [] = Some state
 through step state (x ∷ xs) = option_and_then (λ next. through step next xs) (step state x)

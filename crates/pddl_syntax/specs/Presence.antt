@@ -1,4 +1,4 @@
--- Whether trees have a piece of syntax, as a walk tests it that keeps nothing of it.
+-- Whether trees have a piece of syntax, as a walk tests it without keeping anything.
 
 use Rattle.std.specs.Prelude.{ℕ, List, Bool, is_some, true}
 use Rattle.pddl_syntax.specs.declared.dialect.Dialect.{Dialect}
@@ -42,7 +42,7 @@ is_negated_in scope trees = is_some (negated_in scope trees)
 unfoldable pub is_negated : Scope → Trees → Bool
 is_negated scope trees = is_some (negated_of scope trees)
 
--- whether there is a literal, behind its first word
+-- whether there is a literal, after its first word
 unfoldable pub is_literal : Scope → List ℕ → Trees → Bool
 is_literal scope w trees = is_some (literal_of scope w trees)
 
@@ -62,6 +62,6 @@ are_conjuncts scope trees = is_some (conjuncts_of scope trees)
 unfoldable pub are_initial : Dialect → Trees → Bool
 are_initial dialect trees = is_some (lists_of (init_item_in dialect) trees)
 
--- any word, where it is known that it may stand
+-- any word passes, since it was tested before
 abbrev pub is_any : List ℕ → Bool
 is_any w = true

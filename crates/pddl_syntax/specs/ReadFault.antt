@@ -1,4 +1,4 @@
--- Faults with their places.
+-- Faults with their spans.
 
 use Rattle.std.specs.Prelude.{ℕ}
 use Rattle.pddl_syntax.specs.declared.fault.FaultKind.{FaultKind}
@@ -9,6 +9,6 @@ use Rattle.pddl_syntax.specs.declared.fault.ReadFault.{ReadFault}
 abbrev pub fault : FaultKind → ℕ → ℕ → ReadFault
 fault kind start end = record { kind = kind; span = record { start = start; end = end } }
 
--- want of memory, which has no place in the text
+-- running out of memory, which has no span in the text
 abbrev pub out_of_memory : ReadFault
 out_of_memory = fault OutOfMemory 0 0

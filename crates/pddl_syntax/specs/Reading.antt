@@ -1,4 +1,4 @@
--- What a reader's answer says of the trees that it walks over.
+-- What a reader's answer says about the trees that it walks over.
 
 use Rattle.std.specs.Prelude.{ℕ, Bool, true, false, ◌≡◌, ◌≢◌, List, [], ◌∷◌, Option, Some, None, is_some, Result, Ok, Err}
 use Rattle.pddl_syntax.specs.declared.fault.FaultKind.TheVariants.{OutOfMemory}
@@ -16,16 +16,16 @@ use Rattle.pddl_syntax.specs.TypesAhead.{typing, typing_of}
 use Rattle.pddl_syntax.specs.Levels.{Levels}
 use Rattle.pddl_syntax.specs.Walking.{behind}
 
--- a fault is want of memory, which has no place, or it says that the fact holds
+-- a fault is running out of memory, which has no span, or it means that the fact holds
 abbrev pub Refuses : ReadFault → Type 0 → Type 0
 Refuses e fact = (e.kind ≡ OutOfMemory → e ≡ out_of_memory) × (e.kind ≢ OutOfMemory → fact)
 
--- the rest of the list in which the walk stands is read with its `)`
+-- the rest of the list that the walk is in is read, with its `)`
 abbrev pub ReadsList : {X Y : Type 0} → (X → Y) → Result X ReadFault → (Trees → Option Y) → Levels → Levels → Type 0
 ReadsList view (Ok x) read old new = (read old.top ≡ Some (view x)) × (new ≡ behind old.below)
 ReadsList view (Err e) read old new = Refuses e (read old.top ≡ None)
 
--- the rest of the list in which the walk stands passes the test, and the walk leaves it
+-- the rest of the list that the walk is in passes the test, and the walk leaves it
 abbrev pub PassesList : Result (Unit {0}) ReadFault → (Trees → Bool) → Levels → Levels → Type 0
 PassesList (Ok _) test old new = (test old.top ≡ true) × (new ≡ behind old.below)
 PassesList (Err e) test old new = Refuses e (test old.top ≡ false)
@@ -39,12 +39,12 @@ ReadsAgain view (Err e) read old new = e ≡ out_of_memory
 abbrev pub Rereads : {Y : Type 0} → Y → (Trees → Option Y) → Levels → Levels → Type 0
 Rereads x read old new = (read old.top ≡ Some x) × (new ≡ behind old.below)
 
--- as `ReadsList`, where the answer is put into `after`
+-- as `ReadsList`, but what is read is put into `after`
 abbrev pub ReadsInto : {Y : Type 0} → Result (Unit {0}) ReadFault → (Trees → Option Y) → Levels → Levels → Y → Type 0
 ReadsInto (Ok _) read old new after = (read old.top ≡ Some after) × (new ≡ behind old.below)
 ReadsInto (Err e) read old new after = Refuses e (read old.top ≡ None)
 
--- something at the front is read, and the walk goes on behind it
+-- something at the front is read, and the walk is after it
 abbrev pub ReadsFront : Result (Unit {0}) ReadFault → (Trees → Option Trees) → Levels → Levels → Type 0
 ReadsFront (Ok _) read old new = (read old.top ≡ Some new.top) × (new.below ≡ old.below)
 ReadsFront (Err e) read old new = Refuses e (read old.top ≡ None)

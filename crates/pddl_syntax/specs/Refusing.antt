@@ -1,4 +1,4 @@
--- What a reader's answer says.
+-- What the answer of the check of bytes and parentheses says.
 
 use Rattle.std.specs.Prelude.{◌≡◌, Option, Some, None, Result, Ok, Err}
 use Rattle.pddl_syntax.specs.declared.fault.ReadFault.{ReadFault}

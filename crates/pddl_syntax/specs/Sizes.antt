@@ -10,11 +10,11 @@ size none = 0
 size (word w others) = 1 + size others
 size (list inside others) = 1 + size inside + size others
 
--- in several lists of trees
+-- how many words and lists there are in several lists of trees
 abbrev pub sizes : List Trees → ℕ
 sizes [] = 0
 sizes (trees ∷ more) = size trees + sizes more
 
--- how many words and lists are still to come
+-- how many words and lists are left
 abbrev pub ahead : Levels → ℕ
 ahead levels = size levels.top + sizes levels.below

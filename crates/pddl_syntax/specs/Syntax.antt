@@ -24,12 +24,12 @@ use Rattle.pddl_syntax.specs.Heads.{is_and, is_dash, is_keyword, is_term, is_var
 use Rattle.pddl_syntax.specs.Optional.{guard, followed_by, joined}
 use Rattle.pddl_syntax.specs.Trees.{Trees, none, word, list, begins_with_list}
 
--- an atom as written: the words of its predicate and of its terms. A function with its terms reads alike
+-- an atom as written: the words of its predicate and of its terms. A function with its terms has the same form
 pub record AtomForm : Type 0 where
   pub predicate : List ℕ
   pub terms : List (List ℕ)
 
--- the two terms that are to be the same
+-- the two terms that are compared
 pub record EqualityForm : Type 0 where
   pub left : List ℕ
   pub right : List ℕ
@@ -44,14 +44,14 @@ pub record ValueForm : Type 0 where
   pub function : AtomForm
   pub value : ℕ
 
--- an atom or an equality, with whether it is to hold; an amount by which `total-cost` is raised; or the value of a function
+-- an atom or an equality, and whether it must hold; an amount by which `total-cost` is raised; or the value of a function
 pub data LiteralForm : Type 0 where
   atom_literal : Bool → AtomForm → LiteralForm
   equality_literal : Bool → EqualityForm → LiteralForm
   increase_literal : AmountForm → LiteralForm
   value_literal : ValueForm → LiteralForm
 
--- a group of a list of typed variables: its variables, and the names of the types of which they may be
+-- a group of a list of typed variables: its variables, and the names of the types that they may have
 pub record VariableGroup : Type 0 where
   pub variables : List (List ℕ)
   pub types : List (List ℕ)
@@ -96,7 +96,7 @@ pub record ActionParts : Type 0 where
   pub precondition : Option (List LiteralForm)
   pub effect : Option (List LiteralForm)
 
--- the sections of a domain that are given; of the requirements it only counts that they are
+-- the sections of a domain that are given; of the requirements only whether they are given is kept
 pub record DomainSections : Type 0 where
   pub requirements : Bool
   pub types : Option (List NameGroup)
@@ -105,7 +105,7 @@ pub record DomainSections : Type 0 where
   pub functions : Option (List PredicateForm)
   pub actions : List ActionForm
 
--- the sections of a problem that are given; of the requirements, the metric and the length it only counts that they are
+-- the sections of a problem that are given; of the requirements, the metric and the length only whether they are given is kept
 pub record ProblemSections : Type 0 where
   pub domain : Option (List ℕ)
   pub requirements : Bool
@@ -115,19 +115,19 @@ pub record ProblemSections : Type 0 where
   pub metric : Bool
   pub length : Bool
 
--- each tree is a list, and this is what they are read as
+-- what the trees are read as, if each of them is a list
 unfoldable pub lists_of : {A : Type 0} → (Trees → Option A) → Trees → Option (List A)
 lists_of read none = Some []
 lists_of read (word w others) = None
 lists_of read (list inside others) = followed_by (read inside) (lists_of read others)
 
--- the value, where no tree is left
+-- the value, if no tree is left
 unfoldable pub ended : {A : Type 0} → Trees → Option A → Option A
 ended none value = value
 ended (word w others) value = None
 ended (list inside others) value = None
 
--- nothing, where no tree is left
+-- nothing, if no tree is left
 unfoldable pub end_of : Trees → Option (Unit {0})
 end_of trees = ended trees (Some tt)
 
@@ -143,7 +143,7 @@ first_list none = None
 first_list (word w others) = None
 first_list (list inside others) = Some inside
 
--- the name that stands alone
+-- the name, if there is nothing else
 unfoldable pub lone_name : Trees → Option (List ℕ)
 lone_name none = None
 lone_name (word w others) = guard (is_name w) (ended others (Some w))
@@ -160,12 +160,12 @@ unfoldable pub last_names : List (List ℕ) → List NameGroup
 last_names [] = []
 last_names (name ∷ names) = record { names = name ∷ names; type = object_word } ∷ []
 
--- a group, which has a name at least
+-- a group, which has at least one name
 unfoldable pub name_group : List (List ℕ) → List ℕ → Option NameGroup
 name_group [] type = None
 name_group (name ∷ names) type = Some (record { names = name ∷ names; type = type })
 
--- Typed(N): groups `N+ - N`, and then possibly a last group `N+` of type `object`; behind the names of a group that has begun
+-- Typed(N): groups `N+ - N`, and then possibly a last group `N+` of type `object`; read after the names of a group that has begun
 unfoldable mutual
   pub typed_names : List (List ℕ) → Trees → Option (List NameGroup)
   typed_names names none = Some (last_names names)
@@ -173,7 +173,7 @@ unfoldable mutual
       (if is_dash w then names_typed names others else guard (is_name w) (typed_names (names ++ w ∷ []) others))
   typed_names names (list inside others) = None
 
-  -- the type behind the dash, and the groups behind it
+  -- the type after the dash, and the groups after it
   pub names_typed : List (List ℕ) → Trees → Option (List NameGroup)
   names_typed names none = None
   names_typed names (word w others) = guard (is_name w) (followed_by (name_group names w) (typed_names [] others))
@@ -185,13 +185,13 @@ leading_name none = None
 leading_name (word w others) = guard (is_name w) (Some w)
 leading_name (list inside others) = None
 
--- each tree is a word that passes the test, and these are the words
+-- the words, if each tree is a word that passes the test
 unfoldable pub words_of : (List ℕ → Bool) → Trees → Option (List (List ℕ))
 words_of test none = Some []
 words_of test (word w others) = followed_by (guard (test w) (Some w)) (words_of test others)
 words_of test (list inside others) = None
 
--- the values, where there is one at least
+-- the values, if there is at least one
 unfoldable pub some_of : Option (List (List ℕ)) → Option (List (List ℕ))
 some_of None = None
 some_of (Some []) = None
@@ -210,14 +210,14 @@ unfoldable pub last_variables : List (List ℕ) → List VariableGroup
 last_variables [] = []
 last_variables (v ∷ vs) = record { variables = v ∷ vs; types = object_word ∷ [] } ∷ []
 
--- a group, which has a variable at least, where it has types
+-- a group, which has at least one variable, if it has types
 unfoldable pub variable_group : List (List ℕ) → Option (List (List ℕ)) → Option VariableGroup
 variable_group [] types = None
 variable_group (v ∷ vs) None = None
 variable_group (v ∷ vs) (Some types) = Some (record { variables = v ∷ vs; types = types })
 
--- Typed(V): groups `V+ - N` or `V+ - (either N+)`, and then possibly a last group `V+` of type `object`; behind the variables of
--- a group that has begun
+-- Typed(V): groups `V+ - N` or `V+ - (either N+)`, and then possibly a last group `V+` of type `object`; read after the
+-- variables of a group that has begun
 unfoldable mutual
   pub typed_variables : List (List ℕ) → Trees → Option (List VariableGroup)
   typed_variables variables none = Some (last_variables variables)
@@ -225,7 +225,7 @@ unfoldable mutual
       (if is_dash w then variables_typed variables others else guard (is_variable w) (typed_variables (variables ++ w ∷ []) others))
   typed_variables variables (list inside others) = None
 
-  -- the types behind the dash, and the groups behind them
+  -- the types after the dash, and the groups after them
   pub variables_typed : List (List ℕ) → Trees → Option (List VariableGroup)
   variables_typed variables none = None
   variables_typed variables (word w others) =
@@ -270,7 +270,7 @@ right_side test left none = None
 right_side test left (word right others) = guard (test right) (ended others (Some (equality_with left right)))
 right_side test left (list inside others) = None
 
--- Term Term, behind `=`
+-- Term Term, after `=`
 unfoldable pub equality_of : (List ℕ → Bool) → Trees → Option EqualityForm
 equality_of test none = None
 equality_of test (word left others) = guard (test left) (right_side test left others)
@@ -294,7 +294,7 @@ target_of none = None
 target_of (word w others) = guard (is_same_word w total_cost_word) (end_of others)
 target_of (list inside others) = None
 
--- `(total-cost)` Amount, behind `increase`
+-- `(total-cost)` Amount, after `increase`
 unfoldable pub increase_of : (List ℕ → Bool) → Trees → Option AmountForm
 increase_of test none = None
 increase_of test (word w others) = None
@@ -304,18 +304,18 @@ increase_of test (list target others) = option_and_then (λ _. amount_of test ot
 abbrev pub value_with : AtomForm → ℕ → ValueForm
 value_with function value = record { function = function; value = value }
 
--- a function with its value, where there are both
+-- a function with its value, if there are both
 abbrev pub value_by : Option AtomForm → Option ℕ → Option ValueForm
 value_by None number = None
 value_by (Some function) number = option_map (value_with function) number
 
--- `(N` Name*`)` NUMBER, behind `=`
+-- `(N` Name*`)` NUMBER, after `=`
 unfoldable pub value_of : (List ℕ → Bool) → Trees → Option ValueForm
 value_of test none = None
 value_of test (word w others) = None
 value_of test (list inside others) = value_by (function_in test inside) (number_of others)
 
--- a literal that may be negated, with its sign, behind the word that heads it
+-- a literal that may be negated, with its sign, after the word that heads it
 abbrev pub signed_by : Bool → LiteralHead → (List ℕ → Bool) → List ℕ → Trees → Option LiteralForm
 signed_by positive head.Atom test w others = option_map (atom_literal positive) (atom_of test w others)
 signed_by positive head.Equality test w others = option_map (equality_literal positive) (equality_of test others)
@@ -325,7 +325,7 @@ signed_by positive head.Increase test w others = None
 signed_by positive head.Reserved test w others = None
 signed_by positive head.Other test w others = None
 
--- what stands in the parentheses behind `not`: an atom or an equality
+-- what is in the parentheses after `not`: an atom or an equality
 unfoldable pub negated_in : Scope → Trees → Option LiteralForm
 negated_in scope none = None
 negated_in scope (word w others) = signed_by false (literal_head scope w (begins_with_list others)) (is_term scope.place) w others
@@ -337,7 +337,7 @@ negated_of scope none = None
 negated_of scope (word w others) = None
 negated_of scope (list inside others) = ended others (negated_in scope inside)
 
--- what a word heads where a literal may stand
+-- the literal that a word heads, where a literal may be
 abbrev pub literal_by : LiteralHead → Scope → List ℕ → Trees → Option LiteralForm
 literal_by head.Atom scope w others = signed_by true head.Atom (is_term scope.place) w others
 literal_by head.Equality scope w others = signed_by true head.Equality (is_term scope.place) w others
@@ -347,7 +347,7 @@ literal_by head.Increase scope w others = option_map increase_literal (increase_
 literal_by head.Reserved scope w others = None
 literal_by head.Other scope w others = None
 
--- Literal = `(N` Term*`)` | `(not (N` Term*`))`, and where the dialect has them `(= ` Term Term`)`, `(not (= ` Term Term`))`,
+-- Literal = `(N` Term*`)` | `(not (N` Term*`))`, and, if the dialect has them, `(= ` Term Term`)`, `(not (= ` Term Term`))`,
 -- `(increase (total-cost) `Amount`)` and `(= (N ` Name*`) ` NUMBER`)`, from its first word
 unfoldable pub literal_of : Scope → List ℕ → Trees → Option LiteralForm
 literal_of scope w others = literal_by (literal_head scope w (begins_with_list others)) scope w others
@@ -388,14 +388,14 @@ predicate_in none = None
 predicate_in (word w variables) = name_by (formula_head w) (predicate_of w variables)
 predicate_in (list inside others) = None
 
--- functions `(N` Typed(V)`)`, and behind some of them possibly `- number`; whether there is one since the last `number`
+-- functions `(N` Typed(V)`)`, possibly with `- number` after some of them; `some` says whether there is a function since the last `number`
 unfoldable mutual
   pub functions_of : Bool → Trees → Option (List PredicateForm)
   functions_of some none = Some []
   functions_of some (word w others) = guard (some && is_dash w) (functions_typed others)
   functions_of some (list inside others) = followed_by (predicate_in inside) (functions_of true others)
 
-  -- the type behind the dash, and the functions behind it
+  -- the type after the dash, and the functions after it
   pub functions_typed : Trees → Option (List PredicateForm)
   functions_typed none = None
   functions_typed (word w others) = guard (is_same_word w number_word) (functions_of false others)
@@ -451,7 +451,7 @@ action_form name parts = record {
   effect = unwrap_or parts.effect [];
 }
 
--- `(:action N` ActPart*`)`, behind the keyword
+-- `(:action N` ActPart*`)`, after the keyword
 unfoldable pub action_of : Dialect → Trees → Option ActionForm
 action_of dialect none = None
 action_of dialect (word name parts) = guard (is_name name) (option_map (action_form name) (parts_of dialect no_parts parts))
@@ -485,7 +485,7 @@ with_functions given value = record given { functions = Some value }
 abbrev pub with_action : DomainSections → ActionForm → DomainSections
 with_action given value = record given { actions = given.actions ++ value ∷ [] }
 
--- whether a section is given already that may stand once
+-- whether a section that may be given only once is given already
 unfoldable pub is_domain_section_given : DomainSection → DomainSections → Bool
 is_domain_section_given section.Requirements given = given.requirements
 is_domain_section_given section.Types given = is_some given.types
@@ -503,13 +503,13 @@ domain_section_by dialect section.Predicates given trees = option_map (with_pred
 domain_section_by dialect section.Functions given trees = option_map (with_functions given) (functions_of false trees)
 domain_section_by dialect section.Action given trees = option_map (with_action given) (action_of dialect trees)
 
--- the sections with the one that a word heads, each at most once but actions
+-- the sections with the one that a word heads, each at most once except actions
 unfoldable pub domain_section_headed : Dialect → Option DomainSection → DomainSections → Trees → Option DomainSections
 domain_section_headed dialect None given trees = None
 domain_section_headed dialect (Some headed) given trees = guard (not (is_domain_section_given headed given)) (domain_section_by dialect headed given trees)
 
--- DomSection = `(:requirements K*)` | `(:types Typed(N))` | `(:constants Typed(N))` | `(:predicates (N` Typed(V)`)*)` | `(:functions` FunctionGroup*`)` |
--- `(:action N` ActPart*`)`
+-- DomSection = `(:requirements K*)` | `(:types Typed(N))` | `(:constants Typed(N))` | `(:predicates (N` Typed(V)`)*)` |
+-- `(:functions` FunctionGroup*`)` | `(:action N` ActPart*`)`
 unfoldable pub domain_section_in : Dialect → DomainSections → Trees → Option DomainSections
 domain_section_in dialect given none = None
 domain_section_in dialect given (word w others) = domain_section_headed dialect (domain_section dialect w) given others
@@ -621,7 +621,7 @@ problem_section_headed dialect None given trees = None
 problem_section_headed dialect (Some headed) given trees = guard (not (is_problem_section_given headed given)) (problem_section_by dialect headed given trees)
 
 -- ProbSection = `(:domain N)` | `(:requirements K*)` | `(:objects Typed(N))` | `(:init` InitItem*`)` | `(:goal` Formula`)` | `(:metric ..)` |
--- `(:length ..)`; in the last two stands anything
+-- `(:length ..)`; the last two may have anything
 unfoldable pub problem_section_in : Dialect → ProblemSections → Trees → Option ProblemSections
 problem_section_in dialect given none = None
 problem_section_in dialect given (word w others) = problem_section_headed dialect (problem_section w) given others

@@ -33,12 +33,12 @@ SpelledBefore (list inside others) tokens rest =
 abbrev pub Spells : List Piece → Trees → Type 0
 Spells tokens trees = SpelledBefore trees tokens []
 
--- no tokens spell two lists of trees
+-- no tokens spell two different lists of trees
 abbrev pub AreTreesUnique : Type 0
 AreTreesUnique = (tokens : List Piece) (one other : Trees) → Spells tokens one → Spells tokens other → one ≡ other
 
--- the first fault of the tokens of a text that ends at `end`, where `depth` lists are open: a bad byte, a `)` where no list is
--- open, a `(` inside 64 lists, or the end inside a list
+-- the first fault of the tokens of a text that ends at `end`, if `depth` lists are open: a bad byte, a `)` that closes no list,
+-- a `(` inside 64 lists, or the end inside a list
 unfoldable pub fault_from : ℕ → ℕ → List Piece → Option ReadFault
 fault_from end zero [] = None
 fault_from end (suc depth) [] = Some (fault Unbalanced end end)
@@ -49,6 +49,6 @@ fault_from end depth (token Left span text ∷ more) =
 fault_from end zero (token Right span text ∷ more) = Some (record { kind = Unbalanced; span = span })
 fault_from end (suc depth) (token Right span text ∷ more) = fault_from end depth more
 
--- the fault of a text: a length of 2^31 bytes or more, or else the first fault of its tokens (this validator's choice)
+-- the fault of a text: a length of 2^31 bytes or more, or otherwise the first fault of its tokens (this validator's choice)
 unfoldable pub text_fault : List ℕ → Option ReadFault
 text_fault text = (if nat_le (2 ^ 31) (length text) then Some (fault BadText 0 0) else fault_from (length text) 0 (pieces text))

@@ -1,4 +1,4 @@
--- The types that follow a dash, and what is left of the list behind them.
+-- The types that follow a dash, and what is left of the list after them.
 
 use Rattle.std.specs.Prelude.{ℕ, List, [], ◌∷◌, Option, Some, None}
 use Rattle.std.specs.Option.{option_map}

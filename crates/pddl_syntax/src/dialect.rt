@@ -3,9 +3,9 @@
 /// The language of a text.
 #[derive(Clone, Copy, Debug, PartialEq, Eq)]
 pub enum Dialect {
-    /// STRIPS with types: literals of predicates alone.
+    /// STRIPS with types: only literals of predicates.
     Strips,
-    /// STRIPS with types, and what many domains of the planning competitions have besides: functions, and effects that raise `total-cost` by their
-    /// values (`:action-costs`, since the competition of 2008), and `=` between terms (`:equality`). A text of [`Dialect::Strips`] means the same in it.
+    /// STRIPS with types, and what many domains of the planning competitions also use: functions, effects that raise `total-cost` by their values
+    /// (`:action-costs`, since the competition of 2008), and `=` between terms (`:equality`). A text of [`Dialect::Strips`] means the same here.
     Ipc,
 }

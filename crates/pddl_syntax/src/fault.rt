@@ -1,4 +1,4 @@
-//! What a reader answers where it refuses a text: which fault, and where it stands.
+//! What a reader answers when it refuses a text: which fault, and where it is.
 
 ghost use Rattle.std.specs.Prelude.{◌≡◌};
 
@@ -10,25 +10,25 @@ use std::alloc::{AllocError, AllocFailed};
 pub enum FaultKind {
     /// A byte that no text may hold outside comments, or a text of 2^31 bytes or more.
     BadText,
-    /// A `)` where no list is open, or the text's end where one is.
+    /// A `)` that closes no list, or the end of the text inside a list.
     Unbalanced,
-    /// A word or list that the grammar has not at its place, or a place where a piece is missing.
+    /// A word or list that may not appear here, or a piece that is missing.
     Expected,
-    /// A part of PDDL that this reader does not read.
+    /// A part of PDDL that this reader does not support.
     Unsupported,
     /// A type, constant, object, predicate or variable that is not declared.
     UnknownName,
-    /// A section, part or name that stands a second time.
+    /// A section, part or name that appears a second time.
     Repeated,
-    /// A type under itself.
+    /// A type that is declared below itself.
     TypeCycle,
     /// An atom with another number of terms than its predicate has.
     WrongCount,
-    /// A term whose type does not fit its place.
+    /// A term whose type does not fit the argument.
     WrongType,
-    /// A list inside 64 others.
+    /// A list inside 64 other lists.
     TooDeep,
-    /// One name more than the limit on its sort.
+    /// One name more than the limit for its kind.
     TooMany,
     /// Memory ran out.
     OutOfMemory,
@@ -58,8 +58,8 @@ impl FaultKind {
     }
 }
 
-/// Why a text was refused. The span covers the faulty bytes of the text; it is empty where something is missing, and 0 to 0
-/// where memory ran out.
+/// Why a text was refused. The span covers the faulty bytes of the text; it is empty if something is missing, and 0 to 0
+/// if memory ran out.
 #[derive(Clone, Copy, Debug, PartialEq, Eq)]
 pub struct ReadFault {
     pub kind: FaultKind,

@@ -1,4 +1,4 @@
-//! What the first word of a list says of it.
+//! What the first word of a list says about the list.
 
 ghost use Rattle.std.specs.Prelude.{◌≡◌};
 ghost use Rattle.pddl_words.specs.Words.{is_name};
@@ -34,13 +34,13 @@ pub(crate) enum LiteralHead {
     Value,
     /// `increase` before the function that is raised.
     Increase,
-    /// A word that names no predicate, and heads nothing that may stand here.
+    /// A word that names no predicate, and heads nothing that may appear here.
     Reserved,
     /// A word that is no name.
     Other,
 }
 
-/// Where a literal stands.
+/// Where a literal is.
 #[derive(Clone, Copy, Debug)]
 pub(crate) enum Place {
     Precondition,
@@ -49,7 +49,7 @@ pub(crate) enum Place {
     Goal,
 }
 
-/// Where a literal stands, and in a text of which dialect.
+/// Where a literal is, and in a text of which dialect.
 #[derive(Clone, Copy, Debug)]
 pub(crate) struct Scope {
     pub(crate) dialect: Dialect,
@@ -139,7 +139,7 @@ pub fn is_variable(word: &[u8]) -> bool
     }
 }
 
-/// Whether the word may be a term. Variables may be terms in actions alone.
+/// Whether the word may be a term. Variables may be terms only in actions.
 #[tactic(auto, unfolding(crate::specs::Heads::is_term))]
 pub(crate) fn is_term(place: Place, word: &[u8]) -> bool
     ensures { result ≡ is_term place word.now }
@@ -170,7 +170,7 @@ pub(crate) fn formula_head(word: &[u8]) -> FormulaHead
     }
 }
 
-/// What `=` heads, behind which the walk stands.
+/// What `=` heads. The walk is right after it.
 fn equals_head(scope: Scope, walk: &Walk<'_>) -> LiteralHead
     ensures { result ≡ equals_head scope.dialect scope.place (begins_with_list (here walk.now.cursor).top) }
 {
@@ -206,7 +206,7 @@ fn has_changes(scope: Scope) -> bool
     }
 }
 
-/// Whether the word changes a number, where it is no predicate.
+/// Whether the word changes a number, if it is no predicate.
 #[tactic(auto, unfolding(crate::specs::Keywords::is_change))]
 fn is_change(word: &[u8]) -> bool
     ensures { result ≡ is_change word.now }
@@ -218,7 +218,7 @@ fn is_change(word: &[u8]) -> bool
         || same_folded(word, b"scale-down")
 }
 
-/// What a name heads, behind which the walk stands.
+/// What a name heads. The walk is right after it.
 fn name_head(scope: Scope, word: &[u8], walk: &Walk<'_>) -> LiteralHead
     ensures { result ≡ name_head scope word.now (begins_with_list (here walk.now.cursor).top) }
 {
@@ -232,7 +232,7 @@ fn name_head(scope: Scope, word: &[u8], walk: &Walk<'_>) -> LiteralHead
     }
 }
 
-/// What a reserved word besides `and` and `not` heads, behind which the walk stands.
+/// What a reserved word besides `and` and `not` heads. The walk is right after it.
 fn reserved_head(scope: Scope, word: &[u8], walk: &Walk<'_>) -> LiteralHead
     ensures { result ≡ reserved_head scope word.now (begins_with_list (here walk.now.cursor).top) }
 {
@@ -243,7 +243,7 @@ fn reserved_head(scope: Scope, word: &[u8], walk: &Walk<'_>) -> LiteralHead
     }
 }
 
-/// What the word heads where a literal is due. The walk stands behind it, and looks ahead where that depends on what follows.
+/// What the word heads where a literal is due. The walk is right after it, and looks ahead if that depends on what follows.
 #[tactic(auto, unfolding(crate::specs::Heads::literal_head))]
 pub(crate) fn literal_head(scope: Scope, word: &[u8], walk: &Walk<'_>) -> LiteralHead
     ensures { result ≡ literal_head scope word.now (begins_with_list (here walk.now.cursor).top) }
@@ -329,7 +329,7 @@ pub(crate) fn problem_section(word: &[u8]) -> Option<ProblemSection>
     }
 }
 
-/// Whether the word is a name. Upper and lower case are alike.
+/// Whether the word is a name, in upper or lower case.
 #[tactic(auto, unfolding(pddl_words::specs::Kinds::kind_of_word))]
 pub(crate) fn is_name(word: &[u8]) -> bool
     ensures { result ≡ is_name word.now }

@@ -3,7 +3,7 @@
 ghost use Rattle.pddl_syntax.specs.Dialects.{AreDomainsKept, AreProblemsKept};
 ghost use Rattle.pddl_syntax.specs.Trees.{AreTreesUnique};
 
-/// The tokens of a text spell one list of trees at most, so that a text has one reading at most.
+/// The tokens of a text spell at most one list of trees, so a text has at most one reading.
 pub fn trees_are_unique()
     ensures { AreTreesUnique }
 {}

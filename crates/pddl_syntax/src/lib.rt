@@ -1,5 +1,5 @@
-//! The grammar of PDDL domains and problems (PDDL 2.1, Fox and Long 2003, appendix A): from a text to its syntax, as slices of the text
-//! with their spans. What the names in it stand for is the matter of `pddl_reader`.
+//! The grammar of PDDL domains and problems (PDDL 2.1, Fox and Long 2003, appendix A): reads the syntax of a text, as slices of the text with
+//! their spans. `pddl_reader` finds out what the names in it stand for.
 //!
 //! ```text
 //! check_text(text)?;                                    // bad bytes and wrong parentheses, in one pass that takes no memory
@@ -7,8 +7,8 @@
 //! let problem = problem_text(alloc, dialect, text)?;    // a ProblemSyntax
 //! ```
 //!
-//! [`check_text`] comes first: the two readers walk only over texts that it passes, by recursive descent that is at most as deep as it lets
-//! lists be. They read one of two languages, a [`Dialect`]. A refusal is a [`ReadFault`]: its kind and the span of the faulty bytes.
+//! Call [`check_text`] first: the two readers take only texts that it accepts. They work by recursive descent, at most as deep as it lets lists
+//! be nested. They read one of two languages, a [`Dialect`]. A refusal is a [`ReadFault`]: its kind and the span of the faulty bytes.
 #![tactic(auto)]
 
 mod dialect;

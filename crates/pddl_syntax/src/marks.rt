@@ -67,7 +67,7 @@ fn is_plain(b: u8) -> bool
     }
 }
 
-/// The place behind the plain bytes that begin at one. They change no fault.
+/// The offset after the plain bytes that begin at `at`. They change no fault.
 pub(crate) fn plain_end(text: &[u8], at: usize) -> usize
     requires within { at < length text.now }
     requires begins { mark_of (slice_index text.now at) ≡ Mark.Plain }
@@ -85,7 +85,7 @@ pub(crate) fn plain_end(text: &[u8], at: usize) -> usize
     end
 }
 
-/// Whether a comment goes on with this byte.
+/// Whether a comment goes on with this byte, so that it is no LF.
 #[tactic(auto, using(crate::proofs::MarkSteps::comment_byte_is))]
 fn is_comment_byte(b: u8) -> bool
     ensures { result ≡ is_comment_byte b }
@@ -93,7 +93,7 @@ fn is_comment_byte(b: u8) -> bool
     b != b'\n'
 }
 
-/// How many bytes at the front stand before the first LF.
+/// How many bytes there are before the first LF.
 fn comment_run(bytes: &[u8]) -> usize
     ensures run { result ≡ prefix_len is_comment_byte bytes.now }
     ensures within { result ≤ length bytes.now }
@@ -101,7 +101,7 @@ fn comment_run(bytes: &[u8]) -> usize
     bytes.iter().take_while(|b| is_comment_byte(**b)).count()
 }
 
-/// The place behind the comment that begins at a `;`.
+/// The offset after the comment that begins at a `;`.
 pub(crate) fn comment_end(text: &[u8], at: usize) -> usize
     requires within { at < length text.now }
     requires begins { mark_of (slice_index text.now at) ≡ Mark.Semicolon }

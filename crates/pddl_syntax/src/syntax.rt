@@ -1,8 +1,8 @@
-//! The second layer: what the grammar allows, kept as slices of the text with their places. Of formulas and of lists of
-//! variables only the place is kept where they begin.
+//! The second layer: what the grammar allows, kept as slices of the text with their spans. Formulas and lists of variables are not kept, but only
+//! where they begin.
 //!
-//! Each reader here stands inside a list, reads what is left of it, and leaves it behind its `)`. Lists stand at most 64 deep,
-//! since the first layer refuses deeper ones, and so deep goes the recursion.
+//! Each reader here starts inside a list, reads what is left of it, and leaves it after its `)`. Lists are nested at most 64 deep, since the first
+//! layer refuses deeper ones, and the recursion goes as deep.
 
 pub(crate) mod action;
 pub(crate) mod domain;
@@ -21,16 +21,16 @@ use crate::walk::{NameWord, Word};
 use pddl_tokens::Span;
 use smallvec::SmallVec;
 
-/// The words of an atom's terms. Most atoms have two at most, and these take no memory of their own.
+/// The words of an atom's terms. Most atoms have at most two, which take no memory of their own.
 pub type Terms<'a> = SmallVec<Word<'a>, 2>;
 
 /// The variables of a group. Many groups have one, which takes no memory of its own.
 pub type Variables<'a> = SmallVec<Word<'a>, 1>;
 
-/// Names beside one another: those of a group, or types. Most often there is one, which takes no memory of its own.
+/// Several names: those of a group, or types. Most often there is one, which takes no memory of its own.
 pub type Names<'a> = SmallVec<NameWord<'a>, 1>;
 
-/// An atom as written. A function with its terms reads alike, and has its name for the predicate's.
+/// An atom as written. A function with its terms is kept the same way, with the name of the function as that of the predicate.
 #[derive(Drop)]
 pub struct AtomSyntax<'a> {
     pub predicate: NameWord<'a>,
@@ -56,7 +56,7 @@ pub enum AmountSyntax<'a> {
 /// An increase of `total-cost`.
 #[derive(Drop)]
 pub struct IncreaseSyntax<'a> {
-    /// The place of the word `increase`.
+    /// Where the word `increase` is.
     pub span: Span,
     /// The word `total-cost`.
     pub target: Word<'a>,
@@ -69,7 +69,7 @@ pub struct ValueSyntax<'a> {
     pub function: AtomSyntax<'a>,
     /// The value, in billionths.
     pub value: u64,
-    /// The place of the value.
+    /// Where the value is.
     pub span: Span,
 }
 
@@ -92,7 +92,7 @@ pub enum LiteralSyntax<'a> {
     Value(ValueSyntax<'a>),
 }
 
-/// A group of a list of typed variables, with the names of the types of which they may be.
+/// A group of a list of typed variables, with the names of the types that they may have.
 #[derive(Drop)]
 pub struct VariableGroup<'a> {
     pub variables: Variables<'a>,

@@ -8,7 +8,7 @@ ghost use Rattle.pddl_syntax.specs.Trees.{text_fault};
 use crate::fault::{FaultKind, ReadFault};
 use crate::marks::{Mark, comment_end, mark_of, plain_end};
 
-/// How many lists may stand one inside the other.
+/// How deep lists may be nested.
 const DEEPEST: u32 = 64;
 
 /// Finds the first fault of a text's bytes and parentheses. The layers above read only texts that pass.
@@ -23,7 +23,7 @@ pub fn check_text(text: &[u8]) -> Result<(), ReadFault>
     check_short(text)
 }
 
-/// Finds the first fault of a short text's bytes and parentheses. Words and blanks are stepped over alike.
+/// Finds the first fault of a short text's bytes and parentheses. Words are skipped like blanks.
 fn check_short(text: &[u8]) -> Result<(), ReadFault>
     requires { length text.now < 2 ^ 31 }
     ensures first { FirstFault result (text_fault text.now) }

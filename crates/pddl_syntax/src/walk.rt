@@ -12,7 +12,7 @@ ghost use Rattle.pddl_syntax.specs.Sizes.{ahead};
 
 use pddl_tokens::{Cursor, Span, TokenKind};
 
-/// A word of a text with its place.
+/// A word of a text with its span.
 #[derive(Clone, Copy, Debug)]
 pub struct Word<'a> {
     pub span: Span,
@@ -36,7 +36,7 @@ pub struct NameWord<'a> {
     ghost named: { IsTrue (is_name text.now) },
 }
 
-/// The name `object` where no word spells it.
+/// The name `object`, when no word of the text spells it.
 #[tactic(auto, unfolding(pddl_words::specs::Words::is_name))]
 impl<'a> Default for NameWord<'a> {
     fn default() -> Self {
@@ -71,7 +71,7 @@ pub(crate) enum Item<'a> {
     Close(Span),
 }
 
-/// A place in a text.
+/// A walk over a text, and where it is.
 #[derive(Drop)]
 pub(crate) struct Walk<'a> {
     pub(crate) cursor: Cursor<'a>,
@@ -98,7 +98,7 @@ impl<'a> Walk<'a> {
         }
     }
 
-    /// A second walk at the same place.
+    /// A second walk, at the same token.
     pub(crate) fn fork(&self) -> Self
         ensures { result.cursor ≡ self.now.cursor }
     {
@@ -121,7 +121,7 @@ impl<'a> Walk<'a> {
         }
     }
 
-    /// Steps over the next word, into the next list, or out of the list in which the walk stands.
+    /// Steps over the next word, into the next list, or out of the list that the walk is in.
     #[tactic(auto, using(crate::proofs::LevelSteps::walk_steps, crate::proofs::Ahead::no_more_ahead))]
     pub(crate) fn next(&mut self) -> Item<'a>
         ensures { Steps result (here self.old.cursor) (here self.new.cursor) }

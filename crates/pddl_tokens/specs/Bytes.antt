@@ -1,4 +1,4 @@
--- What single bytes stand for in a text of PDDL (PDDL 2.1, Fox and Long 2003, appendix A; which bytes are refused is this reader's choice).
+-- What single bytes mean in a text of PDDL (PDDL 2.1, Fox and Long 2003, appendix A; which bytes are refused is this reader's choice).
 
 use Rattle.std.specs.Prelude.{ℕ, Bool, true, false, ◌==◌, ◌&&◌, ◌||◌, nat_le, if◌then◌else◌}
 use Rattle.pddl_tokens.specs.declared.bytes.ByteClass.{ByteClass}
@@ -8,7 +8,7 @@ use Rattle.pddl_tokens.specs.declared.bytes.ByteClass.TheVariants.{LineEnd, Blan
 abbrev pub is_other_blank : ℕ → Bool
 is_other_blank b = b == 32 || b == 9 || b == 13 || b == 11 || b == 12
 
--- what a byte stands for outside comments: `(` is 40, `)` is 41, `;` is 59, and the other bytes 33 to 126 make words
+-- what a byte means outside comments: `(` is 40, `)` is 41, `;` is 59, and the other bytes 33 to 126 make words
 unfoldable pub class_of : ℕ → ByteClass
 class_of b =
     if b == 10 then LineEnd

@@ -1,4 +1,4 @@
--- How a text is cut into tokens, said without a walk over its bytes (PDDL 2.1, Fox and Long 2003, appendix A).
+-- How a text is cut into tokens, stated without a walk over its bytes (PDDL 2.1, Fox and Long 2003, appendix A).
 
 use Rattle.std.specs.Prelude.{◌≡◌, ◌≢◌, ℕ, ◌+◌, ◌-◌, ◌<◌, ◌≤◌, ◌==◌, ◌||◌, ◌⊎◌, Bool, false, List, [], ◌∷◌, length, slice_index, slice_range, IsTrue, true, not}
 use Rattle.pddl_tokens.specs.declared.spans.TokenKind.{TokenKind}
@@ -8,7 +8,7 @@ use Rattle.pddl_tokens.specs.Tokens.{Piece, token, bad}
 use Rattle.pddl_tokens.specs.declared.bytes.ByteClass.{ByteClass}
 use Rattle.pddl_tokens.specs.declared.bytes.ByteClass.TheVariants.{LineEnd, Blank}
 
--- a byte lies in a comment exactly where a `;` (59) stands at or before it with no LF (10) from there up to and with the byte
+-- a byte is in a comment if there is a `;` (59) at or before it, and no LF (10) from there up to and including the byte
 pub record LiesInComment (text : List ℕ) (at : ℕ) : Type 0 where
   pub start : ℕ
   pub before : start ≤ at
@@ -19,7 +19,7 @@ pub record LiesInComment (text : List ℕ) (at : ℕ) : Type 0 where
 abbrev pub is_blank : ℕ → Bool
 is_blank b = b == 10 || is_other_blank b
 
--- only blanks and comments stand from one place up to another
+-- there are only blanks and comments from one offset up to another
 pub record IsGap (text : List ℕ) (from to : ℕ) : Type 0 where
   pub ordered : from ≤ to
   pub within : to ≤ length text
@@ -39,13 +39,13 @@ pub record IsMark (text : List ℕ) (start end mark : ℕ) : Type 0 where
   pub within : end ≤ length text
   pub is : slice_index text start ≡ mark
 
--- what stands where a token of each kind does: `(` is 40 and `)` is 41
+-- what a token of each kind is in the text: `(` is 40 and `)` is 41
 abbrev pub IsTokenAt : TokenKind → List ℕ → ℕ → ℕ → Type 0
 IsTokenAt Left text start end = IsMark text start end 40
 IsTokenAt Right text start end = IsMark text start end 41
 IsTokenAt Word text start end = IsLongestRun text start end
 
--- no byte from one place up to another lies in a comment
+-- no byte from one offset up to another is in a comment
 abbrev pub IsOutsideComments : List ℕ → ℕ → ℕ → Type 0
 IsOutsideComments text start end = (k : ℕ) → start ≤ k → k < end → ¬ (LiesInComment text k)
 
@@ -55,7 +55,7 @@ pub record IsBadByte (text : List ℕ) (at : ℕ) : Type 0 where
   pub no_blank : is_blank (slice_index text at) ≡ false
   pub not_visible : 33 ≤ slice_index text at → slice_index text at ≤ 126 → ⊥
 
--- the text from a place on is cut into these pieces: a gap, a token which is the slice at its span, and so on,
+-- the text from an offset on is cut into these pieces: a gap, a token which is the slice at its span, and so on,
 -- up to the end or to the first bad byte outside comments
 abbrev pub IsCutInto : List ℕ → ℕ → List Piece → Type 0
 IsCutInto text from [] = IsGap text from (length text)
@@ -70,7 +70,7 @@ abbrev pub is_line_end_class : ByteClass → Bool
 is_line_end_class LineEnd = true
 is_line_end_class _ = false
 
--- a byte that a comment goes on with
+-- a byte that does not end a comment
 abbrev pub is_comment_byte : ℕ → Bool
 is_comment_byte b = not (is_line_end_class (class_of b))
 

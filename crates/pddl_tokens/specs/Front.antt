@@ -1,11 +1,11 @@
--- What a cursor finds first from a place on.
+-- What a cursor finds first from an offset on.
 
 use Rattle.std.specs.Prelude.{◌≡◌, ℕ, ◌-◌, ◌<◌, ◌≤◌, List, [], ◌∷◌, length, take, drop}
 use Rattle.pddl_tokens.specs.declared.scan.Front.{Front}
 use Rattle.pddl_tokens.specs.declared.scan.Front.TheVariants.{End, Bad, Token}
 use Rattle.pddl_tokens.specs.Tokens.{Piece, token, bad, span, pieces_from, between}
 
--- the pieces of a text from a place between tokens on
+-- the pieces of a text from an offset between tokens on
 abbrev pub pieces_at : List ℕ → ℕ → List Piece
 pieces_at text at = pieces_from between at (drop at text)
 

@@ -12,16 +12,16 @@ abbrev pub is_word : List ℕ → Bool
 is_word [] = false
 is_word (b ∷ bytes) = is_word_byte b && list_all is_word_byte bytes
 
--- a row of bytes is plain where its spaces part words, and nothing else stands there
+-- a row of bytes is plain if its spaces separate words, and it has nothing else
 abbrev pub IsPlain : List ℕ → Type 0
 IsPlain row = All (λ word. IsTrue (is_word word)) (words_of row)
 
--- the pieces of words that stand one behind the other from a place on, with one byte between each two
+-- the pieces of words that follow each other from an offset on, with one byte between each two
 unfoldable pub word_pieces : ℕ → List (List ℕ) → List Piece
 word_pieces at [] = []
 word_pieces at (word ∷ words) = token Word (span at (at + length word)) word ∷ word_pieces (at + length word + 1) words
 
--- the pieces of a plain row in parentheses: `(` (40) stands at this place, and `)` (41) behind the row
+-- the pieces of a plain row in parentheses: `(` (40) is at this offset, and `)` (41) follows the row
 abbrev pub group_pieces : ℕ → List ℕ → List Piece
 group_pieces at row =
     token Left (span at (at + 1)) (40 ∷ [])

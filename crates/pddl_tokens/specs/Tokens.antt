@@ -11,12 +11,12 @@ use Rattle.pddl_tokens.specs.declared.spans.TokenKind.TheVariants.{Left, Right, 
 use Rattle.pddl_tokens.specs.declared.spans.BadByte.{BadByte}
 use Rattle.pddl_tokens.specs.Bytes.{class_of, is_word_byte}
 
--- what stands in a text: a token with its bytes, or the first bad byte, behind which nothing is read
+-- a piece of a text: a token with its span and its bytes, or the first bad byte, after which nothing is read
 pub data Piece : Type 0 where
   token : TokenKind → Span → List ℕ → Piece
   bad : ℕ → Piece
 
--- where one is in a text: between tokens, in a word, in a comment, or behind the first bad byte
+-- where a walk is in a text: between tokens, in a word, in a comment, or after the first bad byte
 pub data Place : Type 0 where
   between : Place
   in_word : Place
@@ -27,26 +27,26 @@ pub data Place : Type 0 where
 abbrev pub span : ℕ → ℕ → Span
 span start end = record { start = start; end = end }
 
--- where one is behind a byte outside comments
+-- where a walk is after a byte outside comments
 abbrev pub place_behind : ByteClass → Place
 place_behind c.WordByte = in_word
 place_behind c.Semicolon = in_comment
 place_behind c.Bad = stopped
 place_behind _ = between
 
--- a comment ends behind its line's LF
+-- where a walk is after a byte in a comment, which ends with its line's LF
 abbrev pub comment_behind : ByteClass → Place
 comment_behind c.LineEnd = between
 comment_behind _ = in_comment
 
--- where one is behind a byte
+-- where a walk is after a byte
 abbrev pub place_after : Place → ByteClass → Place
 place_after between class = place_behind class
 place_after in_word class = place_behind class
 place_after in_comment class = comment_behind class
 place_after stopped class = stopped
 
--- the word at the front of the bytes, which are not behind a byte of a word: the longest run of bytes of words
+-- the word at the front of the bytes, if no byte of a word is before them: the longest run of bytes of words
 abbrev pub word_at : ℕ → List ℕ → Piece
 word_at at bytes =
     let n = prefix_len is_word_byte bytes in
@@ -64,20 +64,20 @@ abbrev pub piece_at : ByteClass → ℕ → List ℕ → List Piece
 piece_at c.WordByte at bytes = word_at at bytes ∷ []
 piece_at class at bytes = mark_at class at bytes
 
--- the piece that begins with the first byte at a place, if one does
+-- the piece that begins with the first byte, if one does, by where the walk is
 abbrev pub begins : Place → ByteClass → ℕ → List ℕ → List Piece
 begins between class at bytes = piece_at class at bytes
 begins in_word class at bytes = mark_at class at bytes
 begins in_comment class at bytes = []
 begins stopped class at bytes = []
 
--- the pieces of the bytes, which stand at `at` in their text, at that place
+-- the pieces of the bytes, which are at the offset `at` of their text, by where the walk is
 unfoldable pub pieces_from : Place → ℕ → List ℕ → List Piece
 pieces_from place at [] = []
 pieces_from place at (b ∷ bytes) =
     begins place (class_of b) at (b ∷ bytes) ++ pieces_from (place_after place (class_of b)) (at + 1) bytes
 
--- the tokens of a text in order, and behind them its first bad byte outside comments where there is one
+-- the tokens of a text in order, up to its first bad byte outside comments, which is the last piece if there is one
 unfoldable pub pieces : List ℕ → List Piece
 pieces text = pieces_from between 0 text
 

@@ -4,7 +4,7 @@ ghost use Rattle.std.specs.Prelude.{◌≡◌};
 ghost use Rattle.pddl_tokens.specs.Bytes.{class_of, is_word_byte};
 ghost use Rattle.pddl_tokens.specs.Cut.{is_blank_class, is_comment_byte};
 
-/// What a byte stands for outside comments.
+/// What a byte means outside comments.
 #[derive(Clone, Copy, Debug, PartialEq, Eq)]
 pub(crate) enum ByteClass {
     LineEnd,
@@ -73,7 +73,7 @@ pub(crate) fn is_comment_byte(b: u8) -> bool
     !matches!(class_of(b), ByteClass::LineEnd)
 }
 
-/// Whether a byte outside comments only parts tokens.
+/// Whether a byte outside comments only separates tokens.
 pub(crate) fn is_blank(b: u8) -> bool
     ensures { result ≡ is_blank_class (class_of b) }
 {

@@ -1,8 +1,16 @@
-//! The tokens of PDDL texts: bytes come in, and words and parentheses go out as slices of the text, with their places.
+//! The tokens of PDDL texts: words and parentheses, each as a slice of the text with its span of byte offsets.
 //!
-//! A `Cursor` walks over the text once and takes no memory. `Cursor::group` passes a list of plain words at once, for callers that know
-//! these very bytes already and need not look at them again. What a word stands for is asked of `word_kind`, and the line of a
-//! place of `line_of`.
+//! ```text
+//! let mut cursor = Cursor::new(b"(lit ?x) ; on")?;
+//! cursor.next()                   // Ok(Some(token)): a TokenKind::Left, with the span 0 to 1
+//! cursor.next()                   // Ok(Some(token)): a TokenKind::Word, the bytes `lit`, with the span 1 to 4
+//! word_kind(b"?x")                // WordKind::Variable
+//! line_of(b"(lit\n?x)", 5)        // 2: the line of the byte at offset 5
+//! ```
+//!
+//! A [`Cursor`] walks over the text once and takes no memory. [`Cursor::group`] gives a list of plain words as one run of bytes, for callers
+//! that know these bytes already and need not read them again. [`word_kind`] says what a word may stand for, and [`line_of`] finds the line
+//! of an offset.
 #![tactic(auto)]
 
 mod bytes;

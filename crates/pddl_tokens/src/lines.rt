@@ -3,9 +3,9 @@
 ghost use Rattle.std.specs.Prelude.{◌≡◌, ◌<◌, ◌≤◌, ◌^◌, ◌==◌, length, count_by};
 ghost use Rattle.pddl_tokens.specs.Lines.{line_of};
 
-/// The number of the line in which the byte at `at` stands, from 1 on; an LF belongs to the line that it ends.
+/// The number of the line that has the byte at offset `at`, counted from 1. An LF belongs to the line that it ends.
 ///
-/// At the text's length it is the line of a byte that would follow. The cost is one pass over the bytes before `at`.
+/// If `at` is the text's length, this is the line of a byte that would follow. The cost is one pass over the bytes before `at`.
 pub fn line_of(text: &[u8], at: u32) -> u32
     requires within { at ≤ length text.now }
     requires short { length text.now < 2 ^ 31 }

@@ -45,7 +45,7 @@ impl<'a> Cursor<'a> {
         }
     }
 
-    /// A second cursor at the same place.
+    /// A second cursor at the same offset.
     pub fn fork(&self) -> Self
         ensures { result ≡ self.now }
     {
@@ -55,9 +55,9 @@ impl<'a> Cursor<'a> {
         }
     }
 
-    /// The next token, or `None` where none follows.
+    /// The next token, or `None` if none follows.
     ///
-    /// At a bad byte the same fault comes at each further call, and at the end `None` does.
+    /// At a bad byte, each further call gives the same fault. At the end, each further call gives `None`.
     pub fn next(&mut self) -> Result<Option<Token<'a>>, BadByte>
         ensures { Takes result self.old self.new }
     {
@@ -79,24 +79,24 @@ impl<'a> Cursor<'a> {
     }
 }
 
-/// A `(`, and what stands between it and the first `)` behind it.
+/// A `(`, and what is between it and the first `)` after it.
 #[derive(Debug, Drop)]
 pub struct Group<'a> {
     /// The offset of the `(`.
     pub start: u32,
-    /// The bytes between the two, which nobody has looked at.
+    /// The bytes between the two, which were not read yet.
     pub key: &'a [u8],
-    /// A cursor behind the `)`.
+    /// A cursor after the `)`.
     pub rest: Cursor<'a>,
 }
 
 impl<'a> Cursor<'a> {
     ghost use Rattle.pddl_tokens.specs.Groups.{IsPlain, group_pieces};
 
-    /// What stands up to the next `)`, where a `(` comes next.
+    /// The bytes up to the next `)`, if a `(` follows.
     ///
-    /// Only who knows that the key is plain, so that it has words and single spaces alone, knows that these are the next tokens: a comment
-    /// may hide the `)`, another `(` may stand before it, and a bad byte too. Nothing is said where there is no group.
+    /// They are the next tokens if the key is plain: only words with single spaces between them. For any other key that need not be so, since
+    /// a comment may hide the `)`, or another `(` or a bad byte may be before it. `None` says nothing about what follows.
     pub fn group(&self) -> Option<Group<'a>>
         ensures { IfSome result (λ group. IsPlain group.key.now → self.now ≡ group_pieces group.start group.key.now ++ group.rest) }
     {
@@ -121,7 +121,7 @@ impl<'a> Cursor<'a> {
     }
 }
 
-/// The place of the first byte from `at` on that is no blank, or the end.
+/// The offset of the first byte from `at` on that is no blank, or the end.
 fn skip_blanks(text: &[u8], mut at: usize) -> usize
     requires { at ≤ length text.now }
     ensures same { pieces_at text.now result ≡ pieces_at text.now at }
@@ -200,7 +200,7 @@ fn word_len(text: &[u8], start: usize) -> usize
     word_run(&text[start..])
 }
 
-/// How many bytes from `start` on stand before the next LF, or before the end.
+/// How many bytes there are from `start` to the next LF, or to the end.
 #[tactic(auto, using(crate::proofs::Steps::rest_whole))]
 fn comment_len(text: &[u8], start: usize) -> usize
     requires { start ≤ length text.now }
@@ -218,7 +218,7 @@ fn word_run(bytes: &[u8]) -> usize
     bytes.iter().take_while(|b| is_word_byte(**b)).count()
 }
 
-/// How many bytes at the front stand before the first LF.
+/// How many bytes there are before the first LF.
 fn comment_run(bytes: &[u8]) -> usize
     ensures run { result ≡ prefix_len is_comment_byte bytes.now }
     ensures within { result ≤ length bytes.now }

@@ -1,11 +1,11 @@
-//! Tokens, their places in the text, and what can be wrong with a text.
+//! Tokens, their spans in the text, and what can be wrong with a text.
 
 /// A half-open range of byte offsets in a text.
 #[derive(Clone, Copy, Debug, PartialEq, Eq)]
 pub struct Span {
     /// The offset of the first byte.
     pub start: u32,
-    /// The offset behind the last byte.
+    /// The offset after the last byte.
     pub end: u32,
 }
 
@@ -24,9 +24,9 @@ pub enum TokenKind {
 #[derive(Clone, Copy, Debug)]
 pub struct Token<'a> {
     pub kind: TokenKind,
-    /// Where the token stands in the text.
+    /// Where the token is in the text.
     pub span: Span,
-    /// Its bytes, as they stand in the text.
+    /// Its bytes, as they are in the text.
     pub text: &'a [u8],
 }
 

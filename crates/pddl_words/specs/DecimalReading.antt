@@ -13,13 +13,13 @@ digits_of bytes = if nat_le 1 (length bytes) && (nat_le (length bytes) 9 && list
 abbrev pub is_point : ℕ → Bool
 is_point b = b == 46
 
--- a number of its two parts, of which the second has so many digits
+-- a number by its two parts, and how many digits the second has
 abbrev pub of_parts : Option ℕ → Option ℕ → ℕ → Option ℕ
 of_parts None part size = None
 of_parts (Some whole) None size = None
 of_parts (Some whole) (Some part) size = Some (whole * 10 ^ 9 + part * 10 ^ (9 - size))
 
--- the number of some bytes, by where their first point stands
+-- the number of some bytes, by the index of their first point
 abbrev pub billionths_by : List ℕ → Option ℕ → Option ℕ
 billionths_by bytes None = of_parts (digits_of bytes) (Some 0) 0
 billionths_by bytes (Some point) = of_parts (digits_of (take point bytes)) (digits_of (drop (point + 1) bytes)) (length (drop (point + 1) bytes))

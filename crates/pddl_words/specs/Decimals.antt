@@ -1,9 +1,9 @@
--- Numbers as plans and domains write them: digits, and perhaps a point with digits behind it (this validator's choice of the usual format of planners).
+-- Numbers as plans and domains write them: digits, and perhaps a point and more digits (this validator's choice of the usual format of planners).
 
 use Rattle.std.specs.Prelude.{ℕ, ◌+◌, ◌-◌, ◌*◌, ◌^◌, ◌<◌, ◌≤◌, List, [], ◌∷◌, ◌++◌, length, fold, All, IsTrue}
 use Rattle.std.specs.Char.{is_ascii_digit}
 
--- a number as it is written: its digits before the point and those behind it, of which there are none where it has no point
+-- a number as it is written: its digits before the point and those after it, of which there are none if it has no point
 pub record Decimal : Type 0 where
   pub whole : List ℕ
   pub fraction : List ℕ
@@ -12,7 +12,7 @@ pub record Decimal : Type 0 where
 abbrev pub IsDigit : ℕ → Type 0
 IsDigit b = IsTrue (is_ascii_digit b)
 
--- there are 1 to 9 digits, and, where there is a point, 1 to 9 digits behind it
+-- there are 1 to 9 digits, and, if there is a point, 1 to 9 digits after it
 pub record IsDecimal (number : Decimal) : Type 0 where
   pub whole : All IsDigit number.whole
   pub some : 0 < length number.whole
@@ -20,7 +20,7 @@ pub record IsDecimal (number : Decimal) : Type 0 where
   pub fraction : All IsDigit number.fraction
   pub few_behind : length number.fraction ≤ 9
 
--- a point (46) and digits behind it, or nothing
+-- a point (46) and the digits after it, or nothing
 abbrev pub behind_whole : List ℕ → List ℕ
 behind_whole [] = []
 behind_whole (digit ∷ digits) = 46 ∷ digit ∷ digits

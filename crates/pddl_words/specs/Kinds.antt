@@ -20,6 +20,6 @@ kind_of_word word =
     else (if bytes_eq word (45 ∷ []) then Dash
     else Other)))
 
--- two words are the same where they are so in lower case
+-- two words are the same if they are so in lower case
 abbrev pub is_same_word : List ℕ → List ℕ → Bool
 is_same_word a b = bytes_eq (folded a) (folded b)

@@ -7,6 +7,6 @@ use Rattle.std.specs.List.{slice_split}
 abbrev pub is_space : ℕ → Bool
 is_space b = b == 32
 
--- what stands before, between and behind the spaces of a row
+-- what is before, between and after the spaces of a row
 abbrev pub words_of : List ℕ → List (List ℕ)
 words_of row = slice_split is_space row

@@ -1,16 +1,16 @@
-//! Numbers as plans and domains write them: digits, and perhaps a point with digits behind it.
+//! Numbers as plans and domains write them: digits, and perhaps a point and more digits.
 
 ghost use Rattle.std.specs.Prelude.{◌≡◌, ◌<◌, ◌≤◌, ◌^◌, length, IfSome};
 ghost use Rattle.pddl_words.specs.DecimalReading.{digits_of, is_point, billionths_of};
 ghost use Rattle.std.specs.List.{position};
 
-/// How many digits may stand on either side of the point.
+/// How many digits there may be on either side of the point.
 const MOST_DIGITS: usize = 9;
 
 /// How many billionths are one.
 const BILLION: u64 = 1_000_000_000;
 
-/// The number that the bytes write, in billionths: 1 to 9 digits, and perhaps a point with 1 to 9 digits behind it. `None` for any other bytes.
+/// The number that the bytes write, in billionths: 1 to 9 digits, and perhaps a point and 1 to 9 more digits. `None` for any other bytes.
 /// Takes no memory.
 pub fn billionths(number: &[u8]) -> Option<u64>
     ensures value { result ≡ billionths_of number.now }
@@ -30,7 +30,7 @@ pub fn billionths(number: &[u8]) -> Option<u64>
     }
 }
 
-/// Where the first point stands.
+/// The index of the first point.
 fn point(number: &[u8]) -> Option<usize>
     ensures value { result ≡ position is_point number.now }
     ensures within { IfSome result (λ at. at < length number.now) }

@@ -1,6 +1,14 @@
-//! The words of PDDL: what kind of word a run of bytes is, when two words are the same, and which number a word writes.
+//! The words of PDDL: what kind a word is, whether two words are the same, and which number a word writes.
 //!
-//! A word comes as the bytes that stand in the text, unfolded. Nothing here takes memory.
+//! ```text
+//! word_kind(b"?x")                    // WordKind::Variable
+//! word_kind(b"stack-2")               // WordKind::Name
+//! same_folded(b"Stack", b"sTACK")     // true
+//! digits(b"042")                      // Some(42)
+//! billionths(b"0.5")                  // Some(500_000_000)
+//! ```
+//!
+//! A word is given by its bytes as they are in the text, in upper or lower case. Nothing here takes memory.
 #![tactic(auto)]
 
 ghost use Rattle.std.specs.Prelude.{◌≡◌};
@@ -21,13 +29,13 @@ pub enum WordKind {
     Variable,
     /// `:` and a name.
     Keyword,
-    /// The word `-`, which stands before a type.
+    /// The word `-`, which is written before a type.
     Dash,
-    /// Any other word, as a number or `=`.
+    /// Any other word, such as a number or `=`.
     Other,
 }
 
-/// The kind of a word, in one pass over its bytes. Upper and lower case are alike.
+/// The kind of a word, in upper or lower case. Takes one pass over its bytes.
 ///
 /// Names are those of PDDL 2.1 (Fox and Long 2003, appendix A).
 #[tactic(auto, unfolding(crate::specs::Kinds::kind_of_word))]
@@ -47,7 +55,7 @@ pub fn word_kind(word: &[u8]) -> WordKind
     }
 }
 
-/// Whether two words are the same when case is not told apart, as in all of PDDL.
+/// Whether two words are the same, ignoring case, as in all of PDDL.
 pub fn same_folded(a: &[u8], b: &[u8]) -> bool
     ensures { result ≡ is_same_word a.now b.now }
 {

@@ -1,10 +1,10 @@
--- How the rows of a set of places lie over one another.
+-- How the three rows of a set fit together.
 
 use Rattle.std.specs.Prelude.{◌≡◌, ℕ, ◌*◌, ◌≤◌, Bool, false, not, List, map, length, slice_index, nat_eq}
 use Rattle.std.specs.List.{range_with_len}
 use Rattle.bit_rows.specs.Rows.{row_has}
 
--- of each place, whether its bit in this row is set
+-- for each number below `places`, whether its bit in this row is set
 abbrev pub members_of : ℕ → List ℕ → List Bool
 members_of places members = map (row_has members) (range_with_len 0 places)
 
@@ -16,7 +16,7 @@ is_used words j = not (nat_eq (slice_index words j) 0)
 abbrev pub IsSummary : List ℕ → List ℕ → Type 0
 IsSummary upper lower = (j : ℕ) → row_has upper j ≡ is_used lower j
 
--- the rows of a set: one bit a place, and two rows that sum up the row below them
+-- the rows of a set: one with a bit for each number below `places`, and two that each sum up the row below
 pub record IsLayered (places : ℕ) (members words groups : List ℕ) : Type 0 where
   pub few : places ≤ 65536
   pub room : places ≤ 64 * length members

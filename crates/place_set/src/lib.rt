@@ -1,13 +1,23 @@
-//! A set of places whose least member is at hand.
+//! A set of numbers below a bound, which finds its least member in a fixed number of steps.
 //!
-//! The places are the numbers below a bound of at most 65,536, given when the set is made. Contracts see a [`PlaceSet`] as a list of
-//! `bool`, one a place: whether it is a member. So [`PlaceSet::insert`] and [`PlaceSet::remove`] write one element of the list, and
+//! ```text
+//! let mut set = PlaceSet::new(alloc, 1000)?;     // no members; they may be 0 to 999
+//! set.insert(70);
+//! set.insert(3);
+//! set.least()                                    // Some(3)
+//! set.remove(3);
+//! set.contains(3)                                // false
+//! set.least()                                    // Some(70)
+//! ```
+//!
+//! The bound is at most 65,536, and is given when the set is made. Contracts see a [`PlaceSet`] as a list of `bool`, which says of each number
+//! below the bound whether it is a member. So [`PlaceSet::insert`] and [`PlaceSet::remove`] write one element of the list, and
 //! [`PlaceSet::least`] is the first index at which it holds `true`.
 //!
-//! The set is three rows of bits over one another. The lowest has a bit for each place, the next a bit for each word of the lowest that
-//! is not 0, and the highest a bit for each word of the middle one that is not 0. The highest is a single word, since 64 x 64 x 16 is
-//! 65,536: so each call reads and writes at most three words, whatever the set held before. Memory is taken only when a set is made:
-//! a bit for each place, and 136 bytes that do not depend on their number.
+//! The set is three rows of bits. The lowest has a bit for each number. Each bit of the middle row says whether a word of the lowest is not 0, and
+//! each bit of the highest says whether a word of the middle one is not 0. The highest is a single word, since 64 x 64 x 16 is 65,536. So each
+//! call reads and writes at most three words, whatever the set holds. Memory is taken only when a set is made: a bit for each number, and 136
+//! bytes that do not depend on the bound.
 #![tactic(auto)]
 
 mod set;

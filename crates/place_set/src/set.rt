@@ -1,4 +1,4 @@
-//! The set of places.
+//! The set.
 ghost use Rattle.std.specs.Prelude.{◌≡◌, ◌<◌, ◌≤◌, length, set, replicate, position, true, false, IfOk};
 ghost use Rattle.place_set.specs.Members.{is_member, least_member};
 
@@ -6,10 +6,10 @@ use bit_rows::{WORD_BITS, clear_bit, empty_row, has_bit, least_bit, set_bit};
 use std::alloc::{AllocError, Global};
 use std::marker::Model;
 
-/// How many words the middle row has: a bit for each word of 65,536 places.
+/// How many words the middle row has: a bit for each of the 1,024 words that 65,536 bits take.
 const MIDDLE_WORDS: usize = 16;
 
-/// A set of places. Contracts see a list of `bool`, one a place: whether it is a member.
+/// A set of numbers below a bound. Contracts see a list of `bool`, which says of each number whether it is a member.
 #[derive(Drop)]
 pub struct PlaceSet {
     places: u32,
@@ -31,7 +31,7 @@ impl Model for PlaceSet {
 }
 
 impl PlaceSet {
-    /// The empty set over the places from 0 up to a number of them. Takes all the memory that it will use, a bit for each place.
+    /// The empty set of numbers below `places`. Takes all the memory that it will use, a bit for each number.
     pub fn new(alloc: Global, places: u32) -> Result<PlaceSet, AllocError>
         requires { places ≤ 65536 }
         ensures { IfOk result (λ set. set ≡ replicate places false) }
@@ -44,14 +44,14 @@ impl PlaceSet {
         })
     }
 
-    /// How many places there are, members or not.
+    /// The bound: all members are below it.
     pub fn places(&self) -> u32
         ensures { result ≡ length self.now }
     {
         self.places
     }
 
-    /// Whether a place is a member.
+    /// Whether a number is a member.
     pub fn contains(&self, place: u32) -> bool
         requires { place < length self.now }
         ensures { result ≡ is_member self.now place }
@@ -59,7 +59,7 @@ impl PlaceSet {
         has_bit(&self.members, place as usize)
     }
 
-    /// Makes a place a member.
+    /// Adds a number to the set.
     pub fn insert(&mut self, place: u32)
         requires { place < length self.old }
         ensures { self.new ≡ set self.old place true }
@@ -71,7 +71,7 @@ impl PlaceSet {
         set_bit(&mut self.groups, word / WORD_BITS);
     }
 
-    /// Makes a place no member.
+    /// Removes a number from the set.
     pub fn remove(&mut self, place: u32)
         requires { place < length self.old }
         ensures { self.new ≡ set self.old place false }
@@ -89,7 +89,7 @@ impl PlaceSet {
         clear_bit(&mut self.groups, word / WORD_BITS);
     }
 
-    /// The least member.
+    /// The least member, if there is one.
     pub fn least(&self) -> Option<u32>
         ensures { result ≡ least_member self.now }
     {

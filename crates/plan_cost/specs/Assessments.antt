@@ -1,4 +1,4 @@
--- A verdict with a cost beside it.
+-- A verdict and a cost.
 
 use Rattle.std.specs.Prelude.{Option, Some, None}
 use Rattle.strips_task.specs.declared.plans.Plan.{Plan}
@@ -13,7 +13,7 @@ use Rattle.plan_cost.specs.declared.costs.CostedTask.{CostedTask}
 use Rattle.plan_cost.specs.declared.costs.Costs.{Costs}
 use Rattle.plan_cost.specs.Costs.{cost_of}
 
--- the cost beside a verdict: that of the plan where it is valid and costs are counted
+-- the cost that goes with a verdict: that of the plan, if the plan is valid and costs are counted
 abbrev pub cost_beside : TaskParts → Option Costs → Plan → Verdict → Cost
 cost_beside parts (Some costs) plan (Valid steps) = cost_of parts costs plan
 cost_beside parts (Some costs) plan (Fails step why) = NotCounted

@@ -18,7 +18,7 @@ use Rattle.plan_cost.specs.declared.costs.Cost.TheVariants.{NotCounted, Undefine
 use Rattle.plan_cost.specs.declared.costs.Costs.{Costs}
 use Rattle.plan_cost.specs.Values.{value_of}
 
--- an amount where the parameters stand for these objects: its number, or the value of its ground function, if that has one
+-- an amount when the parameters stand for these objects: its number, or the value of its ground function, if that has one
 abbrev pub amount_of : List (Atom × ℕ) → List ℕ → Amount → Option ℕ
 amount_of values objects (Number number) = Some number
 amount_of values objects (Function function terms) = value_of values (record { pred = function; args = map (ground_term objects) terms })
@@ -31,17 +31,17 @@ increases_of parts costs word = unwrap_or (option_and_then (slice_get costs.incr
 abbrev pub step_amounts : TaskParts → Costs → StepText → List (Option ℕ)
 step_amounts parts costs step = map (amount_of costs.values (objects_named parts step.args)) (increases_of parts costs step.action)
 
--- the value that the total cost begins with: 0 where the problem gives none
+-- the value that the total cost begins with: 0 if the problem gives none
 abbrev pub initial_cost : Costs → ℕ
 initial_cost costs = unwrap_or (value_of costs.values (record { pred = costs.total_cost; args = [] })) 0
 
--- the sum of two amounts, undefined where one of them is
+-- the sum of two amounts, undefined if one of them is
 abbrev pub added : Option ℕ → Option ℕ → Option ℕ
 added (Some amount) (Some other) = Some (amount + other)
 added (Some amount) None = None
 added None other = None
 
--- the sum of amounts, undefined where one of them is
+-- the sum of amounts, undefined if one of them is
 abbrev pub sum_of : List (Option ℕ) → Option ℕ
 sum_of [] = Some 0
 sum_of (amount ∷ amounts) = added amount (sum_of amounts)

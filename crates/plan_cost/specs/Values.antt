@@ -11,12 +11,12 @@ use Rattle.plan_cost.specs.declared.values.Given.TheVariants.{First, Again, Anot
 abbrev pub value_of : List (Atom × ℕ) → Atom → Option ℕ
 value_of values function = lookup (atom_eq function) values
 
--- what a value is to a function that has this one before, if any
+-- what is reported when a value is given to a function that had this one before, if any
 abbrev pub given_over : Option ℕ → ℕ → Given
 given_over None value = First
 given_over (Some earlier) value = if earlier == value then Again else Another
 
--- the values with one for this function, which has this one before, if any: an earlier value stays
+-- the values with one for this function, which had this one before, if any: an earlier value stays
 abbrev pub with_value_over : Option ℕ → List (Atom × ℕ) → Atom → ℕ → List (Atom × ℕ)
 with_value_over None values function value = values ++ (function, value) ∷ []
 with_value_over (Some earlier) values function value = values

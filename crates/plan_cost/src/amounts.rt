@@ -51,7 +51,7 @@ impl Increases {
         }
     }
 
-    /// Adds an amount at the end. Where memory runs out the amount comes back.
+    /// Adds an amount at the end. If memory runs out, the amount is given back.
     pub fn push(&mut self, amount: Amount) -> Result<(), AllocFailed<Amount>>
         requires { length self.old < MOST_INCREASES }
         ensures ok { OnOk result (self.new ≡ self.old ++ amount ∷ []) }

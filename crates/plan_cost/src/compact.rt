@@ -14,7 +14,7 @@ const UNDEFINED: u64 = u64::MAX - 1;
 /// What an upper half counts.
 const HALF: u128 = 1 << 64;
 
-/// A [`Cost`] in 16 bytes, half of what that takes, for what is kept of each of many plans. Contracts see the cost.
+/// A [`Cost`] in 16 bytes, half of what a [`Cost`] takes, for keeping the costs of many plans. Contracts see the cost.
 #[derive(Debug, Drop)]
 pub struct CompactCost {
     high: u64,

@@ -12,7 +12,7 @@ pub struct Costs {
     pub total_cost: u16,
     /// The increases of each action, by its number in the task. An action past the end of the list has none.
     pub increases: Seq<Increases>,
-    /// The values that the problem gives to functions. That of `total-cost` is what plans begin with.
+    /// The values that the problem gives to functions. That of `total-cost` is the cost before the first step.
     pub values: FunctionValues,
 }
 

@@ -39,7 +39,7 @@ impl CostScratch {
 /// What a plan costs: the initial value of `total-cost` and the amounts of all increases of its steps, added up without rounding
 /// (PDDL 2.1, Fox and Long 2003, section 4).
 ///
-/// It does not judge the plan: what a plan that is not valid costs is defined, but says nothing. A text that is no plan is
+/// It does not judge the plan: a plan that is not valid has a cost too, but that cost means nothing. An unreadable plan gives
 /// [`Cost::NotCounted`].
 pub fn plan_cost(alloc: Global, task: &Task, costs: &Costs, plan: &Plan) -> Result<Cost, AllocError>
     ensures cost { IfOk result (λ answer. answer ≡ cost_of task.now costs.now plan.now) }
@@ -74,7 +74,7 @@ fn steps_cost(
     Ok(Some(sum))
 }
 
-/// What a step adds to the total cost, or nothing where that is undefined. Takes no memory but for functions of many arguments.
+/// What a step adds to the total cost, or `None` if that is undefined. Takes no memory except for functions of many arguments.
 pub fn step_cost(
     task: &Task,
     costs: &Costs,
@@ -90,8 +90,8 @@ pub fn step_cost(
     sum_of(amounts, &costs.values, objects, &mut scratch.function)
 }
 
-/// What the step with these numbers adds to the total cost, or nothing where that is undefined: the number of its action, and those of its objects.
-/// Takes no memory but for functions of many arguments.
+/// What the step with these numbers, that of its action and then those of its objects, adds to the total cost, or `None` if that is undefined.
+/// Takes no memory except for functions of many arguments.
 pub fn numbered_cost(
     costs: &Costs,
     numbers: &[u16],

@@ -1,9 +1,17 @@
-//! What a plan costs.
+//! What a plan costs: the initial value of `total-cost` and all that the plan's steps add to it.
 //!
-//! A domain may count costs: its actions increase `(total-cost)`, by numbers or by values that the problem gives to functions
-//! (PDDL 2.1, Fox and Long 2003, section 4). A reader fills [`Costs`], and a task with them is a [`CostedTask`]. [`plan_cost`] adds up what
-//! the steps of a plan cost, and [`assess`] answers that beside the verdict of the plan. No condition can read a cost, so the verdict is
-//! that of the task without its costs. [`CompactCost`] keeps a cost in half the memory.
+//! ```text
+//! let answer = assess(alloc, &task, &plan)?;       // task: a CostedTask
+//! answer.verdict                                   // Verdict::Valid { steps: 2 }
+//! answer.cost                                      // Cost::Billionths(3_500_000_000): the plan costs 3.5
+//! let kept = CompactCost::new(answer.cost);        // the same cost in half the memory
+//! kept.get()                                       // Cost::Billionths(3_500_000_000)
+//! ```
+//!
+//! Actions may increase `(total-cost)`, by numbers or by values that the problem gives to functions (PDDL 2.1, Fox and Long 2003,
+//! section 4). A reader fills [`Costs`], and a task with them is a [`CostedTask`]. [`plan_cost`] adds up what the steps of a plan cost.
+//! [`assess`] judges a plan, and adds up its cost if it is valid. No condition can read a cost, so the verdict is that of the task without
+//! its costs.
 #![tactic(auto)]
 
 mod amounts;

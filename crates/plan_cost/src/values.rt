@@ -1,7 +1,7 @@
 //! The values that a problem gives to functions.
 //!
-//! A ground function, such as `(road-length a b)`, is a function applied to objects, all by number. It is kept in the form of an [`Atom`]:
-//! what is the number of the predicate there is the number of the function here.
+//! A ground function, such as `(road-length a b)`, is a function applied to objects, all by number. It is kept as an [`Atom`],
+//! with the number of the function in place of the number of a predicate.
 ghost use Rattle.std.specs.Prelude.{◌≡◌, [], IfOk, OnOk, OnErr};
 ghost use Rattle.plan_cost.specs.Values.{value_of, with_value, given_over};
 
@@ -46,8 +46,8 @@ impl FunctionValues {
         }
     }
 
-    /// Gives a function a value in billionths, and says what it had before. A value that a function has stays. If memory runs out nothing
-    /// changes.
+    /// Gives a function a value in billionths, and says what it had before. A function that has a value
+    /// keeps it. If memory runs out, nothing changes.
     pub fn give(&mut self, function: Atom, value: u64) -> Result<Given, AllocError>
         ensures given { IfOk result (λ given. given ≡ given_over (value_of self.old function) value) }
         ensures ok { OnOk result (self.new ≡ with_value self.old function value) }

@@ -1,6 +1,15 @@
-//! `plan_judge` judges plans of classical planners against domains and problems in PDDL.
+//! The program `plan_judge`, which judges plans of classical planners against a domain and a problem in PDDL.
 //!
-//! All that it does is in the library `judge_engine`; here are only the real command line, files and outputs.
+//! ```text
+//! $ bin/plan_judge judge --domain examples/lamp/domain.pddl --problem examples/lamp/problem.pddl examples/lamp/plan examples/lamp/twice
+//! domain lamp problem lamp-1
+//! examples/lamp/plan 1 valid 1
+//! examples/lamp/plan plans 1 valid 1 best 1
+//! examples/lamp/twice 1 fails at 2 (light): missing (dark)
+//! examples/lamp/twice plans 1 valid 0 best -
+//! ```
+//!
+//! The library `judge_engine` does all the work. This crate hands it the real command line, files and outputs, and a random seed.
 #![tactic(auto)]
 
 use judge_engine::Seed;
@@ -39,7 +48,7 @@ fn main(rt: HostRuntime) -> ExitCode {
     ))
 }
 
-/// A seed that only this run knows, or the fixed one where the system has no random bytes.
+/// A seed that only this run knows, or the fixed one if the system has no random bytes.
 fn seed(rt: &impl RandomSource) -> Seed {
     match RandomState::new(rt) {
         Ok(keys) => Seed::new(&keys),

@@ -14,7 +14,7 @@ pub record IsReadable (plan : Plan) : Type 0 where
   pub steps : List StepText
   pub is : plan ≡ Steps steps
 
--- a plan has no fault, or its fault stands in this line
+-- a plan has no fault, or its fault is in this line
 abbrev pub HasFault : Option ℕ → Plan → Type 0
 HasFault None plan = IsReadable plan
 HasFault (Some line) plan = plan ≡ Unreadable line

@@ -1,4 +1,4 @@
--- Where a text that is no plan text stops to be one, and which plan a text stands for.
+-- Where the fault of a text that is no plan text is, and which plan a text stands for.
 
 use Rattle.std.specs.Prelude.{◌≡◌, ℕ, ◌<◌, ◌≤◌, ◌^◌, ◌⊎◌, List, [], ◌∷◌, ◌++◌, length}
 use Rattle.pddl_tokens.specs.Tokens.{Piece, token, bad, pieces}
@@ -19,12 +19,12 @@ abbrev pub place_of : Piece → ℕ
 place_of (bad at) = at
 place_of (token kind span bytes) = span.start
 
--- no plan text begins with these tokens and this piece: it is a bad byte, or a token that makes them no longer viable
+-- no plan text begins with these tokens and this piece: it is a bad byte, or a token with which they are no longer viable
 abbrev pub Refuses : List Symbol → Piece → Type 0
 Refuses tokens (bad at) = Unit {0}
 Refuses tokens (token kind span bytes) = IsViable (tokens ++ symbol_of kind bytes ∷ []) → ⊥
 
--- the first piece such that no plan text begins with the tokens up to and with it stands at this place
+-- the first piece such that no plan text begins with the tokens up to and including it is at this offset
 pub record IsFaultAt (text : List ℕ) (place : ℕ) : Type 0 where
   pub before : List Piece
   pub fault : Piece
@@ -35,7 +35,7 @@ pub record IsFaultAt (text : List ℕ) (place : ℕ) : Type 0 where
   pub refused : Refuses (symbols before) fault
   pub begins : place ≡ place_of fault
 
--- the text's tokens begin some plan text, and are none
+-- some plan text begins with the text's tokens, but they are not a plan text themselves
 pub record EndsTooEarly (text : List ℕ) : Type 0 where
   pub tokens : AreTokens (pieces text)
   pub viable : IsViable (symbols (pieces text))
@@ -47,7 +47,7 @@ pub record IsTextOf (text : List ℕ) (steps : List StepText) : Type 0 where
   pub tokens : AreTokens (pieces text)
   pub plan : IsPlanText (symbols (pieces text)) steps
 
--- the text is no plan text, and the fault stands in this line: at the first fault, or at the length of a text that ends too early
+-- the text is no plan text, and its fault is in this line: that of the first fault, or of the end of a text that ends too early
 pub record IsFaultLine (text : List ℕ) (line : ℕ) : Type 0 where
   pub short : length text < 2 ^ 31
   pub place : ℕ

@@ -11,7 +11,7 @@ use Rattle.pddl_tokens.specs.Tokens.{Piece, token, bad}
 use Rattle.pddl_words.specs.Decimals.{Decimal, IsDecimal, decimal_bytes, billionths}
 use Rattle.strips_task.specs.declared.steps.StepText.{StepText}
 
--- a token without its place
+-- a token without its span
 pub data Symbol : Type 0 where
   left : Symbol
   right : Symbol
@@ -23,7 +23,7 @@ symbol_of Left text = left
 symbol_of Right text = right
 symbol_of Word text = word text
 
--- the tokens of a text without their places, up to its first bad byte
+-- the tokens of a text without their spans, up to its first bad byte
 unfoldable pub symbols : List Piece → List Symbol
 symbols [] = []
 symbols (bad at ∷ pieces) = []
@@ -54,14 +54,14 @@ abbrev pub step_symbols : WrittenStep → List Symbol
 step_symbols step =
     perhaps stamp_word step.stamp ++ (left ∷ word step.action ∷ (map word step.args ++ right ∷ perhaps bracket_word step.number))
 
--- the words of a step are names, and its numbers are such
+-- the words of a step are names, and its numbers are decimal numbers
 pub record IsStep (step : WrittenStep) : Type 0 where
   pub stamp : IfSome step.stamp IsDecimal
   pub action : IsTrue (is_name step.action)
   pub args : All (λ name. IsTrue (is_name name)) step.args
   pub number : IfSome step.number IsDecimal
 
--- the step that is meant: case is not significant, and stamps and bracketed numbers say nothing of it
+-- the step that is meant: case is not significant, and stamps and bracketed numbers don't matter
 abbrev pub meant : WrittenStep → StepText
 meant step = record { action = folded step.action; args = map folded step.args }
 
@@ -69,8 +69,8 @@ meant step = record { action = folded step.action; args = map folded step.args }
 abbrev pub stamps : List WrittenStep → List ℕ
 stamps written = filter_map (λ step. option_map billionths step.stamp) written
 
--- tokens are a plan text for these steps where they are the tokens of steps, one behind the other, which mean them; at most 1,000,000,
--- whose stamps rise
+-- tokens are a plan text for these steps if they are the tokens of written steps, one after the other, that mean these steps. There are at
+-- most 1,000,000, and each stamp is larger than the one before it
 pub record IsPlanText (tokens : List Symbol) (steps : List StepText) : Type 0 where
   pub written : List WrittenStep
   pub spelled : tokens ≡ flat_map step_symbols written
@@ -79,7 +79,7 @@ pub record IsPlanText (tokens : List Symbol) (steps : List StepText) : Type 0 wh
   pub read : steps ≡ map meant written
   pub few : length written ≤ 1000000
 
--- tokens are viable where some plan text begins with them
+-- tokens are viable if some plan text begins with them
 pub record IsViable (tokens : List Symbol) : Type 0 where
   pub more : List Symbol
   pub steps : List StepText

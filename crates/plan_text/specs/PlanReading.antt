@@ -13,7 +13,7 @@ use Rattle.plan_text.specs.declared.want.Want.TheVariants.{Step, Number, Opening
 use Rattle.plan_text.specs.MarkedNumbers.{number_before}
 use Rattle.plan_text.specs.PlanGrammar.{Symbol, left, right, word, symbol_of}
 
--- what was read: what may come next, the least value of a next stamp in billionths, the finished steps, and the words of the open step
+-- what was read: what may come next, the least value of the next stamp in billionths, the finished steps, and the words of the open step
 pub record Reading : Type 0 where
   pub want : Want
   pub least : ℕ
@@ -24,7 +24,7 @@ pub record Reading : Type 0 where
 abbrev pub nothing_read : Reading
 nothing_read = record { want = Step; least = 0; steps = []; words = [] }
 
--- the same, but for what may come next
+-- the same, except for what may come next
 abbrev pub then_want : Want → Reading → Reading
 then_want want r = record { want = want; least = r.least; steps = r.steps; words = r.words }
 
@@ -32,35 +32,35 @@ then_want want r = record { want = want; least = r.least; steps = r.steps; words
 abbrev pub begun : Reading → Option Reading → Option Reading
 begun r next = if nat_lt (length r.steps) 1000000 then next else None
 
--- behind a stamp of this value: the next one has to be larger
+-- after a stamp of this value: the next one must be larger
 abbrev pub risen : Reading → Option ℕ → Option Reading
 risen r None = None
 risen r (Some value) = if nat_le r.least value then Some (record { want = Opening; least = value + 1; steps = r.steps; words = r.words }) else None
 
--- behind a stamp before a step
+-- after a stamp before a step
 abbrev pub stamped : Reading → List ℕ → Option Reading
 stamped r text = begun r (risen r (number_before 58 text))
 
--- behind a bracketed number, of which only the form counts
+-- after a bracketed number, of which only the form counts
 abbrev pub numbered : Reading → Option ℕ → Option Reading
 numbered r None = None
 numbered r (Some value) = Some (then_want Step r)
 
--- behind a word that follows a step: a bracketed number where it begins with `[` (91), and otherwise the stamp of the next step
+-- after a word that follows a step: a bracketed number if it begins with `[` (91), and otherwise the stamp of the next step
 abbrev pub followed : Reading → List ℕ → Option Reading
 followed r [] = None
 followed r (b ∷ text) = if b == 91 then numbered r (number_before 93 text) else stamped r (b ∷ text)
 
--- behind a word inside a step
+-- after a word inside a step
 abbrev pub named : Reading → List ℕ → Option Reading
 named r text =
     if is_name text then Some (record { want = Argument; least = r.least; steps = r.steps; words = r.words ++ folded text ∷ [] }) else None
 
--- behind a `)` that ends a step
+-- after a `)` that ends a step
 abbrev pub closed : Reading → Reading
 closed r = record { want = Number; least = r.least; steps = r.steps ++ step_of r.words ∷ []; words = [] }
 
--- behind a token, by what may come; `None` where it may not
+-- after a token, by what may come next; `None` if the token may not come here
 abbrev pub by_want : Want → Reading → Symbol → Option Reading
 by_want Step r left = begun r (Some (then_want Action r))
 by_want Step r right = None
@@ -78,15 +78,15 @@ by_want Argument r left = None
 by_want Argument r right = Some (closed r)
 by_want Argument r (word text) = named r text
 
--- behind one more token
+-- after one more token
 unfoldable pub read_on : Reading → Symbol → Option Reading
 read_on r symbol = by_want r.want r symbol
 
--- the line of a place at which the text cannot be read on
+-- the plan of a text that cannot be read on at this offset: unreadable in its line
 abbrev pub unreadable : List ℕ → ℕ → Plan
 unreadable text place = Unreadable (line_of text place)
 
--- at the end of a text no step may be begun
+-- the plan at the end of a text: no step may be open, and no stamp may wait for its step
 abbrev pub at_end : Want → List ℕ → List StepText → Plan
 at_end Step text steps = Steps steps
 at_end Number text steps = Steps steps
@@ -94,7 +94,7 @@ at_end Opening text steps = unreadable text (length text)
 at_end Action text steps = unreadable text (length text)
 at_end Argument text steps = unreadable text (length text)
 
--- behind a token at a place, where it may be read on
+-- the plan of a text, by whether the token at this offset could be read on
 abbrev pub behind : List ℕ → ℕ → (Reading → Plan) → Option Reading → Plan
 behind text place rest None = unreadable text place
 behind text place rest (Some r) = rest r

@@ -20,16 +20,16 @@ IsReady Opening plan = (plan.words ≡ []) × (length plan.steps < 1000000)
 IsReady Action plan = (plan.words ≡ []) × (length plan.steps < 1000000)
 IsReady Argument plan = (0 < length plan.words) × (length plan.steps < 1000000)
 
--- a token was read on to this reading, or may not stand here
+-- a token was read and led to this reading, or it may not come here
 abbrev pub LeadsTo : Option Expected → OpenPlan → Option Reading → Type 0
 LeadsTo None new next = next ≡ None
 LeadsTo (Some expected) new next = (next ≡ Some (reading expected new)) × IsReady expected.want new
 
--- a token was read on, or may not stand here
+-- a token was read, or it may not come here
 abbrev pub ReadsOn : Option Expected → Expected → OpenPlan → Symbol → OpenPlan → Type 0
 ReadsOn next expected old symbol new = LeadsTo next new (read_on (reading expected old) symbol)
 
--- a token outside steps was read on, or may not stand here, whichever so many steps stand before it
+-- a token outside steps was read, or it may not come here, whichever `steps` steps are before it
 abbrev pub ReadsBetween : Option Expected → Expected → ℕ → Symbol → Type 0
 ReadsBetween next expected steps symbol =
     (plan : OpenPlan) → length plan.steps ≡ steps → IsReady expected.want plan → ReadsOn next expected plan symbol plan

@@ -1,30 +1,30 @@
--- Where the first line of a text ends, and where its first separator stands.
+-- Where the first line of a text ends, and where its first separator is.
 
 use Rattle.std.specs.Prelude.{◌≡◌, ℕ, ◌<◌, ◌≤◌, List, [], ◌∷◌, length, take, drop, slice_range, Option, Some, None, IfSome}
 use Rattle.plan_text.specs.declared.parts.Line.{Line}
 use Rattle.plan_text.specs.declared.parts.PartPlace.{PartPlace}
 use Rattle.plan_text.specs.Bundle.{lines, parts, parts_from, parts_behind}
 
--- the first line of a text that has one takes up so many bytes
+-- the first line of a text, if it has one, has this many bytes
 pub record CutsLine (text : List ℕ) (size : ℕ) : Type 0 where
   pub within : size ≤ length text
   pub some : 0 < length text → 0 < size
   pub first : 0 < length text → lines text ≡ take size text ∷ lines (drop size text)
 
--- the first separator of a text parts it in two; without one the text is one part
+-- the first separator of a text divides it into the first part and the rest; without one the text is one part
 abbrev pub IsFirstSeparator : Option Line → List ℕ → Type 0
 IsFirstSeparator None text = parts text ≡ text ∷ []
 IsFirstSeparator (Some line) text =
     (line.start ≤ line.end) × (line.end ≤ length text) × (parts text ≡ take line.start text ∷ parts (drop line.end text))
 
--- the first part of a bundle from a place on ends there, and the other parts begin behind it, if there are any
+-- where the first part of a bundle from an offset on ends, and where the other parts begin, if there are any
 pub record IsFirstPart (place : PartPlace) (bundle : List ℕ) (start : ℕ) : Type 0 where
   pub ordered : start ≤ place.end
   pub within : place.end ≤ length bundle
   pub behind : IfSome place.next (λ next. next ≤ length bundle)
   pub first : parts_from bundle start ≡ slice_range bundle start place.end ∷ parts_behind bundle place.next
 
--- the parts of what is left of a bundle; none where nothing is left, not even an empty part
+-- the parts of what is left of a bundle; none if nothing is left, not even an empty part
 abbrev pub parts_left : Option (List ℕ) → List (List ℕ)
 parts_left None = []
 parts_left (Some rest) = parts rest

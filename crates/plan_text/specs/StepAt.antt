@@ -6,7 +6,7 @@ use Rattle.strips_task.specs.declared.plans.Plan.TheVariants.{Steps, Unreadable}
 use Rattle.strips_task.specs.declared.steps.StepText.{StepText}
 use Rattle.strips_task.specs.OpenPlan.{OpenPlan}
 
--- the step at a place of a plan, counted from 0, if it is there; an unreadable plan has no step
+-- the step with this index in a plan, counted from 0, if there is one; an unreadable plan has no step
 abbrev pub step_at : Plan → ℕ → Option StepText
 step_at (Steps steps) place = slice_get steps place
 step_at (Unreadable line) place = None

@@ -26,14 +26,14 @@ use Rattle.plan_text.specs.PlanGrammar.{symbol_of}
 use Rattle.plan_text.specs.PlanReading.{Reading, plan_from, plan_of, read_on, unreadable}
 use Rattle.plan_text.specs.Walks.{Walk, RestsAt, HasPassed, GoesBehind, reading_behind, words_before}
 
--- a step may come next, and this group does where its key is plain
+-- a step may come next, and if its key is plain, this group comes next
 pub record ComesNext (walk : Walk) (group : Group) : Type 0 where
   pub room : walk.count < 1000000
   pub rests : RestsAt walk.want walk.count
   pub first : IsPlain group.key.now → walk.rest ≡ group_pieces group.start group.key.now ++ group.rest
   pub within : IsPlain group.key.now → AreWithin (length walk.text) group.rest
 
--- a step of these words comes next and was passed; where there is a key, it spells the step
+-- a step of these words came next and was passed; if there is a key, it spells the step
 pub record IsStepFound (old new : Walk) (words : List (List ℕ)) (key : Option (List ℕ)) : Type 0 where
   pub some : 0 < length words
   pub behind : GoesBehind old new (step_of (map folded words))
@@ -45,7 +45,7 @@ IsFound (t.Step words key) old new = IsStepFound old new words (option_copied ke
 IsFound t.End old new = (new ≡ old) × ((steps : List StepText) → HasPassed old steps → plan_of old.text ≡ Steps steps)
 IsFound (t.Unreadable line) old new = (new ≡ old) × ((steps : List StepText) → HasPassed old steps → plan_of old.text ≡ Unreadable line)
 
--- a step was opened behind its stamp
+-- a step was opened: its stamp, if it has one, and its `(` were read
 pub record IsOpened (text : List ℕ) (expected : Expected) (count least : ℕ) (old new : List Piece) : Type 0 where
   pub room : count < 1000000
   pub shorter : length new < length old
@@ -54,21 +54,21 @@ pub record IsOpened (text : List ℕ) (expected : Expected) (count least : ℕ) 
       (steps : List StepText) → length steps ≡ count
       → plan_from text (reading_behind expected.want expected.least_stamp steps) old ≡ plan_from text (reading_behind w.Action least steps) new
 
--- the text can't be read on at this place, or ends there too early
+-- the text can't be read on at this offset, or ends there too early
 pub record IsStuck (text : List ℕ) (expected : Expected) (count place : ℕ) (old : List Piece) : Type 0 where
   pub within : place ≤ length text
   pub same :
       (steps : List StepText) → length steps ≡ count
       → plan_from text (reading_behind expected.want expected.least_stamp steps) old ≡ unreadable text place
 
--- what comes behind so many steps, where `old` and `new` are the pieces still to come before and after it
+-- what follows `count` steps, where `old` and `new` are the pieces that are left before and after it
 abbrev pub IsOpening : Opening → List ℕ → Expected → ℕ → List Piece → List Piece → Type 0
 IsOpening o.End text expected count old new =
     (steps : List StepText) → length steps ≡ count → plan_from text (reading_behind expected.want expected.least_stamp steps) old ≡ Steps steps
 IsOpening (o.Fault place) text expected count old new = IsStuck text expected count place old
 IsOpening (o.Open least) text expected count old new = IsOpened text expected count least old new
 
--- what the end of a text of this length is, where no step is open
+-- what the end of a text of this length means if no step is open
 abbrev pub ended : Want → ℕ → Opening
 ended w.Step size = o.End
 ended w.Number size = o.End
@@ -102,7 +102,7 @@ pub record IsClosed (text : List ℕ) (old new : List Piece) : Type 0 where
       → plan_from text (reading_behind w.Action least steps) old
       ≡ plan_from text (reading_behind w.Number least (steps ++ step_of (map folded (words_before old)) ∷ [])) new
 
--- a step can't be read on at this place, or the text ends there too early
+-- a step can't be read on at this offset, or the text ends there too early
 pub record IsBroken (text : List ℕ) (place : ℕ) (old : List Piece) : Type 0 where
   pub within : place ≤ length text
   pub same : (least : ℕ) (steps : List StepText) → plan_from text (reading_behind w.Action least steps) old ≡ unreadable text place

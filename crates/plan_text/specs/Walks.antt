@@ -8,8 +8,8 @@ use Rattle.plan_text.specs.declared.want.Want.{Want}
 use Rattle.plan_text.specs.declared.want.Want.TheVariants.{Step, Number, Opening, Action, Argument}
 use Rattle.plan_text.specs.PlanReading.{Reading, plan_from, plan_of}
 
--- where a walk stands: the text, its pieces that are still to come, what may come next, the least value of a next stamp in billionths, and
--- how many steps were passed
+-- where a walk is: the text, its pieces that are left, what may come next, the least value of the next stamp in billionths, and how many
+-- steps were passed
 pub record Walk : Type 0 where
   pub text : List ℕ
   pub rest : List Piece
@@ -25,7 +25,7 @@ IsBetween Opening = ⊥
 IsBetween Action = ⊥
 IsBetween Argument = ⊥
 
--- a walk may rest here, behind so many steps: a step may begin, or the text end, or the step of a stamp that was read has to begin
+-- a walk may rest here, after `count` steps: a step may begin, or the text may end, or a stamp was read and its step must begin
 abbrev pub RestsAt : Want → ℕ → Type 0
 RestsAt Step count = Unit {0}
 RestsAt Number count = Unit {0}
@@ -33,18 +33,18 @@ RestsAt Opening count = count < 1000000
 RestsAt Action count = ⊥
 RestsAt Argument count = ⊥
 
--- what was read where these steps were passed
+-- what was read when these steps were passed
 abbrev pub reading_behind : Want → ℕ → List StepText → Reading
 reading_behind want least steps = record { want = want; least = least; steps = steps; words = [] }
 
--- these are the steps that were passed: what is still to come, read on behind them, gives the plan of the text
+-- these are the steps that were passed: reading what is left after them gives the plan of the text
 pub record HasPassed (walk : Walk) (steps : List StepText) : Type 0 where
   pub counted : length steps ≡ walk.count
   pub few : walk.count ≤ 1000000
   pub rests : RestsAt walk.want walk.count
   pub same : plan_from walk.text (reading_behind walk.want walk.least steps) walk.rest ≡ plan_of walk.text
 
--- a walk goes on behind one more step of the same text, and less of it is still to come
+-- a walk passes one more step of the same text, and less of the text is left
 pub record GoesBehind (old new : Walk) (step : StepText) : Type 0 where
   pub text : new.text ≡ old.text
   pub shorter : length new.rest < length old.rest
@@ -55,7 +55,7 @@ pub record GoesOn (old new : Walk) : Type 0 where
   pub text : new.text ≡ old.text
   pub passed : (steps : List StepText) → HasPassed old steps → HasPassed new steps
 
--- the words before the first piece that is none
+-- the words before the first piece that is no word
 abbrev pub words_before : List Piece → List (List ℕ)
 words_before [] = []
 words_before (bad at ∷ pieces) = []

@@ -1,7 +1,7 @@
-//! What stands between two steps: the bracketed number of the one, the stamp of the other, and the `(` that opens it.
+//! What is between two steps: the bracketed number of the first, the stamp of the second, and the `(` that opens it.
 //!
-//! None of this asks for the words of a step, so a reader that keeps the steps and one that only counts them share it. Contracts speak of any
-//! plan of so many steps.
+//! None of this needs the words of a step, so a reader that keeps the steps and one that only counts them share it. Contracts speak of any
+//! plan with the given number of steps.
 
 ghost use Rattle.std.specs.Prelude.{◌≡◌, ◌<◌, false, length, Some, []};
 ghost use Rattle.strips_task.specs.OpenPlan.{OpenPlan};
@@ -15,7 +15,7 @@ use crate::want::{Expected, Want};
 use pddl_tokens::TokenKind;
 use strips_task::MOST_STEPS;
 
-/// Reads a token on where no name may come, behind so many steps; `None` where it may not stand here.
+/// Reads a token after `steps` steps, where no name may come; `None` if the token may not come here.
 pub(crate) fn read_between(
     steps: usize,
     expected: Expected,
@@ -32,7 +32,7 @@ pub(crate) fn read_between(
     }
 }
 
-/// Reads a `(` on, behind so many steps.
+/// Reads a `(` after `steps` steps; `None` if it may not come here.
 pub(crate) fn read_left(steps: usize, expected: Expected) -> Option<Expected>
     ensures { ReadsBetween result expected steps left }
 {
@@ -44,7 +44,7 @@ pub(crate) fn read_left(steps: usize, expected: Expected) -> Option<Expected>
     }
 }
 
-/// Reads a word on where no name may come, behind so many steps.
+/// Reads a word after `steps` steps, where no name may come; `None` if it may not come here.
 pub(crate) fn read_number(steps: usize, expected: Expected, text: &[u8]) -> Option<Expected>
     requires { takes_name expected.want ≡ false }
     ensures { ReadsBetween result expected steps (word text.now) }
@@ -64,7 +64,7 @@ fn begun(steps: usize, next: Expected) -> Option<Expected>
     if steps < MOST_STEPS { Some(next) } else { None }
 }
 
-/// A word before a step, which has to be a stamp above all others.
+/// A word before a step, which must be a stamp, larger than all stamps before it.
 fn stamped(steps: usize, expected: Expected, text: &[u8]) -> Option<Expected>
     ensures { (plan : OpenPlan) → length plan.steps ≡ steps → plan.words ≡ [] → LeadsTo result plan (stamped (reading expected plan) text.now) }
 {
@@ -81,7 +81,7 @@ fn stamped(steps: usize, expected: Expected, text: &[u8]) -> Option<Expected>
     )
 }
 
-/// A word behind a step: its number in brackets, or the stamp of the next step.
+/// A word after a step: its number in brackets, or the stamp of the next step.
 fn followed(steps: usize, expected: Expected, text: &[u8]) -> Option<Expected>
     ensures { (plan : OpenPlan) → length plan.steps ≡ steps → plan.words ≡ [] → LeadsTo result plan (followed (reading expected plan) text.now) }
 {

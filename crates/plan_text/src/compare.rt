@@ -17,7 +17,7 @@ use strips_task::{Plan, StepList, StepView};
 
 /// Whether two texts have the same plan: the same steps, or their first faults in the same line. Takes no memory.
 ///
-/// Equal bytes are the same plan at once. Other texts are read twice.
+/// Texts with equal bytes are not read. Other texts are read twice.
 pub fn same_plans(text: &[u8], other: &[u8]) -> bool
     ensures { result ≡ plan_eq (plan_of text.now) (plan_of other.now) }
 {
@@ -36,7 +36,7 @@ pub fn same_plans(text: &[u8], other: &[u8]) -> bool
     }
 }
 
-/// The line of a text's first fault, counted from 1; `None` where the text is a plan text.
+/// The line of a text's first fault, counted from 1; `None` if the text is a plan text.
 fn fault_line(text: &[u8]) -> Option<u32>
     ensures { HasFault result (plan_of text.now) }
 {
@@ -80,11 +80,11 @@ enum Next {
     SameStep,
     /// The ends of both texts.
     BothEnd,
-    /// Something else at the one than at the other, or a fault.
+    /// Different things, or a fault.
     Differ,
 }
 
-/// What two walks find next, which have passed the same steps.
+/// What two walks that have passed the same steps find next.
 fn next_of_both(first: &mut PlanSteps<'_>, second: &mut PlanSteps<'_>) -> Next
     ensures { AreNext result first.old second.old first.new second.new }
 {

@@ -1,4 +1,4 @@
-//! What the definition of the plan of a text says, in words that know nothing of how it is read.
+//! What the definition of the plan of a text means, stated without how it is read.
 //!
 //! Each function does nothing: its contract is the law.
 
@@ -7,8 +7,9 @@ ghost use Rattle.strips_task.specs.declared.plans.Plan.{Plan};
 ghost use Rattle.plan_text.specs.PlanReading.{plan_of};
 ghost use Rattle.plan_text.specs.PlanFaults.{IsPlanOf};
 
-/// The plan of a text is the one for which the text stands: its steps exactly where the tokens are those of steps, and otherwise the line
-/// of the first bad byte or token such that no plan text begins with the tokens up to and with it.
+/// The plan of a text is the one that the text stands for: its steps if its tokens are those of steps, and otherwise the line of the first
+/// fault. That is the first bad byte, the first token that no plan text can have after the tokens before it, or the end of a text
+/// that ends too early.
 #[tactic(auto, using(crate::proofs::PlanLaws::plan_is_of))]
 pub fn plan_is_meant(text: &[u8])
     ensures { IsPlanOf text.now (plan_of text.now) }

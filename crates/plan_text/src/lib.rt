@@ -1,10 +1,18 @@
-//! Plan texts: the bytes of a planner's file go in, and its plans come out.
+//! Plan texts: splits a planner's file into its plans, and reads each plan.
 //!
-//! A *bundle* is the file of one planner. A line of three dashes, behind which only spaces, tabs and CRs may stand, parts two plans of it.
-//! [`Parts`] gives the parts of a bundle in order, as slices. [`part_from`] says where a part ends and where the next one begins, to callers that
-//! keep the bundle and not slices of it.
+//! ```text
+//! let mut parts = Parts::new(b"(light)\n---\n(light) (off)\n");
+//! parts.next()                                          // Some: the bytes `(light)\n`
+//! parts.next()                                          // Some: the bytes `(light) (off)\n`
+//! parts.next()                                          // None
+//! let plan = read_plan(alloc, b"(light) (off)\n")?;     // Plan::Steps, of two steps
+//! let plan = read_plan(alloc, b"(light\n")?;            // Plan::Unreadable { line: 2 }, since the text ends inside a step
+//! ```
 //!
-//! A *plan text* is one part: steps in the usual format of planners, one behind the other.
+//! A *bundle* is the file of one planner. Lines of three dashes, followed by nothing but spaces, tabs and CRs, separate its plans. [`Parts`]
+//! gives them as slices; [`part_from`] finds where one ends and the next begins, for callers that keep offsets instead of slices.
+//!
+//! A *plan text* is one of these parts, in the format that planners usually write:
 //!
 //! ```text
 //! ; a comment ends with its line
@@ -13,24 +21,25 @@
 //! (unstack b a)
 //! ```
 //!
-//! A step is the name of an action and the names of objects in parentheses. One word before it may be its stamp, a number and `:`, and one
-//! word behind it a number in brackets. A number has 1 to 9 digits, and may have a point with 1 to 9 digits behind it. The stamps that occur
-//! have to rise strictly as numbers, so `1:` and `1.0:` can't stand in one text; numbers in brackets are read and ignored. Lines and case
-//! say nothing, and there are at most 1,000,000 steps.
+//! - A step is the name of an action and the names of objects, in parentheses.
+//! - The word before a step may be its stamp, a number and `:`. A stamp must be a larger number than all stamps before it, so `1:` and
+//!   `1.0:` can't be in the same text.
+//! - The word after a step may be a number in brackets, which is ignored.
+//! - A number has 1 to 9 digits, and may have a point followed by 1 to 9 more.
+//! - Line breaks and case don't matter. A plan has at most 1,000,000 steps.
 //!
-//! [`read_plan`] takes a plan text token by token, each once. `want` holds what may come next, `between` reads what stands between two steps,
-//! and `marked` the numbers of stamps and brackets. The words of a step go straight into the list of steps, in lower case; nothing is kept
-//! beside it, so a stamp or a number takes no memory. A text that is no plan text gives [`Plan::Unreadable`](strips_task::Plan) with the line of
-//! its first fault: a bad byte, or a token such that no plan text begins with the tokens up to and with it.
+//! [`read_plan`] reads each token once. The words of the steps are kept in lower case, and nothing else is, so stamps and numbers take no
+//! memory. A text that is no plan text gives [`Plan::Unreadable`](strips_task::Plan) with the line of its first fault: a bad byte, a token that
+//! no plan text can have after the tokens before it, or the end of a text that ends too early.
 //!
-//! [`PlanSteps`] walks over the steps of a plan text and keeps none of them, for callers that do something at each step, as judging it, and need
-//! no plan. It takes no memory. [`PlanSteps::next_step`] reads on to the end of the next step and gives its words, or says that the text is at
-//! its end or unreadable. Where a step stands as plain names with single spaces it gives these bytes, too, as a key: who remembers what a key
-//! means asks [`PlanSteps::next_group`] for the bytes that come next, which looks at none of them, and passes those that he knows by
-//! [`PlanSteps::skip`]. So long as a caller takes each step by one of the two, what comes out at the end is the plan of the text.
+//! [`PlanSteps`] walks over the steps of a plan text, keeps none of them and takes no memory. It is for callers that do something at each step,
+//! such as judging it, and need no plan. [`PlanSteps::next_step`] reads the next step and gives its words, or says that the text is at its end
+//! or unreadable. If the step is written as plain names with single spaces, it gives these bytes too, as a key. A caller that remembers
+//! what a key means gets the next key unread from [`PlanSteps::next_group`], and passes a step whose key it knows with [`PlanSteps::skip`].
+//! As long as each step is taken by one of these two calls, the result at the end is the plan of the text.
 //!
-//! The contract of `read_plan` names a definition that reads as the code does. [`laws`] says what that definition means: the plan of a text
-//! is the one that the grammar gives it (`specs/PlanGrammar.antt`), and the fault is where that grammar is left (`specs/PlanFaults.antt`).
+//! The contract of [`read_plan`] refers to a definition that follows the code. [`laws`] says what that definition means: the steps are those
+//! of the grammar (`specs/PlanGrammar.antt`), and the fault is where the text leaves the grammar (`specs/PlanFaults.antt`).
 #![tactic(auto)]
 
 mod between;

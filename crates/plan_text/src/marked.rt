@@ -5,7 +5,7 @@ ghost use Rattle.plan_text.specs.MarkedNumbers.{number_before};
 
 use pddl_words::billionths;
 
-/// The number before a mark that ends a word, in billionths; `None` where the word is none of this form.
+/// The number before a mark that ends a word, in billionths; `None` if the word does not have this form.
 pub(crate) fn number_before(mark: u8, word: &[u8]) -> Option<u64>
     ensures value { result ≡ number_before mark word.now }
     ensures small { IfSome result (λ value. value < 10 ^ 18) }

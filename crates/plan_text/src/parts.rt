@@ -10,9 +10,9 @@ use std::marker::Model;
 
 /// The parts of a bundle in order, as slices of it: each is the text of one plan.
 ///
-/// A line of three dashes, behind which only spaces, tabs and CRs may stand, parts two plans. So a bundle with n such lines has n + 1
+/// A line of three dashes, followed by nothing but spaces, tabs and CRs, separates two plans. So a bundle with n such lines has n + 1
 /// parts, and an empty bundle has one. All parts together cost one pass over the bundle, and no memory. Contracts see the list of the
-/// parts that are still to come.
+/// parts that are left.
 #[derive(Debug, Drop)]
 pub struct Parts<'a> {
     rest: Option<&'a [u8]>,
@@ -61,17 +61,17 @@ impl<'a> Iterator for Parts<'a> {
     }
 }
 
-/// Where a part of a bundle ends, and where the part behind it begins, if there is one.
+/// Where a part of a bundle ends, and where the next part begins, if there is one.
 #[derive(Clone, Copy, Debug)]
 pub struct PartPlace {
-    /// The place behind the last byte of the part.
+    /// The offset after the last byte of the part.
     pub end: usize,
-    /// The place of the first byte of the part behind it, which may be empty.
+    /// The offset of the first byte of the next part, which may be empty.
     pub next: Option<usize>,
 }
 
-/// The part of a bundle that begins at a place. The first one begins at 0, and each says where the one behind it begins, so that all parts
-/// together cost one pass over the bundle, and no memory.
+/// The part of a bundle that begins at the offset `start`. The first part begins at 0, and each part says where the next one begins, so that
+/// all parts together cost one pass over the bundle, and no memory.
 pub fn part_from(bundle: &[u8], start: usize) -> PartPlace
     requires { start ≤ length bundle.now }
     ensures { IsFirstPart result bundle.now start }
@@ -88,7 +88,7 @@ pub fn part_from(bundle: &[u8], start: usize) -> PartPlace
     }
 }
 
-/// Where a line stands, with its LF where it has one: from `start` up to and without `end`.
+/// Where a line is, with its LF if it has one: from `start` up to but not including `end`.
 #[derive(Clone, Copy)]
 struct Line {
     start: usize,
@@ -114,7 +114,7 @@ fn first_separator(text: &[u8]) -> Option<Line>
     None
 }
 
-/// How many bytes the first line has, its LF among them.
+/// How many bytes the first line has, including its LF.
 fn line_len(text: &[u8]) -> usize
     ensures { CutsLine text.now result }
 {
@@ -124,7 +124,7 @@ fn line_len(text: &[u8]) -> usize
     }
 }
 
-/// Whether a line parts two plans.
+/// Whether a line separates two plans.
 #[tactic(auto, unfolding(crate::specs::Bundle::is_separator))]
 fn is_separator(line: &[u8]) -> bool
     ensures { result ≡ is_separator line.now }
@@ -132,14 +132,14 @@ fn is_separator(line: &[u8]) -> bool
     line.starts_with(b"---") && are_blank(&line[3..])
 }
 
-/// Whether all bytes may stand behind the dashes of a separator.
+/// Whether all bytes may follow the dashes of a separator.
 fn are_blank(bytes: &[u8]) -> bool
     ensures { result ≡ list_all may_follow_dashes bytes.now }
 {
     bytes.iter().all(|b| may_follow_dashes(*b))
 }
 
-/// Whether a byte may stand behind the dashes of a separator.
+/// Whether a byte may follow the dashes of a separator.
 fn may_follow_dashes(b: u8) -> bool
     ensures { result ≡ may_follow_dashes b }
 {

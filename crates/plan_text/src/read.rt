@@ -13,11 +13,11 @@ use strips_task::{OpenSteps, Plan};
 
 /// The plan of a text, in one pass over its tokens.
 ///
-/// A text that is no plan text is an answer like any other: `Plan::Unreadable`, with the line of its first fault, counted from 1. A text of
-/// 2^31 bytes or more is unreadable in line 1. The only error is that memory runs out. The steps take about as many bytes as their words,
+/// A text that is no plan text is no error but an answer: `Plan::Unreadable`, with the line of its first fault, counted from 1. A text of
+/// 2^31 bytes or more is unreadable in line 1. The only error is running out of memory. The steps take about as many bytes as their words,
 /// and a few more for each word and each step; stamps and bracketed numbers take none.
 ///
-/// The format is the usual one of planners for sequential plans, as this validator reads it: the page of the crate has it whole.
+/// The format is the usual one of planners for sequential plans, as this validator reads it: see the front page of the crate.
 pub fn read_plan(alloc: Global, text: &[u8]) -> Result<Plan, AllocError>
     ensures { IfOk result (λ plan. plan ≡ plan_of text.now) }
 {
@@ -41,7 +41,7 @@ pub fn read_plan(alloc: Global, text: &[u8]) -> Result<Plan, AllocError>
     }
 }
 
-/// Reads one token on, and says what may come behind it; `None` where it may not stand here.
+/// Reads one more token, and says what may follow it; `None` if it may not come here.
 fn read_on(
     plan: &mut OpenSteps,
     expected: Expected,
@@ -58,7 +58,7 @@ fn read_on(
     }
 }
 
-/// Reads a `)` on.
+/// Reads a `)`; `None` if it may not come here.
 fn read_right(plan: &mut OpenSteps, expected: Expected) -> Result<Option<Expected>, AllocError>
     requires { IsReady expected.want plan.old }
     ensures { IfOk result (λ next. ReadsOn next expected plan.old right plan.new) }
@@ -72,7 +72,7 @@ fn read_right(plan: &mut OpenSteps, expected: Expected) -> Result<Option<Expecte
     }
 }
 
-/// Reads a word on.
+/// Reads a word; `None` if it may not come here.
 fn read_word(
     plan: &mut OpenSteps,
     expected: Expected,
@@ -81,14 +81,14 @@ fn read_word(
     requires { IsReady expected.want plan.old }
     ensures { IfOk result (λ next. ReadsOn next expected plan.old (word text.now) plan.new) }
 {
-    // Most words are names, so they come before the choice among the others.
+    // Most words are names, so names are tried first.
     if expected.want.takes_name() {
         return push_name(plan, expected, text);
     }
     Ok(read_number(plan.len(), expected, text))
 }
 
-/// A word of a step, which has to be a name.
+/// A word of a step, which must be a name.
 fn push_name(
     plan: &mut OpenSteps,
     expected: Expected,

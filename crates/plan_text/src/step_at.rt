@@ -8,9 +8,10 @@ use crate::walk::{PlanSteps, TextStep};
 use std::alloc::AllocError;
 use strips_task::OpenSteps;
 
-/// Reads the step at a place of a plan text, counted from 0, into a step that is fresh. Whether the plan has it: an unreadable plan has no step.
+/// Reads the step with the index `place` of a plan text, counted from 0, into an empty `step`. Returns whether the plan has such a step; an
+/// unreadable plan has none.
 ///
-/// The text is read to its end, and no other step is kept. The only error is that memory runs out.
+/// The text is read to its end, and no other step is kept. The only error is running out of memory.
 pub fn read_step_at(text: &[u8], place: usize, step: &mut OpenSteps) -> Result<bool, AllocError>
     requires fresh { step.old ≡ record { steps = []; words = [] } }
     ensures { IfOk result (λ found. IsStepAt found (step_at (plan_of text.now) place) step.new) }

@@ -53,12 +53,12 @@ impl<'a> Model for PlanSteps<'a> {
 /// What a walk finds next.
 #[derive(Debug, Drop)]
 pub enum TextStep<'a> {
-    /// A step, which was passed.
+    /// A step, which the walk has passed.
     Step {
         /// Its words.
         words: StepWords<'a>,
-        /// The bytes between its parentheses, where they are the names of the step with a space between each two. Whoever keeps what the step
-        /// means may pass it by `PlanSteps::next_group` and `PlanSteps::skip` from now on.
+        /// The bytes between its parentheses, if they are the names of the step with a single space between each two. A caller that remembers
+        /// what the step means may pass it with `PlanSteps::next_group` and `PlanSteps::skip` from now on.
         key: Option<&'a [u8]>,
     },
     /// The end of the text, which is a plan text.
@@ -70,7 +70,7 @@ pub enum TextStep<'a> {
     },
 }
 
-/// The words of a step as they stand in its text. Contracts see those that are still to come.
+/// The words of a step as they are in its text. Contracts see those that are left.
 #[derive(Debug, Drop)]
 pub struct StepWords<'a> {
     cursor: Cursor<'a>,
@@ -89,7 +89,7 @@ impl<'a> StepWords<'a> {
     ghost use Rattle.std.specs.Option.{option_copied};
     ghost use Rattle.plan_text.specs.WalkFinds.{TakesWord};
 
-    /// The next word, as it stands in the text, in upper or lower case.
+    /// The next word, as it is in the text, in upper or lower case.
     pub fn next(&mut self) -> Option<&'a [u8]>
         ensures { TakesWord (option_copied result) self.old self.new }
     {
@@ -115,7 +115,7 @@ impl<'a> StepWords<'a> {
         }
     }
 
-    /// Reads the words into a step that is fresh, in lower case, and closes it. The only error is that memory runs out.
+    /// Reads the words into an empty step, in lower case, and closes it. The only error is running out of memory.
     pub fn push_to(&self, step: &mut OpenSteps) -> Result<(), AllocError>
         requires fresh { step.old ≡ record { steps = []; words = [] } }
         requires some { 0 < length self.now }
@@ -165,16 +165,16 @@ impl<'a> PlanSteps<'a> {
         self.text
     }
 
-    /// How many steps were passed.
+    /// How many steps the walk has passed.
     pub fn count(&self) -> usize
         ensures { result ≡ self.now.count }
     {
         self.count
     }
 
-    /// What stands between the parentheses that come next, where a step may come.
+    /// The bytes between the parentheses that follow, if a step may come here.
     ///
-    /// Nobody has looked at those bytes. They are the next step only where they are known to spell one.
+    /// These bytes were not read yet. They are the next step only if they are known to spell one.
     pub fn next_group(&self) -> Option<Group<'a>>
         ensures { IfSome result (λ group. ComesNext self.now group) }
     {
@@ -185,7 +185,7 @@ impl<'a> PlanSteps<'a> {
         }
     }
 
-    /// Passes the step that comes next, of which it is known that the key of its group spells it.
+    /// Passes the next step, which the key of its group must spell.
     pub fn skip(&mut self, group: Group<'a>)
         requires next { ComesNext self.old group }
         requires spelled { IsSpelled group.key.now }
@@ -196,7 +196,8 @@ impl<'a> PlanSteps<'a> {
         self.count += 1;
     }
 
-    /// Reads the bracketed number or the stamp that comes next on, if one may come and does. Whether it did; else the walk stays where it is.
+    /// Passes the bracketed number or the stamp that comes next, if one may come and does. Returns whether it did; otherwise the walk stays
+    /// where it is.
     pub fn pass_number(&mut self) -> bool
         ensures on { GoesOn self.old self.new }
         ensures shorter { IsTrue result → length self.new.rest < length self.old.rest }
@@ -217,8 +218,8 @@ impl<'a> PlanSteps<'a> {
         true
     }
 
-    /// Reads on up to the end of the next step, with its stamp. At the end of the text and at a fault the walk stays where it is, so the same
-    /// comes at each further call.
+    /// Reads to the end of the next step, including its stamp. At the end of the text and at a fault the walk stays where it is, so each further
+    /// call gives the same answer.
     pub fn next_step(&mut self) -> TextStep<'a>
         ensures { IsFound result self.old self.new }
     {
@@ -245,7 +246,7 @@ impl<'a> PlanSteps<'a> {
         }
     }
 
-    /// Reads on up to the end of the next step, token by token.
+    /// Reads to the end of the next step, token by token.
     fn read_step(&mut self) -> TextStep<'a>
         ensures { IsFound result self.old self.new }
     {
@@ -259,7 +260,7 @@ impl<'a> PlanSteps<'a> {
         }
     }
 
-    /// Reads on up to the end of the step whose `(` stands before this cursor.
+    /// Reads to the end of the step whose `(` is before this cursor.
     fn close_step(&mut self, mut cursor: Cursor<'a>, least_stamp: u64) -> TextStep<'a>
         requires { IsOpened self.old.text (record { want = self.old.want; least_stamp = self.old.least }) self.old.count least_stamp
             self.old.rest cursor }
@@ -285,7 +286,7 @@ impl<'a> PlanSteps<'a> {
     }
 }
 
-/// The words behind a `(` that comes next.
+/// The words after the `(` that comes next.
 fn words_inside<'a>(cursor: &Cursor<'a>) -> StepWords<'a>
     ensures { (span : Span) (bytes : List ℕ) (rest : List Piece) → cursor.now ≡ token Left span bytes ∷ rest → result ≡ words_before rest }
 {
@@ -308,18 +309,18 @@ fn is_name(word: &[u8]) -> bool
     matches!(word_kind(word), WordKind::Name)
 }
 
-/// What comes behind a step, or at the start of a text.
+/// What follows a step, or comes at the start of a text.
 #[derive(Clone, Copy)]
 enum Opening {
     /// The end of the text.
     End,
-    /// A fault at this place.
+    /// A fault at this offset.
     Fault { place: u32 },
-    /// The `(` of a step, behind which a stamp has at least this value.
+    /// The `(` of a step. The next stamp after it must have at least this value.
     Open { least_stamp: u64 },
 }
 
-/// Reads on behind so many steps, up to the `(` of the next one.
+/// Reads up to the `(` of the next step, after `steps` steps.
 fn open_step(text: &[u8], cursor: &mut Cursor<'_>, mut expected: Expected, steps: usize) -> Opening
     requires short { length text.now < 2 ^ 31 }
     requires within { AreWithin (length text.now) cursor.old }
@@ -347,7 +348,7 @@ fn open_step(text: &[u8], cursor: &mut Cursor<'_>, mut expected: Expected, steps
     }
 }
 
-/// What the end of a text is, where no step is open.
+/// What the end of a text means if no step is open.
 fn ended(want: Want, text: &[u8]) -> Opening
     requires { length text.now < 2 ^ 31 }
     ensures { result ≡ ended want (length text.now) }
@@ -360,7 +361,7 @@ fn ended(want: Want, text: &[u8]) -> Opening
     }
 }
 
-/// Passes the words of an open step and the `)` behind them, or says where the fault is.
+/// Passes the words of an open step and the `)` after them, or gives the offset of the fault.
 fn pass_words(text: &[u8], cursor: &mut Cursor<'_>) -> Result<(), u32>
     requires short { length text.now < 2 ^ 31 }
     requires within { AreWithin (length text.now) cursor.old }
@@ -387,11 +388,11 @@ enum Inside {
     Name,
     /// Its end.
     Close,
-    /// It may not stand there.
+    /// It may not be there.
     Fault,
 }
 
-/// What a token is to an open step, which has some word or none.
+/// What a token is to an open step, which has a word already (`some`) or none.
 fn taken_inside(some: bool, kind: TokenKind, text: &[u8]) -> Inside
     ensures { IsInside result some kind text.now }
 {

@@ -27,16 +27,16 @@ impl Want {
     }
 }
 
-/// What may come next, and what the stamps so far leave to the next one.
+/// What may come next, and how large the next stamp must be.
 #[derive(Clone, Copy, Debug, PartialEq, Eq)]
 pub(crate) struct Expected {
     pub(crate) want: Want,
-    /// The least value of a next stamp, in billionths: one more than that of the last, and 0 before the first.
+    /// The least value of the next stamp, in billionths: one more than that of the last stamp, and 0 before the first.
     pub(crate) least_stamp: u64,
 }
 
 impl Expected {
-    /// The same, but for what may come next.
+    /// The same, except for what may come next.
     pub(crate) fn then(self, want: Want) -> Expected
         ensures { result ≡ record self { want = want } }
     {

@@ -65,7 +65,7 @@ next-in-rows jobs rows room planner job row lines view at next =
 
 -- the row of a job that was added
 abbrev pub new_row : ℕ → JobRow
-new_row planner = record { planner = planner; behind = None }
+new_row planner = record { planner = planner; following = None }
 
 -- a job was added, after its planner's last one was linked to it
 module _ (jobs linked_jobs new_jobs : List JobRow) (planner : ℕ) (is : new_jobs ≡ linked_jobs ++ new_row planner ∷ []) where
@@ -73,7 +73,7 @@ module _ (jobs linked_jobs new_jobs : List JobRow) (planner : ℕ) (is : new_job
   planners-joined same = ap planners_in is ∙ map_push (λ row. row.planner) linked_jobs (new_row planner) ∙ ap (λ ps. ps ++ planner ∷ []) same
 
   pub links-joined : (links : List (Option ℕ)) → links_in linked_jobs ≡ links → links_in new_jobs ≡ links ++ None ∷ []
-  links-joined links same = ap links_in is ∙ map_push (λ row. row.behind) linked_jobs (new_row planner) ∙ ap (λ ls. ls ++ None ∷ []) same
+  links-joined links same = ap links_in is ∙ map_push (λ row. row.following) linked_jobs (new_row planner) ∙ ap (λ ls. ls ++ None ∷ []) same
 
 -- a row that was written, as far as its planner's jobs were passed
 pub passed-joined : (rows : List PlannerRow) (planner number : ℕ) (row new : PlannerRow) → row ≡ get_or rows planner row → new ≡ joined row number → passed_in (set rows planner new) ≡ passed_in rows
@@ -94,5 +94,5 @@ view-changes jobs new_jobs rows new_rows room lines grown stepped view planners 
     ∙ ap (λ (l : LinesValue). record { planners = grown l.planners; passed = stepped l.passed; room = l.room }) view
 
 -- where a job leads is in its row
-pub link-at : (jobs : List JobRow) (job : ℕ) (row : JobRow) → job < length jobs → row ≡ get_or jobs job row → row.behind ≡ get_or (links_in jobs) job None
-link-at jobs job row within is = ap (λ (r : JobRow). r.behind) is ∙ sym (get_or-map (λ r. r.behind) jobs job row None within)
+pub link-at : (jobs : List JobRow) (job : ℕ) (row : JobRow) → job < length jobs → row ≡ get_or jobs job row → row.following ≡ get_or (links_in jobs) job None
+link-at jobs job row within is = ap (λ (r : JobRow). r.following) is ∙ sym (get_or-map (λ r. r.following) jobs job row None within)

@@ -2,7 +2,7 @@
 
 use Rattle.std.specs.Prelude.{◌≡◌, ◌+◌, ℕ, zero, suc, Bool, nat_eq, cond, List, [], ◌∷◌, slice_get, slice_index, Some}
 
--- a table of lines: whose each job is, how many jobs of each planner were passed, and how many jobs there can be
+-- a table of lines: the planner of each job, how many jobs of each planner were passed, and how many jobs there can be
 pub record LinesValue : Type 0 where
   pub planners : List ℕ
   pub passed : List ℕ

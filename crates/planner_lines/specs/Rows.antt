@@ -11,7 +11,7 @@ planners_in jobs = map (λ row. row.planner) jobs
 
 -- for each job the next of its planner, if there is one
 abbrev pub links_in : List JobRow → List (Option ℕ)
-links_in jobs = map (λ row. row.behind) jobs
+links_in jobs = map (λ row. row.following) jobs
 
 -- for each planner how many of its jobs are passed
 abbrev pub passed_in : List PlannerRow → List ℕ
@@ -25,12 +25,12 @@ lines_in jobs rows room = record { planners = planners_in jobs; passed = passed_
 abbrev pub count_of : List ℕ → ℕ → ℕ
 count_of planners planner = times_among planners planner (length planners)
 
--- this job is the planner's, and so many of its jobs come before it
+-- this job is the planner's, and `count` of the planner's jobs come before it
 pub record IsJobAfter (planners : List ℕ) (planner count job : ℕ) : Type 0 where
   pub planner_of : slice_get planners job ≡ Some planner
   pub before : times_among planners planner job ≡ count
 
--- the planner's job that so many of its jobs come before; nothing if it has no more jobs than that
+-- the planner's job with `count` of its jobs before it; nothing if it has no more jobs than that
 abbrev pub FindsJobAfter : List ℕ → ℕ → ℕ → Option ℕ → Type 0
 FindsJobAfter planners planner count found = MatchOption found (count_of planners planner ≤ count) (IsJobAfter planners planner count)
 
@@ -40,7 +40,7 @@ pub record IsLine (planners : List ℕ) (planner : ℕ) (row : PlannerRow) : Typ
   pub last : FindsJobAfter planners planner (count_of planners planner - 1) row.last
   pub within : row.passed ≤ count_of planners planner
 
--- whose the jobs are, where each leads, and the planners' rows, in a table for so many jobs; every number of a job or of a planner fits 32 bits
+-- how the jobs' planners, their links and the planners' rows fit together in a table for `room` jobs; the number of each job and planner fits 32 bits
 pub record IsKept (planners : List ℕ) (links : List (Option ℕ)) (rows : List PlannerRow) (room : ℕ) : Type 0 where
   pub fits : length planners ≤ room
   pub room_fits : room < 2 ^ 32
@@ -49,7 +49,7 @@ pub record IsKept (planners : List ℕ) (links : List (Option ℕ)) (rows : List
   pub lines : (planner : ℕ) (row : PlannerRow) → slice_get rows planner ≡ Some row → IsLine planners planner row
   pub along : (job planner : ℕ) → slice_get planners job ≡ Some planner → FindsJobAfter planners planner (suc (times_among planners planner job)) (slice_index_or links job None)
 
--- the rows of a table for so many jobs
+-- the same for the rows of a table for `room` jobs
 abbrev pub IsKeptIn : List JobRow → List PlannerRow → ℕ → Type 0
 IsKeptIn jobs rows room = IsKept (planners_in jobs) (links_in jobs) rows room
 

@@ -3,7 +3,7 @@
 //! Jobs are numbered from 0 in the order in which they are [`add`](PlannerLines::add)ed, and each belongs to a planner. The jobs of one
 //! planner are its line. [`next`](PlannerLines::next) finds the planner's first job that was not passed, and
 //! [`pass`](PlannerLines::pass) passes it, so the jobs of a planner are passed in order, each once, whatever happens to the jobs of others.
-//! The owner of a bench that threads share finds with it whose finding to emit next.
+//! The owner of a bench that threads share uses it to find which finding to emit next.
 //!
 //! Below, planner 0 has the jobs 0 and 2, and planner 1 has the job 1:
 //!
@@ -24,7 +24,7 @@
 //! number of steps, however many jobs there are. [`make`](PlannerLines::make) takes all the memory that the table will use: a row for each
 //! job that there can be and one for each planner. No other call takes any.
 //!
-//! Contracts see the table as a `LinesValue` (`specs/Lines.antt`): whose each job is, how many jobs of each planner were passed, and how
+//! Contracts see the table as a `LinesValue` (`specs/Lines.antt`): the planner of each job, how many jobs of each planner were passed, and how
 //! many jobs there can be. `IsNextJob` says which job is a planner's next one.
 #![tactic(auto)]
 

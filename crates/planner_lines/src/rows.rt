@@ -7,7 +7,7 @@ pub(crate) struct JobRow {
     /// Whose job it is. Only contracts read it.
     pub(crate) planner: u32,
     /// The next job of the same planner, by number, if it has one.
-    pub(crate) behind: Option<u32>,
+    pub(crate) following: Option<u32>,
 }
 
 /// A planner.

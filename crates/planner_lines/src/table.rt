@@ -7,7 +7,7 @@ use crate::rows::{JobRow, PlannerRow};
 use std::alloc::{AllocError, Global};
 use std::marker::Model;
 
-/// A line of jobs for each planner. Contracts see whose each job is, how many jobs of each planner were passed, and how many jobs there
+/// A line of jobs for each planner. Contracts see the planner of each job, how many jobs of each planner were passed, and how many jobs there
 /// can be.
 #[derive(Drop)]
 pub struct PlannerLines {
@@ -60,7 +60,7 @@ impl PlannerLines {
         self.planners.len() as u32
     }
 
-    /// Adds a job at the end of this planner's line. Its number is the count of those that were added before.
+    /// Adds a job at the end of this planner's line. Its number is the count of jobs that were added before.
     pub fn add(&mut self, planner: u32)
         requires planner { planner < length self.old.passed }
         requires room { length self.old.planners < self.old.room }
@@ -72,7 +72,7 @@ impl PlannerLines {
         link(&mut self.jobs, row.last, number);
         self.jobs.push_reserved(JobRow {
             planner,
-            behind: None,
+            following: None,
         });
     }
 
@@ -94,13 +94,13 @@ impl PlannerLines {
         let job = row.next.unwrap();
         self.planners[planner as usize] = PlannerRow {
             passed: row.passed + 1,
-            next: self.jobs[job as usize].behind,
+            next: self.jobs[job as usize].following,
             ..row
         };
     }
 }
 
-/// Lets the row of a planner's last job, if it has one, lead to the job that follows it.
+/// Links a planner's last job, if it has one, to the job that follows it.
 fn link(jobs: &mut Vec<JobRow>, last: Option<u32>, number: u32)
     requires { IfSome last (λ job. job < vec_len jobs.old) }
     ensures planners { planners_in jobs.new.items ≡ planners_in jobs.old.items }
@@ -109,6 +109,6 @@ fn link(jobs: &mut Vec<JobRow>, last: Option<u32>, number: u32)
     ensures capacity { vec_capacity jobs.new ≡ vec_capacity jobs.old }
 {
     if let Some(job) = last {
-        jobs[job as usize].behind = Some(number);
+        jobs[job as usize].following = Some(number);
     }
 }

@@ -1,4 +1,4 @@
-pub mod Closed
+pub mod Guards
 pub mod TextTrees
 pub mod TypedLists
 pub mod VariableLists

@@ -8,8 +8,7 @@ use Rattle.pddl_tokens.specs.Tokens.{Piece, token, bad, pieces}
 use Rattle.pddl_syntax.specs.Trees.{Trees, SpelledBefore}
 use Rattle.pddl_syntax.specs.Levels.{Levels, before_word, before_left, before_right, around, levels, or_end, here, trees}
 use Rattle.reading_laws.specs.TextTrees.{AreTreesSpelled}
-use Rattle.pddl_syntax.proofs.Balanced.{HasDepth}
-use Rattle.reading_laws.proofs.Closed.{closed_without_fault}
+use Rattle.pddl_syntax.proofs.Balanced.{HasDepth, closed_without_fault}
 
 -- the tokens begin with a `)` for each of the lists that are open, and what follows it in the list around spells the trees there
 abbrev pub Close : List Trees → List Piece → Type 0

@@ -13,7 +13,7 @@ use Rattle.pddl_syntax.specs.Optional.{guard, followed_by}
 use Rattle.pddl_syntax.specs.Trees.{Trees, none, word, list}
 use Rattle.pddl_syntax.specs.Syntax.{NameGroup, last_names, name_group, typed_names, names_typed}
 use Rattle.reading_laws.specs.TypedLists.{words_before, groups_written, IsNameGroup, IsTypedList, AreNamesTyped}
-use Rattle.reading_laws.proofs.Closed.{guard_passed}
+use Rattle.reading_laws.proofs.Guards.{guard_passed}
 
 -- only `-` is `-` in lower case
 lower_dash : (b : ℕ) → to_ascii_lowercase b ≡ 45 → b ≡ 45

@@ -12,7 +12,7 @@ use Rattle.pddl_syntax.specs.Optional.{guard, followed_by}
 use Rattle.pddl_syntax.specs.Trees.{Trees, none, word, list}
 use Rattle.pddl_syntax.specs.Syntax.{VariableGroup, behind_word, words_of, some_of, names_of, either_in, last_variables, variable_group, typed_variables, variables_typed}
 use Rattle.reading_laws.specs.TypedLists.{words_before, TypesWritten, one, choice, types_before, types_named, AreTypes, VariablesWritten, group_given, variables_written, IsVariableGroup, IsVariableList, AreVariablesTyped}
-use Rattle.reading_laws.proofs.Closed.{guard_passed}
+use Rattle.reading_laws.proofs.Guards.{guard_passed}
 use Rattle.reading_laws.proofs.TypedLists.{dash_is, one_more}
 
 -- no variable is a dash

@@ -1,4 +1,4 @@
--- What lists of types and of objects declare, said of the whole list. A name may be declared again if it is declared alike, and then counts once.
+-- What lists of types and of objects declare, stated for the whole list. A name may be declared again in the same way, and then counts once.
 
 use Rattle.std.specs.Prelude.{◌≡◌, ◌≤◌, ◌↔◌, ◌&&◌, IsTrue, ℕ, Bool, nat_eq, List, [], ◌∷◌, ◌++◌, map, length, slice_get, Option, Some, flat_map, if◌then◌else◌}
 use Rattle.std.specs.Map.{keys_of}
@@ -16,7 +16,7 @@ use Rattle.pddl_reader.specs.Objects.{Objects, type_number, objects_from}
 use Rattle.pddl_reader.specs.TypeOrder.{TypeParents, counts_as_parent, parent_name, types_of}
 use Rattle.reading_laws.specs.ReadTables.{KnownTypes}
 
--- whether two declarations are alike: of the same name, with the same value
+-- whether two declarations are the same: they have the same name and the same value
 abbrev pub is_same_entry : {V : Type 0} → (V → V → Bool) → List ℕ × V → List ℕ × V → Bool
 is_same_entry same one other = bytes_eq one.0 other.0 && same one.1 other.1
 
@@ -29,7 +29,7 @@ pub record AreObjectsFrom (types : List (List ℕ)) (before : Objects) (groups :
   pub declared : List Objects
   -- the type of each group is known, and these are the objects of each
   pub known : map (group_objects types) groups ≡ map Some declared
-  -- each object stands where it is declared first
+  -- each object is listed where it is declared first
   pub once : objects ≡ first_places (is_same_entry nat_eq) (before ++ flat_map (λ os. os) declared)
   -- no object is declared with two types
   pub one_type : IsTrue (are_distinct (keys_of objects))
@@ -46,14 +46,14 @@ AreObjectsDeclared = (types : List (List ℕ)) (before : Objects) (groups : List
 unfoldable pub group_types : NameGroup → List (List ℕ)
 group_types group = map folded group.names ++ folded group.type ∷ []
 
--- the parents that a group declares: for each of its types the group's, if declarations under that parent count
+-- the parents that a group declares: the parent of the group for each of its types, if declarations under that parent count
 unfoldable pub group_parents : Dialect → NameGroup → List (List ℕ × List ℕ)
 group_parents dialect group = (if counts_as_parent dialect (folded group.type) then map (λ name. (folded name, folded group.type)) group.names else [])
 
 -- the types are `object` and those that the groups name, each once, and their parents are the declared ones, which form a tree
 pub record AreTypesFrom (dialect : Dialect) (groups : List NameGroup) (types : KnownTypes) : Type 0 where
   pub declared : TypeParents
-  -- each type stands where it is named first, and `object` before all others
+  -- each type is listed where it is named first, and `object` before all others
   pub names : keys_of types.names ≡ first_places bytes_eq (object_word ∷ flat_map group_types groups)
   -- there are no more than the limit
   pub few : length types.names ≤ most_types

@@ -1,4 +1,4 @@
--- What lists of declarations declare, said of the whole list: when they are accepted, and the table that they give.
+-- What lists of declarations declare, stated for the whole list: when they are accepted, and the table that they give.
 
 use Rattle.std.specs.Prelude.{◌≡◌, ◌≤◌, ◌↔◌, IsTrue, ℕ, List, [], map, length, Option, Some}
 use Rattle.std.specs.Map.{keys_of}
@@ -18,7 +18,7 @@ use Rattle.reading_laws.specs.ReadTables.{ActionTables, CostedAction}
 pub record AreDeclared {A V : Type 0} (entry : A → Option (List ℕ × V)) (most : ℕ) (declarations : List A) (table : List (List ℕ × V)) : Type 0 where
   -- each declaration has an entry, and the table has these entries
   pub entries : map entry declarations ≡ map Some table
-  -- no name stands twice
+  -- no name occurs twice
   pub distinct : IsTrue (are_distinct (keys_of table))
   -- and there are no more than the limit
   pub few : length table ≤ most
@@ -49,7 +49,7 @@ abbrev pub AreFunctionsDeclared : Type 0
 AreFunctionsDeclared = (types : List (List ℕ)) (functions : List PredicateForm) (table : Predicates) →
     (functions_from types [] functions ≡ Some table) ↔ AreDeclared (function_entry types) most_predicates functions table
 
--- actions are accepted, and give these tables, exactly if they are those of what the actions declare
+-- actions are accepted, and give these tables, exactly if the tables are those of what the actions declare
 abbrev pub AreActionsDeclared : Type 0
 AreActionsDeclared = (types : List (List ℕ)) (vocabulary : Vocabulary) (actions : List ActionForm) (tables : ActionTables) →
     (actions_from types vocabulary no_actions actions ≡ Some tables)

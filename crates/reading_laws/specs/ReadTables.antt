@@ -1,4 +1,4 @@
--- Types of the reader that it gives no other crate a name for, each named by a value that has it.
+-- Types that the reader does not export. Each is named here by a value that has it.
 
 use Rattle.std.specs.Prelude.{[], Option, Some, None}
 use Rattle.pddl_reader.specs.Domain.{no_effects, action_doing, no_actions}

@@ -19,7 +19,7 @@ unfoldable pub groups_written : List NameGroup → List (List ℕ) → Trees
 groups_written [] last = words_before last none
 groups_written (group ∷ groups) last = words_before group.names (word dash_word (word group.type (groups_written groups last)))
 
--- a group has a name at least, and its names and its type are names
+-- a group has at least one name, and its names and its type are names
 pub record IsNameGroup (group : NameGroup) : Type 0 where
   pub some : group.names ≢ []
   pub names : AllPass is_name group.names
@@ -34,7 +34,7 @@ pub record IsTypedList (trees : Trees) (groups : List NameGroup) : Type 0 where
   pub are_names : AllPass is_name last
   pub given : groups ≡ typed ++ last_names last
 
--- trees are read as a list of typed names exactly if they are written as one, and with the groups that are written
+-- trees are read as a list of typed names exactly if they are written as one, and the groups are those that are written
 abbrev pub AreNamesTyped : Type 0
 AreNamesTyped = (trees : Trees) (groups : List NameGroup) → (typed_names [] trees ≡ Some groups) ↔ IsTypedList trees groups
 
@@ -53,7 +53,7 @@ unfoldable pub types_named : TypesWritten → List (List ℕ)
 types_named (one type) = type ∷ []
 types_named (choice either types) = types
 
--- one name, or `either` and a name at least
+-- one name, or `either` and at least one name
 abbrev pub AreTypes : TypesWritten → Type 0
 AreTypes (one type) = IsTrue (is_name type)
 AreTypes (choice either types) = IsTrue (is_either either) × (types ≢ []) × AllPass is_name types
@@ -63,7 +63,7 @@ pub record VariablesWritten : Type 0 where
   pub variables : List (List ℕ)
   pub types : TypesWritten
 
--- what it gives
+-- the group that it gives
 abbrev pub group_given : VariablesWritten → VariableGroup
 group_given group = record { variables = group.variables; types = types_named group.types }
 
@@ -72,7 +72,7 @@ unfoldable pub variables_written : List VariablesWritten → List (List ℕ) →
 variables_written [] last = words_before last none
 variables_written (group ∷ groups) last = words_before group.variables (word dash_word (types_before group.types (variables_written groups last)))
 
--- a group has a variable at least, and types
+-- a group has at least one variable, and types
 pub record IsVariableGroup (group : VariablesWritten) : Type 0 where
   pub some : group.variables ≢ []
   pub variables : AllPass is_variable group.variables
@@ -87,6 +87,6 @@ pub record IsVariableList (trees : Trees) (groups : List VariableGroup) : Type 0
   pub are_variables : AllPass is_variable last
   pub given : groups ≡ map group_given typed ++ last_variables last
 
--- trees are read as a list of typed variables exactly if they are written as one, and with the groups that are written
+-- trees are read as a list of typed variables exactly if they are written as one, and the groups are those that are written
 abbrev pub AreVariablesTyped : Type 0
 AreVariablesTyped = (trees : Trees) (groups : List VariableGroup) → (typed_variables [] trees ≡ Some groups) ↔ IsVariableList trees groups

@@ -71,7 +71,7 @@ pub(crate) fn submits(bench: &Bench, owner: &mut Owner, plan: &Arc<Plan>, number
     }
 }
 
-/// A worker judges what waits, and both findings are emitted. Where it is refused memory, another goes on, which finds the job that it handed back.
+/// A worker judges what waits, and both findings are emitted. If it is refused memory, another goes on, and finds the job that was handed back.
 fn work_and_emit(alloc: Global, bench: &Bench, owner: &mut Owner, task: &CostedTask) -> Seen
     requires seat { SitsAt bench.now owner.old }
     requires task { bench.now.setting.task.value ≡ task.now }

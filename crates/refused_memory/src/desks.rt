@@ -31,7 +31,7 @@ pub(crate) fn replay_row(alloc: Global) -> Seen {
     }
 }
 
-/// Replays steps. Where that is refused memory, the replies are the first ones.
+/// Replays steps. If that is refused memory, the replies are the first ones.
 fn replayed(alloc: Global, task: &CostedTask, steps: StepsToRun) -> Seen {
     match replay(alloc, task, 1, 2, steps) {
         Ok(replies) => {
@@ -53,7 +53,7 @@ fn are_first(replies: &[Reply]) -> bool {
     true
 }
 
-/// Whether this is the reply to the step at a place.
+/// Whether this is the reply to the step with an index.
 fn is_reply(place: usize, reply: &Reply) -> bool {
     match (place, reply) {
         (0, Reply::Accepted(0)) => true,

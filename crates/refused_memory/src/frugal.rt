@@ -1,6 +1,6 @@
 //! The calls that take no memory, at texts, tasks and reports.
 //!
-//! Each row first makes what its calls need, and then makes the calls unless it is told to stop before. Behind the set-up all memory can be refused.
+//! Each row first makes what its calls need, and then makes the calls if `makes_calls` is set. After the set-up all memory can be refused.
 
 use crate::programs::Page;
 use crate::seen::{Seen, of_engine};

@@ -66,7 +66,7 @@ fn with_findings(
     }
 }
 
-/// Submits a plan three times. Whether two places take it, and none is left then.
+/// Submits a plan three times. Whether two slots take it, and none is left then.
 fn takes_in(desk: &mut Desk, plan: &Arc<Plan>) -> bool
     ensures { desk.new.task ≡ desk.old.task }
 {

@@ -1,10 +1,18 @@
 //! Calls of the libraries that may be refused memory.
 //!
-//! A row makes a few calls and looks at what they answer. The program runs the row whose name it is given, once, and ends with status 0 where each
-//! call had its memory and answered what it should, with 3 where one was refused memory or a thread, said so and left everything as it must, with 1
-//! where something was not as it must be, and with 2 where no row has the name. Without a name it runs all rows. It writes nothing.
+//! ```text
+//! crates/refused_memory/out/refused_memory replay      # runs the row `replay` once
+//! crates/refused_memory/out/refused_memory             # runs all rows once
+//! ```
 //!
-//! `bin/refuse_allocations` runs the rows and has each allocation refused in turn.
+//! A row makes a few calls and checks what they answer. The program writes nothing. Its exit status says what came of the calls:
+//!
+//! - 0: each call had its memory and gave the right answer.
+//! - 1: something was wrong.
+//! - 2: no row has this name.
+//! - 3: a call was refused memory or a thread, said so, and left everything as it must.
+//!
+//! `bin/refuse_allocations` runs the rows with each allocation refused in turn.
 #![tactic(auto)]
 
 mod benches;

@@ -65,7 +65,7 @@ fn push(alloc: Global, table: &mut NameTable<usize>, word: &[u8], number: usize)
     }
 }
 
-/// Pushes a name. Where that is refused memory, the name and its number come back, and the table is what it was.
+/// Pushes a name. If that is refused memory, the name and its number come back, and the table is what it was.
 fn push_name(table: &mut NameTable<usize>, name: Name, word: &[u8], number: usize) -> Seen {
     if table.number_of(name.as_bytes()).is_some() {
         return Seen::Wrong;
@@ -79,7 +79,7 @@ fn push_name(table: &mut NameTable<usize>, name: Name, word: &[u8], number: usiz
     }
 }
 
-/// Whether a table has the first names, so many, and no other.
+/// Whether a table has the first `count` names and no other.
 fn has_first(table: &NameTable<usize>, count: usize) -> bool {
     for (number, word) in NAMES.iter().enumerate() {
         if number < count && table.number_of(word) != Some(number) {

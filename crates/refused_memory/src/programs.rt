@@ -122,7 +122,7 @@ fn run<R: AllocGlobal + Threads + Wait + Sync>(rt: &R, line: &str, wanted: &'sta
     }
 }
 
-/// The program on the words of a command line. Where it is refused memory or a thread, it says so, and writes nothing.
+/// The program on the words of a command line. If it is refused memory or a thread, it says so, and writes nothing.
 fn run_words<R: AllocGlobal + Threads + Wait + Sync>(
     rt: &R,
     words: &[String],

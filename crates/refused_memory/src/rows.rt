@@ -96,7 +96,7 @@ fn asked(alloc: Global, what: &str, makes_calls: bool) -> Option<Seen> {
     }
 }
 
-/// Runs each row once. The first that does not have all its memory, or is wrong, ends it.
+/// Runs each row once, up to the first that does not have all its memory, or is wrong.
 pub(crate) fn run_all<R: AllocGlobal + Threads + Wait + Sync>(rt: &R) -> Option<Seen> {
     for name in ROWS {
         let seen = run_row(rt, name)?;

@@ -18,7 +18,7 @@ use std::thread::Threads;
 use strips_judge::Plan;
 use submitted_plan::SubmittedPlan;
 
-/// Two plans of one planner are judged by so many workers.
+/// Two plans of one planner are judged by `workers` workers.
 pub(crate) fn run_row<R: AllocGlobal + Threads + Wait + Sync>(rt: &R, workers: u32) -> Seen
     requires { (1 ≤ workers) × (workers ≤ 32) }
 {
@@ -92,7 +92,7 @@ fn are_valid(findings: &Findings) -> bool {
         && is_valid(findings.get(0, 1), 1)
 }
 
-/// The plans of three planners are judged by so many workers.
+/// The plans of three planners are judged by `workers` workers.
 pub(crate) fn judge_row<R: AllocGlobal + Threads + Wait + Sync>(rt: &R, workers: u32) -> Seen
     requires { (1 ≤ workers) × (workers ≤ 32) }
 {

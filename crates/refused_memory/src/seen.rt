@@ -15,12 +15,12 @@ pub(crate) enum Seen {
 }
 
 impl Seen {
-    /// What is seen where every call had its memory.
+    /// What is seen if every call had its memory.
     pub(crate) fn whole_if(is_right: bool) -> Seen {
         if is_right { Seen::Whole } else { Seen::Wrong }
     }
 
-    /// What is seen where a call was refused memory.
+    /// What is seen if a call was refused memory.
     pub(crate) fn refused_if(is_right: bool) -> Seen {
         if is_right { Seen::Refused } else { Seen::Wrong }
     }
@@ -44,7 +44,7 @@ impl Seen {
     }
 }
 
-/// What is seen of a reader's fault: the texts of the rows are right, and want of memory has no place in a text.
+/// What is seen of a reader's fault: the texts of the rows have none, and running out of memory has the span from 0 to 0.
 pub(crate) fn of_reader(fault: ReadFault) -> Seen {
     Seen::refused_if(
         fault.kind == FaultKind::OutOfMemory && fault.span.start == 0 && fault.span.end == 0,

@@ -174,7 +174,7 @@ fn judged(alloc: Global, task: &Task, text: &[u8], wanted: Found) -> Seen {
     }
 }
 
-/// What is seen of a plan's verdict. Where judging was refused memory, the same plan is judged again.
+/// What is seen of a plan's verdict. If judging was refused memory, the same plan is judged again.
 fn judged_plan(alloc: Global, task: &Task, plan: &Plan, wanted: Found) -> Seen {
     match judge(alloc, task, plan) {
         Ok(verdict) => Seen::whole_if(found_in(&verdict) == wanted),

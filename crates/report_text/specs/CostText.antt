@@ -9,7 +9,7 @@ unfoldable pub last_digits : ℕ → ℕ → List ℕ
 last_digits zero number = []
 last_digits (suc place) number = (48 + number / 10 ^ place % 10) ∷ last_digits place number
 
--- a digit before others; a zero before nothing is left out
+-- a digit in front of others; a zero with none after it is left out
 abbrev pub unless_end_zero : ℕ → List ℕ → List ℕ
 unless_end_zero digit [] = if digit == 48 then [] else digit ∷ []
 unless_end_zero digit (next ∷ digits) = digit ∷ next ∷ digits

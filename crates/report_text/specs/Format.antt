@@ -1,7 +1,7 @@
 -- The report of a run: the text that stands for a task, the planners, their plans, the verdicts and the costs, as lines, as a table and as JSON (this
 -- validator's choice).
 
-use Rattle.std.specs.Prelude.{ℕ, ◌+◌, ◌-◌, ◌/◌, ◌%◌, ◌<◌, ◌==◌, nat_lt, List, [], ◌∷◌, ◌++◌, Option, None, Some, codes, decimal, map, length, if◌then◌else◌}
+use Rattle.std.specs.Prelude.{ℕ, ◌+◌, ◌-◌, ◌/◌, ◌%◌, ◌==◌, nat_lt, List, [], ◌∷◌, ◌++◌, Option, None, Some, codes, decimal, map, length, if◌then◌else◌}
 use Rattle.std.specs.List.{flat_map, enumerate_from}
 use Rattle.std.specs.Map.{keys_of}
 use Rattle.strips_task.specs.declared.atoms.Atom.{Atom}
@@ -25,7 +25,7 @@ use Rattle.report_text.specs.declared.format.Format.TheVariants.{Lines, Table, J
 use Rattle.report_text.specs.CostText.{billionths_text}
 use Rattle.report_text.specs.Report.{Judged, Planner, condition_text, conditions_text, failure_text, header_line, least, least_cost, name_at, plan_line, step_text, summary_text, valid_costs, valid_steps}
 
--- pieces that all have a comma in front
+-- pieces, each after a comma
 abbrev pub after_commas : List (List ℕ) → List ℕ
 after_commas pieces = flat_map (λ piece. codes "," ++ piece) pieces
 
@@ -46,13 +46,13 @@ field_byte byte =
 unfoldable pub field : List ℕ → List ℕ
 field bytes = flat_map field_byte bytes
 
--- what stands in the fields `cost`: nothing if costs are not counted, and `-` if the cost is undefined
+-- the field `cost`: empty if costs are not counted, and `-` if the cost is undefined
 abbrev pub cost_field : Cost → List ℕ
 cost_field NotCounted = []
 cost_field Undefined = codes "-"
 cost_field (Billionths billionths) = billionths_text billionths
 
--- what stands in the fields `reason` and `missing`; arguments count from 1
+-- the fields `reason` and `missing`; arguments count from 1
 abbrev pub why_fields : TaskParts → StepText → Why → List ℕ
 why_fields task step UnknownAction = codes "unknown action\t"
 why_fields task step WrongCount = codes "wrong number of arguments\t"
@@ -60,7 +60,7 @@ why_fields task step (UnknownObject arg) = codes "unknown object " ++ name_at st
 why_fields task step (WrongType arg) = name_at step.args (arg - 1) ++ codes " has the wrong type\t"
 why_fields task step (Missing conds) = codes "missing\t" ++ spaced_conditions task conds
 
--- what stands in the fields `action`, `reason` and `missing`
+-- the fields `action`, `reason` and `missing`
 abbrev pub failure_fields : TaskParts → Option StepText → Why → List ℕ
 failure_fields task None why = []
 failure_fields task (Some step) why = step_text step ++ codes "\t" ++ why_fields task step why
@@ -170,7 +170,7 @@ json_plan task name number judged =
     codes "{\"type\":\"plan\",\"planner\":" ++ json_string name ++ codes ",\"plan\":" ++ decimal number ++ codes ",\"verdict\":"
     ++ json_found task judged ++ codes "}\n"
 
--- a number of steps, or null where there is none
+-- a number of steps, or null if there is none
 abbrev pub json_best : Option ℕ → List ℕ
 json_best None = codes "null"
 json_best (Some steps) = decimal steps
@@ -210,11 +210,11 @@ abbrev pub summary_of : Format → Option Costs → List ℕ → List Judged →
 summary_of format costs name plans =
     summary_in format name (length plans) (length (valid_steps plans)) (least (valid_steps plans)) (least_cost costs (least (valid_costs plans)))
 
--- plans, of which the first has this number
+-- the texts of plans, the first of which has this number
 abbrev pub plan_texts : Format → TaskParts → List ℕ → ℕ → List Judged → List ℕ
 plan_texts format task name number plans = flat_map (λ e. plan_in format task name e.0 e.1) (enumerate_from number plans)
 
--- all that a report has of a planner: its plans and their sum
+-- all that a report says about a planner: its plans and their sum
 abbrev pub planner_text : Format → CostedTask → Planner → List ℕ
 planner_text format task planner =
     plan_texts format task.task planner.name 1 planner.plans ++ summary_of format task.costs planner.name planner.plans

@@ -1,7 +1,7 @@
 -- The lines of a report: the text that stands for plans, verdicts and costs (this validator's choice).
 
-use Rattle.std.specs.Prelude.{ℕ, ◌-◌, List, [], ◌∷◌, ◌++◌, Option, None, Some, codes, decimal, map, length, slice_get, unwrap_or, if◌then◌else◌, min}
-use Rattle.std.specs.List.{flat_map, filter_map, enumerate_from}
+use Rattle.std.specs.Prelude.{ℕ, ◌-◌, List, [], ◌∷◌, ◌++◌, Option, None, Some, codes, decimal, map, slice_get, unwrap_or, if◌then◌else◌, min}
+use Rattle.std.specs.List.{flat_map, filter_map}
 use Rattle.std.specs.Option.{option_map}
 use Rattle.std.specs.Map.{keys_of}
 use Rattle.strips_task.specs.declared.atoms.Atom.{Atom}
@@ -18,13 +18,12 @@ use Rattle.strips_judge.specs.declared.verdict.Why.TheVariants.{UnknownAction, W
 use Rattle.plan_text.specs.StepAt.{step_at}
 use Rattle.plan_cost.specs.declared.costs.Cost.{Cost}
 use Rattle.plan_cost.specs.declared.costs.Cost.TheVariants.{NotCounted, Undefined, Billionths}
-use Rattle.plan_cost.specs.declared.costs.CostedTask.{CostedTask}
 use Rattle.plan_cost.specs.declared.costs.Costs.{Costs}
 use Rattle.plan_cost.specs.Costs.{cost_answer}
 use Rattle.intake_rules.specs.declared.finding.Finding.{Finding}
 use Rattle.report_text.specs.CostText.{cost_text}
 
--- words, each behind a space
+-- words, each after a space
 abbrev pub spaced : List (List ℕ) → List ℕ
 spaced words = flat_map (λ word. codes " " ++ word) words
 
@@ -48,7 +47,7 @@ abbrev pub condition_text : TaskParts → GroundCond → List ℕ
 condition_text task cond =
     if cond.positive then formula_text task cond.formula else codes "(not " ++ formula_text task cond.formula ++ codes ")"
 
--- conditions, each behind a space
+-- conditions, each after a space
 abbrev pub conditions_text : TaskParts → List GroundCond → List ℕ
 conditions_text task conds = spaced (map (condition_text task) conds)
 
@@ -95,7 +94,7 @@ judged_text task judged = verdict_text task judged.plan judged.verdict ++ cost_t
 abbrev pub plan_line : TaskParts → List ℕ → ℕ → Judged → List ℕ
 plan_line task name number judged = name ++ codes " " ++ decimal number ++ codes " " ++ judged_text task judged ++ codes "\n"
 
--- the number of steps, where the verdict is that the plan is valid
+-- the number of steps, if the verdict is that the plan is valid
 abbrev pub steps_if_valid : Verdict → Option ℕ
 steps_if_valid (Valid steps) = Some steps
 steps_if_valid (Fails number why) = None
@@ -121,7 +120,7 @@ abbrev pub least : List ℕ → Option ℕ
 least [] = None
 least (n ∷ ns) = Some (unwrap_or (option_map (min n) (least ns)) n)
 
--- a number of steps, or `-` where there is none
+-- a number of steps, or `-` if there is none
 abbrev pub best_text : Option ℕ → List ℕ
 best_text None = codes "-"
 best_text (Some steps) = decimal steps

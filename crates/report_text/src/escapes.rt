@@ -1,4 +1,4 @@
-//! Names in fields of a table and in JSON strings, where some bytes have to be written otherwise.
+//! Names in fields of a table and in JSON strings, where some bytes have to be written differently.
 ghost use Rattle.std.specs.Prelude.{◌≡◌, ◌++◌, ◌<◌, OnOk};
 ghost use Rattle.std.specs.List.{flat_map};
 ghost use Rattle.report_text.specs.Format.{field, field_byte, hex_digit, json_string, string_byte};
@@ -47,7 +47,7 @@ pub(crate) fn push_string(text: &mut Text, bytes: &[u8]) -> Result<(), AllocErro
     text.push(b"\"")
 }
 
-/// Adds what stands between the quotation marks of a JSON string.
+/// Adds what is between the quotation marks of a JSON string.
 fn push_inside(text: &mut Text, bytes: &[u8]) -> Result<(), AllocError>
     ensures { OnOk result (text.new ≡ text.old ++ flat_map string_byte bytes.now) }
 {

@@ -7,6 +7,6 @@ pub enum Format {
     Lines,
     /// A table with tabs between its columns: their names, and one row for each plan.
     Table,
-    /// JSON records, one a line: one for the run, one for each plan, and one for each planner.
+    /// JSON records, one on each line: one for the run, one for each plan, and one for each planner.
     Json,
 }

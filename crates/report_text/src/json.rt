@@ -1,4 +1,4 @@
-//! The report as JSON: records of a run, its plans and its planners, each an object in a line of its own.
+//! The report as JSON: records of a run, its plans and its planners, each an object on a line of its own.
 ghost use Rattle.std.specs.Prelude.{◌≡◌, ◌++◌, OnOk, Some, codes, decimal, map};
 ghost use Rattle.std.specs.Map.{keys_of};
 ghost use Rattle.strips_task.specs.StepView.{step_shown};
@@ -126,7 +126,7 @@ fn push_verdict_members(
     }
 }
 
-/// Adds bytes and a number behind them.
+/// Adds bytes, followed by a number.
 fn push_with_number(text: &mut Text, bytes: &[u8], number: u32) -> Result<(), AllocError>
     ensures { OnOk result (text.new ≡ text.old ++ (bytes.now ++ decimal number)) }
 {
@@ -182,7 +182,7 @@ fn push_step(text: &mut Text, step: &StepView) -> Result<(), AllocError>
     text.push(b"]")
 }
 
-/// Adds the names of a step's arguments, each behind a comma.
+/// Adds the names of a step's arguments, each after a comma.
 fn push_arguments(text: &mut Text, step: &StepView) -> Result<(), AllocError>
     ensures { OnOk result (text.new ≡ text.old ++ after_commas (map json_string (step_shown step.now).args)) }
 {
@@ -206,7 +206,7 @@ fn push_conditions(text: &mut Text, task: &Task, conds: &[GroundCond]) -> Result
     }
 }
 
-/// Adds conditions, each behind a comma.
+/// Adds conditions, each after a comma.
 fn push_more_conditions(
     text: &mut Text,
     task: &Task,
@@ -279,7 +279,7 @@ fn push_object(text: &mut Text, task: &Task, number: u16) -> Result<(), AllocErr
     push_string(text, b"")
 }
 
-/// Adds the names of objects, each behind a comma.
+/// Adds the names of objects, each after a comma.
 fn push_objects(text: &mut Text, task: &Task, numbers: &[u16]) -> Result<(), AllocError>
     ensures { OnOk result (text.new ≡ text.old ++ after_commas (map (λ number. json_string (name_at (keys_of task.now.objects) number)) numbers.now)) }
 {

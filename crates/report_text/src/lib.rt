@@ -6,7 +6,7 @@
 //! push_plan_in(&mut text, Format::Lines, &task.task, b"planner", 1, &finding)?;    // planner 1 valid 1
 //! ```
 //!
-//! Each function adds its piece at the end of a [`Text`], and its clause says which. The only error is that memory runs out.
+//! Each function adds its piece at the end of a [`Text`], and its contract says which. The only error is that memory runs out.
 #![tactic(auto)]
 
 mod costs;

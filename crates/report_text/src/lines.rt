@@ -1,6 +1,6 @@
 //! The lines of a report.
 //!
-//! A report begins with a header line. Then come the lines of each planner: one for each plan, and a last one that sums them up.
+//! A report begins with a header line. The lines of each planner follow: one for each plan, and a last one that sums them up.
 ghost use Rattle.std.specs.Prelude.{◌≡◌, ◌++◌, ◌∷◌, [], ℕ, List, OnOk, codes, decimal};
 ghost use Rattle.report_text.specs.Report.{as_judged};
 ghost use Rattle.report_text.specs.Format.{head_in, plan_in, summary_in};
@@ -46,7 +46,7 @@ pub fn push_plan_in(
     }
 }
 
-/// Adds the sum of a planner's plans in a format: how many there are, how many are valid, the least number of steps of a valid one, and the least cost.
+/// Adds the sum of a planner's plans in a format: how many there are, how many are valid, the fewest steps of a valid one, and the least cost.
 pub fn push_summary_in(
     text: &mut Text,
     format: Format,

@@ -1,6 +1,6 @@
 //! The text of atoms, steps, verdicts and findings, as reports show them.
 //!
-//! Each function adds its piece behind the text that is there. Names come from the task, by number.
+//! Each function adds its piece at the end of the text. Names come from the task, by number.
 ghost use Rattle.std.specs.Prelude.{◌≡◌, ◌++◌, ◌∷◌, ℕ, List, ◌-◌, OnOk, Some, map};
 ghost use Rattle.plan_text.specs.PlanReading.{plan_of};
 ghost use Rattle.plan_text.specs.StepAt.{step_at};
@@ -42,7 +42,7 @@ pub(crate) fn push_predicate(text: &mut Text, task: &Task, number: u16) -> Resul
     Ok(())
 }
 
-/// Adds the names of objects, each behind a space.
+/// Adds the names of objects, each after a space.
 fn push_objects(text: &mut Text, task: &Task, numbers: &[u16]) -> Result<(), AllocError>
     ensures { OnOk result (text.new ≡ text.old ++ spaced (map (name_at (keys_of task.now.objects)) numbers.now)) }
 {
@@ -91,7 +91,7 @@ pub fn push_condition(text: &mut Text, task: &Task, cond: &GroundCond) -> Result
     text.push(b")")
 }
 
-/// Adds conditions, each behind a space.
+/// Adds conditions, each after a space.
 pub(crate) fn push_conditions(
     text: &mut Text,
     task: &Task,
@@ -116,7 +116,7 @@ pub fn push_step(text: &mut Text, step: &StepView) -> Result<(), AllocError>
     text.push(b")")
 }
 
-/// Adds the names of a step's arguments, each behind a space.
+/// Adds the names of a step's arguments, each after a space.
 pub(crate) fn push_arguments(text: &mut Text, step: &StepView) -> Result<(), AllocError>
     ensures { OnOk result (text.new ≡ text.old ++ spaced (step_shown step.now).args) }
 {
@@ -208,7 +208,7 @@ pub(crate) fn push_failing_step(
     }
 }
 
-/// Adds the failing step at a place of a plan that is read, as above.
+/// Adds the failing step with an index in a plan that is read, as above.
 fn push_failure_of_plan(
     text: &mut Text,
     format: Format,
@@ -227,7 +227,7 @@ fn push_failure_of_plan(
     }
 }
 
-/// Adds the failing step at a place of a plan that is kept as its text, as above. The text is read once more, which only happens to plans that fail.
+/// Adds the failing step with an index in a plan that is kept as its text, as above. The text is read once more, but only for plans that fail.
 fn push_failure_of_text(
     text: &mut Text,
     format: Format,

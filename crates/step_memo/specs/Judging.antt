@@ -14,7 +14,7 @@ use Rattle.plan_cost.specs.declared.costs.CostedTask.{CostedTask}
 use Rattle.plan_cost.specs.declared.costs.Costs.{Costs}
 use Rattle.plan_cost.specs.Costs.{steps_cost, cost_answer}
 
--- what a judge keeps of the plan that it is judging: the task, the state, the cost so far, where it is defined, and how many steps it took
+-- what a judge keeps of the plan that it is judging: the task, the state, the cost so far, if it is defined, and how many steps were taken
 pub record Judging : Type 0 where
   pub task : CostedTask
   pub state : Numbered
@@ -26,7 +26,7 @@ abbrev pub IsCostSoFar : TaskParts → Option Costs → List StepText → Option
 IsCostSoFar parts (Some costs) steps cost = cost ≡ steps_cost parts costs steps
 IsCostSoFar parts None steps cost = Unit {0}
 
--- the cost beside a verdict, where this is the sum of a valid plan: there is none without costs or for another verdict
+-- the cost that goes with a verdict, if this is the cost of a valid plan: there is none without costs or for another verdict
 abbrev pub cost_by : Option Costs → Verdict → Option ℕ → Cost
 cost_by (Some costs) (Valid steps) cost = cost_answer cost
 cost_by (Some costs) (Fails step why) cost = NotCounted

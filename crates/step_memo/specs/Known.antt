@@ -1,4 +1,4 @@
--- Known steps, and where they stand.
+-- Known steps, and where they are kept.
 
 use Rattle.std.specs.Prelude.{◌≡◌, ℕ, ◌+◌, ◌≤◌, List, length, slice_range}
 use Rattle.strips_judge.specs.Codes.{Code}
@@ -24,7 +24,7 @@ known_at bytes numbers entry =
       amount = entry.amount;
     }
 
--- the ranges of an entry are in order, and within so many bytes and numbers
+-- the ranges of an entry are in order, and within this number of bytes and of numbers
 pub record IsEntry (bytes numbers : ℕ) (entry : Entry) : Type 0 where
   pub key : entry.key_start ≤ entry.key_end
   pub bytes_within : entry.key_end ≤ bytes
@@ -34,7 +34,7 @@ pub record IsEntry (bytes numbers : ℕ) (entry : Entry) : Type 0 where
   pub added : entry.deleted_end ≤ entry.end
   pub numbers_within : entry.end ≤ numbers
 
--- the entry of a step with this key, this code and this amount, which stands behind so many bytes and numbers
+-- the entry of a step with this key, this code and this amount, which follows the first `bytes` bytes and `numbers` numbers
 pub record IsEntryFor (entry : Entry) (bytes numbers : ℕ) (key : List ℕ) (code : Code) (amount : ℕ) : Type 0 where
   pub key_start : entry.key_start ≡ bytes
   pub key_end : entry.key_end ≡ bytes + length key

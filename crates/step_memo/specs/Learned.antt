@@ -20,19 +20,19 @@ abbrev pub IsAmount : TaskParts → Option Costs → StepText → Option ℕ →
 IsAmount parts (Some costs) step amount = amount ≡ sum_of (step_amounts parts costs step)
 IsAmount parts None step amount = Unit {0}
 
--- a known step is that which its key spells: the code is the step's where atoms have these numbers, and it adds this amount
+-- a known step is the one that its key spells: with these numbers of atoms, the code is that of the step, and the step adds this amount
 pub record IsLearned (task : CostedTask) (atoms : List Atom) (known : Known) : Type 0 where
   pub spelled : IsSpelled known.key
   pub code : IsCode task.task atoms (step_spelled known.key) known.code
   pub amount : IsAmount task.task task.costs (step_spelled known.key) (Some known.amount)
 
--- a step is applicable in the one state and leads to the other, and this is what it adds
+-- a step is applicable in the first state and leads to the second, and this is what it adds to the cost
 pub record Takes (task : CostedTask) (old new : State) (step : StepText) (amount : Option ℕ) : Type 0 where
   pub not_hindered : hindrance task.task old step ≡ None
   pub leads : new ≡ after task.task old step
   pub adds : IsAmount task.task task.costs step amount
 
--- the most that so many steps can cost: an initial value and 32 amounts a step, of 64 bits each
+-- the most that this many steps can cost: an initial value and 32 amounts for each step, of 64 bits each
 abbrev pub most_cost : ℕ → ℕ
 most_cost count = 2 ^ 64 + count * (32 * 2 ^ 64)
 

@@ -13,7 +13,7 @@ use std::alloc::{AllocError, Global};
 use strips_judge::Verdict;
 use strips_task::StepView;
 
-/// What plans of a task begin with, in billionths: 0 if it counts no costs.
+/// What the cost of a plan begins with, in billionths: 0 if the task counts no costs.
 pub(crate) fn initial_of(alloc: Global, task: &CostedTask) -> u64
     ensures { IsCostSoFar task.now.task task.now.costs [] (Some result) }
 {
@@ -23,7 +23,7 @@ pub(crate) fn initial_of(alloc: Global, task: &CostedTask) -> u64
     }
 }
 
-/// What a step adds, or nothing where that is undefined: 0 if the task counts no costs.
+/// What a step adds to the cost, or `None` if that is undefined: 0 if the task counts no costs.
 pub(crate) fn amount_of(
     task: &CostedTask,
     step: StepView<'_>,
@@ -38,7 +38,7 @@ pub(crate) fn amount_of(
     }
 }
 
-/// What the step with these numbers adds, or nothing where that is undefined: 0 if the task counts no costs.
+/// What the step with these numbers adds to the cost, or `None` if that is undefined: 0 if the task counts no costs.
 pub(crate) fn numbered_amount(
     task: &CostedTask,
     numbers: &[u16],
@@ -54,7 +54,7 @@ pub(crate) fn numbered_amount(
     }
 }
 
-/// The sum of two amounts, undefined where one of them is.
+/// The sum of two amounts, undefined if one of them is.
 pub(crate) fn added(cost: Option<u128>, amount: Option<u128>) -> Option<u128>
     requires { unwrap_or cost 0 + unwrap_or amount 0 < 2 ^ 128 }
     ensures sum { result ≡ added cost amount }
@@ -66,7 +66,7 @@ pub(crate) fn added(cost: Option<u128>, amount: Option<u128>) -> Option<u128>
     }
 }
 
-/// The cost beside a verdict, where this is what a valid plan costs.
+/// The cost that goes with a verdict, if `cost` is what the plan costs when it is valid.
 pub(crate) fn cost_beside(costs: &Option<Costs>, verdict: &Verdict, cost: Option<u128>) -> Cost
     requires { unwrap_or cost 0 < 2 ^ 127 }
     ensures cost { result ≡ cost_by costs.now verdict.now cost }

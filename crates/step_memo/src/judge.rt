@@ -26,12 +26,12 @@ use strips_judge::{
 };
 use strips_task::StepView;
 
-/// With how many atoms beside the initial ones steps are still learned, and kept over plans.
+/// How many atoms besides the initial ones may have numbers while steps are still learned, and kept from one plan to the next.
 pub const MOST_LATER: usize = 32_768;
 
 /// A judge of plans of one task. Contracts see the task and what is kept of the plan that is being judged.
 ///
-/// [`begin`](Judge::begin) a plan, take its steps one by one, and [`finish`](Judge::finish) it. Where a step is not applicable, or memory
+/// [`begin`](Judge::begin) a plan, take its steps one by one, and [`finish`](Judge::finish) it. If a step is not applicable, or memory
 /// runs out, the plan is over, and another can begin.
 #[derive(Drop)]
 pub struct Judge<'t> {
@@ -63,8 +63,8 @@ impl<'t> Model for Judge<'t> {
 }
 
 impl<'t> Judge<'t> {
-    /// A judge of a task that has seen no step, at the begin of a plan: one of so many that share the room for known steps. Takes memory for one
-    /// bit for each initial atom.
+    /// A judge of a task that has seen no step, at the beginning of a plan. It is one of `judges` that share the room for known steps. Takes memory
+    /// for one bit for each initial atom.
     pub fn new(alloc: Global, task: &'t CostedTask, judges: u32) -> Result<Judge<'t>, AllocError>
         ensures task { IfOk result (λ judge. judge.task ≡ task.now) }
         ensures begun { IfOk result (λ judge. HasTaken judge []) }
@@ -90,8 +90,8 @@ impl<'t> Judge<'t> {
 
     /// Begins a plan: the initial atoms are true and no others. Takes a pass over the words of the state's bits.
     ///
-    /// Forgets all codes and numbers, and takes memory for another state, where more than [`MOST_LATER`] atoms beside the initial ones have
-    /// numbers.
+    /// If more than [`MOST_LATER`] atoms besides the initial ones have numbers, it forgets all codes and these numbers, and takes memory for
+    /// another state.
     pub fn begin(&mut self, alloc: Global) -> Result<(), AllocError>
         ensures task { self.new.task ≡ self.old.task }
         ensures begun { OnOk result (HasTaken self.new []) }
@@ -135,10 +135,10 @@ impl<'t> Judge<'t> {
         self.count
     }
 
-    /// Takes the step that a key spells, if it is known and applicable, and else changes nothing. Whether it did.
+    /// Takes the step that a key spells, if it is known and applicable, and otherwise changes nothing. Returns whether it did.
     ///
-    /// Takes one hash of the key and no memory. Any bytes may be asked for: no other than a step that [`take`](Judge::take) learned under the
-    /// same bytes is known.
+    /// Takes one hash of the key and no memory. The key may be any bytes: only a step that [`take_row`](Judge::take_row) learned under the same
+    /// bytes is known.
     pub fn take_known(&mut self, key: &[u8]) -> bool
         requires { self.old.count < MOST_STEPS }
         ensures task { self.new.task ≡ self.old.task }
@@ -160,11 +160,11 @@ impl<'t> Judge<'t> {
         true
     }
 
-    /// Takes the step that a row spells, if its names are known and it is applicable, and else changes no atom. Whether it did. Learns a step that has
-    /// a code while there is room.
+    /// Takes the step that a row spells, if its names are known and it is applicable, and otherwise changes no atom. Returns whether it did. Learns a
+    /// step that has a code while there is room.
     ///
-    /// Takes a hash and a look at memory for each name and each atom that came up of late, more for others, and memory for what is new. Where memory
-    /// runs out the plan is over.
+    /// Takes a hash and a read of memory for each name and each atom that was used recently, more for others, and memory for what is new. If memory
+    /// runs out, the plan is over.
     pub fn take_row(&mut self, alloc: Global, row: &[u8]) -> Result<bool, AllocError>
         requires { self.old.count < MOST_STEPS }
         ensures task { self.new.task ≡ self.old.task }
@@ -203,14 +203,14 @@ impl<'t> Judge<'t> {
         Ok(true)
     }
 
-    /// Whether steps may be learned: where they were found of late, and not too many atoms have numbers.
+    /// Whether steps may be learned: only if known steps are being found, and not too many atoms have numbers.
     fn may_learn(&self) -> bool {
         self.usage.asks() && self.state.later_len() <= MOST_LATER
     }
 
-    /// Takes a step where it is applicable, or else answers why it is not.
+    /// Takes a step if it is applicable, and otherwise returns why it is not.
     ///
-    /// Takes one hash for each word and each atom of the step, and memory for what is new. Where memory runs out the plan is over.
+    /// Takes one hash for each word and each atom of the step, and memory for what is new. If memory runs out, the plan is over.
     pub fn take(&mut self, alloc: Global, step: StepView<'_>) -> Result<Option<Why>, AllocError>
         requires { self.old.count < MOST_STEPS }
         ensures task { self.new.task ≡ self.old.task }
@@ -229,8 +229,8 @@ impl<'t> Judge<'t> {
         Ok(None)
     }
 
-    /// What is found about the plan of the steps that were taken: whether the goal holds after them, and what they cost. Takes memory for
-    /// the conditions of the goal that do not hold.
+    /// The assessment of the plan of the steps that were taken: whether the goal holds after them, and what they cost. Takes memory for the
+    /// conditions of the goal that do not hold.
     pub fn finish(&self, alloc: Global) -> Result<Assessment, AllocError>
         ensures answer { IfOk result (λ answer. (steps : List StepText) → HasTaken self.now steps → answer ≡ assessment self.now.task (Steps steps)) }
         ensures compact { IfOk result (λ answer. IsCompact answer.cost) }
@@ -240,7 +240,7 @@ impl<'t> Judge<'t> {
         Ok(Assessment { verdict, cost })
     }
 
-    /// Whether an atom is true after the steps that were taken. Takes one look where the atom was looked up of late, and one or two hashes else.
+    /// Whether an atom is true after the steps that were taken. Takes one or two hashes.
     pub fn holds(&self, atom: &Atom) -> bool
         ensures { result ≡ state_of self.now.state atom.now }
     {

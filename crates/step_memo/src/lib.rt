@@ -1,12 +1,7 @@
-//! A judge with a memory of steps.
-//!
-//! Many plans of one task are judged one after the other, and most of their steps come again and again. A [`Judge`] keeps what it learns of a
-//! step under the very bytes that spell it, the key: the numbers of the atoms that it needs, deletes and adds, and what it adds to the cost.
-//! A step whose key is known is then taken bit by bit: no name is folded, and no word and no atom is looked up. What a verdict is does not
-//! depend on what is known.
+//! A judge that remembers steps, for many plans of one task.
 //!
 //! ```text
-//! let mut judge = Judge::new(alloc, &task, judges)?;       // one of so many
+//! let mut judge = Judge::new(alloc, &task, judges)?;      // one of `judges` that share the memory
 //! judge.begin(alloc)?;                                    // for each plan
 //! if !judge.take_known(b"move a b")                       // for each step: by its bytes
 //!     && !judge.take_row(alloc, b"move a b")? {           // or by the numbers of its names, and learned
@@ -15,16 +10,21 @@
 //! let assessment = judge.finish(alloc)?;
 //! ```
 //!
-//! A step that is known costs one hash of its key, a look at the table, and a test or a write for each number of its code. One that is not
-//! costs a look at memory for each name and each atom that came up of late, and a hash for others. A step with a fault, an equality that does not
-//! hold, or an undefined amount has no code and is never known.
+//! Most steps of a task's plans occur again and again. A [`Judge`] keeps what it learns of a step under its key, the bytes that spell it: the
+//! numbers of the atoms that the step asks for, deletes and adds, and what it adds to the cost. To take a known step, the judge only tests and
+//! writes bits; it folds no name and looks up no word and no atom. No verdict depends on what is known.
 //!
-//! Memory is taken as steps are learned. All judges of a run share a room of [`ALL_CODES`] steps, [`ALL_NUMBERS`] numbers of their codes and
-//! [`ALL_KEY_BYTES`] bytes of keys: each may take an equal part, of 13 MiB at most and of less than 2 MiB where there are 32 judges, beside the
-//! atoms that have numbers. In the same way they share [`ALL_RECENT_ATOMS`] slots for atoms and [`ALL_RECENT_NAMES`] for names that were looked up of
-//! late. What has no room is judged as without a memory. Codes are forgotten, with
-//! the numbers that they speak of, at the begin of a plan once more than [`MOST_LATER`] atoms beside the initial ones have numbers. Where
-//! hardly any step is found the memory rests for some plans, and for twice as many each time.
+//! - A known step costs one hash of its key, one look-up in the table, and a test or a write for each number of its code.
+//! - Any other step costs one read of memory for each name and each atom that was used recently, and a hash for each other one.
+//! - A step with a fault, an equality that does not hold, or an undefined amount is never known.
+//!
+//! Memory is taken as steps are learned. All judges of a run share room for [`ALL_CODES`] steps, [`ALL_NUMBERS`] numbers in their codes and
+//! [`ALL_KEY_BYTES`] bytes of keys. Each judge may take an equal part: at most 13 MiB, and less than 2 MiB if there are 32 judges. Atoms that
+//! have numbers take memory besides. In the same way the judges share [`ALL_RECENT_ATOMS`] slots for recently used atoms and
+//! [`ALL_RECENT_NAMES`] slots for recently used names. A step that finds no room is judged without the memory.
+//!
+//! If more than [`MOST_LATER`] atoms besides the initial ones have numbers when a plan begins, the judge forgets these numbers and all codes.
+//! If hardly any step is found in the table, the judge does without it for some plans, and for twice as many each time.
 #![tactic(auto)]
 
 mod amounts;

@@ -1,8 +1,8 @@
 //! The table of known steps.
 //!
-//! A step is found by the bytes that spell it: one hash with the task's secret seed, since planners choose the bytes, then one place of the
-//! table after the other up to an empty one. The bytes of all keys stand in one buffer and the numbers of all codes in another, so that a
-//! step that is learned takes no memory of its own. All of it grows as steps come, up to bounds.
+//! A step is found by the bytes that spell it: one hash with the task's secret seed, since planners choose the bytes, then one slot of the
+//! table after the other up to an empty one. The bytes of all keys are in one buffer and the numbers of all codes in another, so that a
+//! step that is learned takes no memory of its own. All of it grows as steps are learned, up to bounds.
 ghost use Rattle.std.specs.Prelude.{◌≡◌, ◌+◌, ◌<◌, ◌≤◌, ◌^◌, ◌∷◌, ◌++◌, [], ℕ, List, false, length, slice_get, slice_range, Some, All, IsTrue, IfSome, IfOk, OnErr, vec_capacity, vec_len};
 ghost use Rattle.strips_judge.specs.Codes.{code_shown};
 ghost use Rattle.step_memo.specs.Known.{known_at, IsEntry, IsEntryFor};
@@ -14,13 +14,13 @@ use std::marker::Model;
 use strips_judge::StepCode;
 use strips_task::Seed;
 
-/// With how many places a table begins.
+/// How many slots a table has at first.
 const FIRST_PLACES: usize = 64;
 
-/// What stands at a place where no step is found. It is the number of no step.
+/// What is in an empty slot. It is the number of no step.
 const EMPTY: u32 = u32::MAX;
 
-/// Where a known step stands: its key among the bytes, and its code among the numbers, one list of the code behind the other.
+/// Where a known step is kept: its key among the bytes, and its code among the numbers, the four lists of the code one after the other.
 #[derive(Clone, Copy, Debug)]
 pub(crate) struct Entry {
     pub hash: u64,
@@ -51,7 +51,7 @@ pub(crate) struct Memo {
     /// All codes.
     numbers: Vec<u32>,
     entries: Vec<Entry>,
-    /// The table: at the place of a hash, or at the next one that is free, the number of an entry. Their count is a power of two.
+    /// The slots of the table: in the slot of its hash, or in the next free one, the number of an entry. Their count is a power of two.
     places: Vec<u32>,
 }
 
@@ -103,7 +103,7 @@ impl Memo {
         }
     }
 
-    /// Adds a step, unless there is no room for it. Whether it did.
+    /// Adds a step, unless there is no room for it. Returns whether it did.
     pub(crate) fn add(
         &mut self,
         key: &[u8],
@@ -206,7 +206,7 @@ fn known_step<'m>(entry: &Entry, numbers: &'m [u32]) -> KnownStep<'m>
     }
 }
 
-/// The entry of a step that is to stand behind so many bytes and numbers, unless that is too far.
+/// The entry of a step that is to follow the first `bytes` bytes and `numbers` numbers, unless it has no room there.
 fn entry_for(
     hash: u64,
     amount: u64,
@@ -236,7 +236,7 @@ fn entry_for(
     })
 }
 
-/// Where so many items end that start at a place, unless that is too far.
+/// Where `len` items that start at `start` end, unless that is more than `most`.
 fn end_of(start: u32, len: usize, most: usize) -> Option<u32>
     requires { most < 2 ^ 32 }
     ensures { IfSome result (λ end. end ≡ start + len) }
@@ -249,7 +249,7 @@ fn end_of(start: u32, len: usize, most: usize) -> Option<u32>
     }
 }
 
-/// Makes the table of places at least twice as long as one that is to hold one entry more.
+/// Makes the table large enough for one more entry: at least twice as many slots as entries.
 fn make_places(places: &mut Vec<u32>, entries: &[Entry]) -> Result<(), AllocError>
     requires { length entries.now < 2 ^ 32 }
 {
@@ -265,7 +265,7 @@ fn make_places(places: &mut Vec<u32>, entries: &[Entry]) -> Result<(), AllocErro
     Ok(())
 }
 
-/// Puts the number of an entry at the first empty place from that of its hash on.
+/// Puts the number of an entry into the first empty slot from that of its hash on.
 fn put(places: &mut [u32], hash: u64, number: u32) {
     let mask = places.len().wrapping_sub(1);
     let mut place = hash as usize;

@@ -1,13 +1,13 @@
 //! How much judges may keep of the steps that they know.
 ghost use Rattle.std.specs.Prelude.{◌<◌, ◌≤◌, ◌^◌};
 
-/// Among so many judges the room is shared at most. Where there are more, each has as much as one of these.
+/// The room is divided as if there were at most this many judges. If there are more, each has as much as with this many.
 pub const MOST_JUDGES: u32 = 32;
 
-/// Among so many judges the room is shared at least, so that one judge alone does not take all of it.
+/// The room is divided as if there were at least this many judges, so that a single judge does not take all of it.
 const FEWEST_JUDGES: u32 = 4;
 
-/// How many steps all judges keep. Each takes 48 bytes beside its key and its code, and up to 16 for its place: 16 MiB.
+/// How many steps all judges keep. Each takes 48 bytes besides its key and its code, and up to 16 for its slots: 16 MiB.
 pub const ALL_CODES: usize = 262_144;
 
 /// How many numbers the codes of all judges have, of four bytes each: 16 MiB.
@@ -16,11 +16,11 @@ pub const ALL_NUMBERS: usize = 4_194_304;
 /// How many bytes the keys of all judges have: 20 MiB.
 pub const ALL_KEY_BYTES: usize = 20_971_520;
 
-/// How many slots all judges have for atoms that were looked up of late, of 16 bytes each: 8 MiB.
+/// How many slots all judges have for recently used atoms, of 16 bytes each: 8 MiB.
 pub const ALL_RECENT_ATOMS: usize = 524_288;
 
-/// How many slots all judges have for names of objects that were looked up of late, of 32 bytes each: 8 MiB. They have as many for names of actions, but
-/// make no more than there is use for.
+/// How many slots all judges have for recently used names of objects, of 32 bytes each: 8 MiB. They may have as many for names of actions, but
+/// make only as many as they use.
 pub const ALL_RECENT_NAMES: usize = 262_144;
 
 /// How much one judge may keep.
@@ -32,9 +32,9 @@ pub(crate) struct Room {
     pub(crate) numbers: usize,
     /// How many bytes in all keys.
     pub(crate) key_bytes: usize,
-    /// How many slots for atoms that were looked up of late.
+    /// How many slots for recently used atoms.
     pub(crate) recent_atoms: usize,
-    /// How many slots for names that were looked up of late.
+    /// How many slots for recently used names.
     pub(crate) recent_names: usize,
     ghost few_codes: { codes < 2 ^ 32 },
     ghost few_numbers: { numbers < 2 ^ 32 },
@@ -42,7 +42,7 @@ pub(crate) struct Room {
 }
 
 impl Room {
-    /// What each of so many judges may keep.
+    /// What each of `judges` judges may keep.
     pub(crate) fn of_each(judges: u32) -> Room {
         let judges = judges.clamp(FEWEST_JUDGES, MOST_JUDGES) as usize;
         Room {

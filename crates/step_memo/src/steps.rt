@@ -13,8 +13,8 @@ use strips_judge::{
     CodeBuffer, NumberedState, Scratch, code_of_numbered, take_by_code, take_numbered,
 };
 
-/// Takes the step that a key spells, if it is known and applicable, and else changes nothing. What it adds to the cost. The task is named for
-/// the contract alone.
+/// Takes the step that a key spells, if it is known and applicable, and returns what it adds to the cost. Otherwise changes nothing. The task
+/// is only there for the contract.
 pub(crate) fn take_found(
     _task: &CostedTask,
     memo: &Memo,
@@ -49,8 +49,8 @@ pub(crate) struct NewStep<'s> {
     pub may_learn: bool,
 }
 
-/// Takes a step where it is applicable, and else changes no atom. Whether it did. Learns it before, if it may, is not known, and has a code and room. Where
-/// memory runs out some effects may have happened.
+/// Takes a step if it is applicable, and otherwise changes no atom. Returns whether it did. Learns the step first, if it may be learned, is not
+/// known, and has a code and room. If memory runs out, some effects may have happened.
 pub(crate) fn take_new(
     alloc: Global,
     task: &CostedTask,

@@ -1,12 +1,12 @@
-//! Whether a judge's known steps are of use.
+//! Whether it pays for a judge to look up known steps.
 
-/// After how many look-ups it is decided whether they are.
+/// After how many look-ups that is decided.
 const TRIAL: u32 = 16_384;
 
-/// Of so many look-ups one has to find a step.
+/// One look-up in this many must find a step.
 const WORTH: u32 = 4;
 
-/// For how many plans nobody asks where they are not, the first time and at most. Each time it is twice as many as before.
+/// For how many plans no step is looked up if it does not pay: the first time, and at most. Each time there are twice as many as before.
 const FIRST_REST: u32 = 16;
 
 const LONGEST_REST: u32 = 4_096;
@@ -30,7 +30,7 @@ impl Usage {
         }
     }
 
-    /// Whether steps are to be looked up: not where hardly any was found so far.
+    /// Whether steps are to be looked up: not if hardly any was found so far.
     pub(crate) fn asks(&self) -> bool {
         self.asked < TRIAL || self.found >= self.asked / WORTH
     }
@@ -43,7 +43,7 @@ impl Usage {
         }
     }
 
-    /// Notes that a plan begins. After some plans for which nobody asked, another trial begins.
+    /// Notes that a plan begins. After some plans without look-ups, another trial begins.
     pub(crate) fn begin(&mut self) {
         if self.asks() {
             self.rested = 0;

@@ -8,30 +8,30 @@ use Rattle.pddl_words.specs.DecimalReading.{digits_of}
 use Rattle.plan_text.specs.PlanReading.{plan_of}
 use Rattle.steps_text.specs.Words.{without_crs, first_word, behind_word, is_bare}
 
--- what a line that is not skipped says: how many planners and places there are, a step, or nothing of this format
+-- what a line that is not skipped says: how many planners and slots there are, a step, or nothing that belongs to this format
 pub data Meaning : Type 0 where
   desk : ℕ → ℕ → Meaning
   step : Asked → Meaning
   strange : Meaning
 
--- the number that stands first in a line, and what stands behind it
+-- the number that begins a line, and what follows it
 abbrev pub first_number : List ℕ → Option (ℕ × List ℕ)
 first_number line = option_and_then (λ number. Some (number, behind_word line)) (digits_of (first_word line))
 
--- the number that stands alone in a line
+-- the number in a line that has nothing else
 abbrev pub only_number : List ℕ → Option ℕ
 only_number line = option_and_then (λ found. if is_bare found.1 then Some found.0 else None) (first_number line)
 
--- the two numbers that stand alone in a line
+-- the two numbers in a line that has nothing else
 abbrev pub two_numbers : List ℕ → Option (ℕ × ℕ)
 two_numbers line = option_and_then (λ found. option_and_then (λ second. Some (found.0, second)) (only_number found.1)) (first_number line)
 
--- the meaning, or that of a line that has none
+-- the meaning, or `strange` if there is none
 abbrev pub or_strange : Option Meaning → Meaning
 or_strange (Some meaning) = meaning
 or_strange None = strange
 
--- `desk P N`: an intake for P planners with N places
+-- `desk P N`: an intake for P planners with N slots
 unfoldable pub desk_in : List ℕ → Meaning
 desk_in rest = or_strange (option_and_then (λ numbers. Some (desk numbers.0 numbers.1)) (two_numbers rest))
 
@@ -39,23 +39,23 @@ desk_in rest = or_strange (option_and_then (λ numbers. Some (desk numbers.0 num
 unfoldable pub submit_in : List ℕ → Meaning
 submit_in rest = or_strange (option_and_then (λ found. Some (step (to_submit found.0 (plan_of found.1)))) (first_number rest))
 
--- `close P`
+-- `close P`: close planner P
 unfoldable pub close_in : List ℕ → Meaning
 close_in rest = or_strange (option_and_then (λ planner. Some (step (to_close planner))) (only_number rest))
 
--- `take`
+-- `take`: give out the least job that waits
 unfoldable pub take_in : List ℕ → Meaning
 take_in rest = (if is_bare rest then step to_take else strange)
 
--- `back J`
+-- `back J`: hand back job J
 unfoldable pub back_in : List ℕ → Meaning
 back_in rest = or_strange (option_and_then (λ job. Some (step (to_hand_back job))) (only_number rest))
 
--- `finish J K`
+-- `finish J K`: hand in the finding of job K for job J
 unfoldable pub finish_in : List ℕ → Meaning
 finish_in rest = or_strange (option_and_then (λ numbers. Some (step (to_finish numbers.0 numbers.1))) (two_numbers rest))
 
--- `emit P`
+-- `emit P`: emit the next finding of planner P
 unfoldable pub emit_in : List ℕ → Meaning
 emit_in rest = or_strange (option_and_then (λ planner. Some (step (to_emit planner))) (only_number rest))
 
@@ -64,7 +64,7 @@ abbrev pub is_skipped : List ℕ → Bool
 is_skipped [] = true
 is_skipped (b ∷ word) = b == 59
 
--- what a line says whose first word is this one, with the rest behind it; the word stands exactly so, in lower case
+-- what a line with this first word and this rest says; the word must be in lower case
 unfoldable pub meaning_of : List ℕ → List ℕ → Meaning
 meaning_of word rest =
     if bytes_eq word (codes "desk") then desk_in rest

@@ -10,7 +10,7 @@ pub record LinesLeft : Type 0 where
   pub taken : ℕ
   pub left : List (List ℕ)
 
--- the lines of what is left of a text; none where nothing is left, not even an empty line
+-- the lines of what is left of a text; none if nothing is left, not even an empty line
 abbrev pub left_in : Option (List ℕ) → List (List ℕ)
 left_in None = []
 left_in (Some rest) = lines rest

@@ -8,15 +8,15 @@ use Rattle.steps_text.specs.declared.fault.StepsFaultKind.{StepsFaultKind}
 use Rattle.steps_text.specs.declared.fault.StepsFaultKind.TheVariants.{Expected, TooMany}
 use Rattle.steps_text.specs.Lines.{Meaning, desk, step, line_meaning}
 
--- the lines of a text, without the LF (10) that ends each; what stands behind the last LF is a line, too
+-- the lines of a text, without the LF (10) that ends each; what follows the last LF is a line, too
 abbrev pub lines : List ℕ → List (List ℕ)
 lines text = slice_split (λ b. b == 10) text
 
--- the most planners and places of an intake, and the most steps
+-- how many planners an intake may have
 abbrev pub most_planners : ℕ
 most_planners = 64
 
--- how many slots a desk may have
+-- how many slots an intake may have
 abbrev pub most_places : ℕ
 most_places = 65536
 
@@ -49,7 +49,7 @@ kept_lines number (line ∷ lines) = kept number (line_meaning line) (kept_lines
 abbrev pub fault : StepsFaultKind → ℕ → Option StepsFault
 fault kind line = Some (record { kind = kind; line = line })
 
--- the fault of a line after so many steps, if it has one
+-- the fault of a line with this number and meaning after `before` steps, if it has one
 abbrev pub fault_by : ℕ → ℕ → Meaning → Option StepsFault
 fault_by before number (step asked) = (if nat_lt before most_steps then None else fault TooMany number)
 fault_by before number _ = fault Expected number
@@ -59,11 +59,11 @@ abbrev pub first_of : Option StepsFault → Option StepsFault → Option StepsFa
 first_of (Some found) later = Some found
 first_of None later = later
 
--- what is wrong with a line that has to be a step, behind so many others
+-- what is wrong with a line that has to be a step, after `before` others
 abbrev pub step_fault : ℕ → Line → Option StepsFault
 step_fault before line = fault_by before line.number line.meaning
 
--- the first fault of lines that have to be steps, behind so many others
+-- the first fault of lines that have to be steps, after `before` others
 abbrev pub steps_fault : ℕ → List Line → Option StepsFault
 steps_fault before [] = None
 steps_fault before (line ∷ lines) = first_of (step_fault before line) (steps_fault (before + 1) lines)
@@ -82,18 +82,18 @@ abbrev pub answer : ℕ → ℕ → List Asked → Option StepsFault → Result 
 answer planners places steps None = Ok (record { planners = planners; places = places; steps = steps })
 answer planners places steps (Some found) = Err found
 
--- what these lines hold behind one that asks for an intake of so many planners and places
+-- what these lines hold after one that asks for an intake with `planners` planners and `places` slots
 abbrev pub steps_behind : ℕ → ℕ → List Line → Result StepsValue StepsFault
 steps_behind planners places lines = answer planners places (steps_of lines) (steps_fault 0 lines)
 
--- what lines hold of which the first, of this number, says this
+-- what lines hold if the first has this number and this meaning, and these are the others
 abbrev pub steps_by : ℕ → Meaning → List Line → Result StepsValue StepsFault
 steps_by number (desk planners places) lines =
     (if nat_le planners most_planners && nat_le places most_places then steps_behind planners places lines
     else Err (record { kind = TooMany; line = number }))
 steps_by number _ lines = Err (record { kind = Expected; line = number })
 
--- what lines hold, of which the first has to say how large the intake is; where there is no line, that is missed at the end
+-- what lines hold: the first has to say how large the intake is; if there is no line, the fault is at the end
 abbrev pub steps_from : ℕ → List Line → Result StepsValue StepsFault
 steps_from end [] = Err (record { kind = Expected; line = end })
 steps_from end (line ∷ lines) = steps_by line.number line.meaning lines

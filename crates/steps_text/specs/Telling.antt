@@ -1,4 +1,4 @@
--- What a reader of steps tells of a text's value: the value itself, its fault, or that memory ran out, which says nothing of the text.
+-- What a reader of steps reports about a text: its value, its fault, or that memory ran out, which says nothing about the text.
 
 use Rattle.std.specs.Prelude.{◌≡◌, ⊤, List, map, Option, Some, None, Result, Ok, Err}
 use Rattle.intake_core.specs.Asked.{asked}
@@ -24,7 +24,7 @@ abbrev pub tells_fault : StepsRefusal → Option StepsFault → Type 0
 tells_fault (Fault found) value = value ≡ Some found
 tells_fault OutOfMemory value = ⊤
 
--- of lines that all have to be steps
+-- the same for lines that all have to be steps: they have no fault and these are their steps, or this is their fault
 abbrev pub tells_steps : Result (List Step) StepsRefusal → List Line → Type 0
 tells_steps (Ok steps) lines = (steps_fault 0 lines ≡ None) × (map asked steps ≡ steps_of lines)
 tells_steps (Err refusal) lines = tells_fault refusal (steps_fault 0 lines)

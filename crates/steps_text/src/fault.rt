@@ -5,9 +5,9 @@ ghost use Rattle.steps_text.specs.Faults.{fault_word};
 /// What is wrong with a line of steps.
 #[derive(Clone, Copy, Debug, Drop, PartialEq, Eq)]
 pub enum StepsFaultKind {
-    /// The line has none of the forms that may stand there, or the line that says how large the intake is is missing.
+    /// The line has none of the forms that may appear there, or the first line, which says how large the intake is, is missing.
     Expected,
-    /// The intake would have too many planners or places, or there is one step too many.
+    /// The intake would have too many planners or slots, or there is one step too many.
     TooMany,
 }
 

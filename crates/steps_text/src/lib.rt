@@ -1,9 +1,17 @@
-//! The steps of a replay: the bytes of a steps file go in, and a list of steps for an intake comes out.
-//!
-//! A file has one step a line. The first line says how large the intake is; a line may be empty, or a comment that begins with `;`.
+//! The reader of steps files: from the bytes of a file it makes the steps of a replay.
 //!
 //! ```text
-//! ; an intake for one planner with two places
+//! let read = read_steps(alloc, text)?;
+//! read.planners                           // 1, for the file below
+//! read.places                             // 2
+//! read.steps.len()                        // 4
+//! ```
+//!
+//! A file has one step on each line. The first line says how many planners and slots the intake has. A line may be empty, or a comment that
+//! begins with `;`.
+//!
+//! ```text
+//! ; an intake for one planner with two slots
 //! desk 1 2
 //! submit 0 (light)
 //! take
@@ -11,11 +19,11 @@
 //! emit 0
 //! ```
 //!
-//! Words are parted by spaces and tabs, and CRs at the end of a line say nothing. A number has 1 to 9 digits. What stands behind the number
-//! of a `submit` is the text of a plan, which is read as any plan text is, and submitted even where it is unreadable.
+//! Words are separated by spaces and tabs, and CRs at the end of a line are ignored. A number has 1 to 9 digits. The text after the number of a
+//! `submit` is a plan. It is read as any plan text is, and submitted even if it is unreadable.
 //!
-//! [`read_steps`] reads line by line: `words` cuts a line into words, `line` says what it asks, and `read` puts the lines together. It
-//! answers the whole list, or the first line that is faulty.
+//! [`read_steps`] reads line by line: `words` cuts a line into words, `line` finds out what it asks, and `read` puts the lines together. It
+//! returns the whole list, or the first line that is faulty.
 #![tactic(auto)]
 
 mod fault;

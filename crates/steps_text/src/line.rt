@@ -22,7 +22,7 @@ pub(crate) enum Meaning {
     Strange,
 }
 
-/// What a line says; `None` where it is skipped.
+/// What a line says; `None` if it is skipped.
 #[tactic(auto, unfolding(crate::specs::Lines::line_meaning))]
 pub(crate) fn line_meaning(alloc: Global, line: &[u8]) -> Result<Option<Meaning>, AllocError>
     ensures { IfOk result (λ meaning. option_map shown meaning ≡ line_meaning line.now) }
@@ -142,7 +142,7 @@ fn emit(rest: &[u8]) -> Meaning
     }
 }
 
-/// The number that stands first in a line, and what stands behind it.
+/// The number that begins a line, and what follows it.
 fn first_number(line: &[u8]) -> Option<(u32, &[u8])>
     ensures { option_map (λ found. (found.0, found.1.now)) result ≡ first_number line.now }
 {
@@ -151,7 +151,7 @@ fn first_number(line: &[u8]) -> Option<(u32, &[u8])>
     Some((number as u32, rest))
 }
 
-/// The number that stands alone in a line.
+/// The number in a line that has nothing else.
 fn only_number(line: &[u8]) -> Option<u32>
     ensures { result ≡ only_number line.now }
 {
@@ -159,7 +159,7 @@ fn only_number(line: &[u8]) -> Option<u32>
     if is_bare(rest) { Some(number) } else { None }
 }
 
-/// The two numbers that stand alone in a line.
+/// The two numbers in a line that has nothing else.
 fn two_numbers(line: &[u8]) -> Option<(u32, u32)>
     ensures { result ≡ two_numbers line.now }
 {

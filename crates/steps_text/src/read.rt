@@ -15,7 +15,7 @@ use std::alloc::Global;
 /// The most planners that an intake may have.
 const MOST_PLANNERS: u32 = 64;
 
-/// The most places that an intake may have.
+/// The most slots that an intake may have.
 const MOST_PLACES: u32 = 65_536;
 
 /// The most steps of a file.
@@ -26,7 +26,7 @@ const MOST_STEPS: usize = 100_000;
 pub struct StepsText {
     /// How many planners the intake has.
     pub planners: u32,
-    /// How many places it has.
+    /// How many slots it has.
     pub places: u32,
     /// The steps to be run on it, in order.
     pub steps: StepsToRun,
@@ -41,7 +41,7 @@ pub enum StepsRefusal {
     OutOfMemory,
 }
 
-/// The steps that a text asks for, and how large the intake is on which they are to be run; or else its first faulty line.
+/// The steps that a text asks for, and the size of the intake for which they are meant; or else its first faulty line.
 ///
 /// The text is read once. Takes memory for the steps and their plans, and nothing for lines that are skipped.
 #[tactic(auto, unfolding(crate::specs::StepsTexts::steps_text))]
@@ -58,7 +58,7 @@ pub fn read_steps(alloc: Global, text: &[u8]) -> Result<StepsText, StepsRefusal>
     }
 }
 
-/// What a text holds whose first line is this one.
+/// What a text holds if this is its first line that is not skipped.
 fn read_behind(alloc: Global, first: KeptLine, lines: Lines<'_>) -> Result<StepsText, StepsRefusal>
     ensures told { tells result (steps_by first.number (shown first.meaning) (kept_lines (lines.entry.taken + 1) lines.entry.left)) }
     ensures limits { IfOk result (λ read. (read.planners ≤ most_planners) × (read.places ≤ most_places)) }

@@ -14,7 +14,7 @@ pub(crate) fn without_crs(line: &[u8]) -> &[u8]
     &line[..end]
 }
 
-/// The first word of a line, and what stands behind it. The word is empty where no word stands in the line.
+/// The first word of a line, and what follows it. The word is empty if the line has none.
 #[tactic(auto, unfolding(crate::specs::Words::first_word, crate::specs::Words::behind_word))]
 pub(crate) fn split_word(line: &[u8]) -> (&[u8], &[u8])
     ensures word { result.0.now ≡ first_word line.now }
@@ -43,7 +43,7 @@ fn first_word_byte(line: &[u8]) -> Option<usize>
     line.iter().position(|b| !is_space(*b))
 }
 
-/// How long the word is with which a line begins.
+/// The length of the word that begins a line.
 fn word_len(words: &[u8]) -> usize
     ensures length { result ≡ position_or_len is_space words.now }
     ensures within { result ≤ length words.now }
@@ -54,7 +54,7 @@ fn word_len(words: &[u8]) -> usize
     }
 }
 
-/// Where the first space or tab stands.
+/// Where the first space or tab is.
 fn first_space(line: &[u8]) -> Option<usize>
     ensures at { result ≡ position is_space line.now }
     ensures within { IfSome result (λ at. at < length line.now) }
@@ -62,14 +62,14 @@ fn first_space(line: &[u8]) -> Option<usize>
     line.iter().position(|b| is_space(*b))
 }
 
-/// Whether no word stands in a line.
+/// Whether a line has no word.
 pub(crate) fn is_bare(line: &[u8]) -> bool
     ensures { result ≡ list_all is_space line.now }
 {
     line.iter().all(|b| is_space(*b))
 }
 
-/// Whether a byte parts words.
+/// Whether a byte separates words.
 fn is_space(b: u8) -> bool
     ensures { result ≡ is_space b }
 {

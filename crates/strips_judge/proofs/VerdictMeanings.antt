@@ -18,9 +18,9 @@ use Rattle.strips_judge.proofs.Runs.{lead_none, lead_none_same, lead_more, lead_
 
 module _ (parts : TaskParts) where
   -- the verdict of a step and others, by what hinders the step
-  split : (n : ℕ) (state : State) (step : StepText) (steps : List StepText) (o : Option Why) → hindrance parts state step ≡ o
+  pub verdict_split : (n : ℕ) (state : State) (step : StepText) (steps : List StepText) (o : Option Why) → hindrance parts state step ≡ o
       → verdict_from parts n state (step ∷ steps) ≡ step_verdict (n + 1) o (verdict_from parts (n + 1) (after parts state step) steps)
-  split n state step steps o e = ap (λ w. step_verdict (n + 1) w (verdict_from parts (n + 1) (after parts state step) steps)) e
+  verdict_split n state step steps o e = ap (λ w. step_verdict (n + 1) w (verdict_from parts (n + 1) (after parts state step) steps)) e
 
   valid_from_verdict : (n : ℕ) (state : State) (steps : List StepText) (m : ℕ) → verdict_from parts n state steps ≡ answer.Valid m
       → (end : State) × LeadTo parts state steps end × Satisfies end parts.goal × (n + length steps ≡ m)
@@ -38,9 +38,9 @@ module _ (parts : TaskParts) where
           → (verdict_from parts (n + 1) (after parts state step) steps ≡ answer.Valid m
           → (end : State) × LeadTo parts (after parts state step) steps end × Satisfies end parts.goal × (n + 1 + length steps ≡ m))
           → (end : State) × LeadTo parts state (step ∷ steps) end × Satisfies end parts.goal × (n + length (step ∷ steps) ≡ m)
-      by (Some why) f rest = let apart : answer.Fails (n + 1) why ≡ answer.Valid m = sym (split n state step steps (Some why) f) ∙ e in cc
+      by (Some why) f rest = let apart : answer.Fails (n + 1) why ≡ answer.Valid m = sym (verdict_split n state step steps (Some why) f) ∙ e in cc
       by None f rest =
-          let (end, leads, holds, count) = rest (sym (split n state step steps None f) ∙ e) in
+          let (end, leads, holds, count) = rest (sym (verdict_split n state step steps None f) ∙ e) in
           (end, lead_more parts state end step steps (applicable_from_hindrance parts state step f) leads, holds, omega arith)
 
   verdict_from_valid : (n : ℕ) (state end : State) (steps : List StepText) → LeadTo parts state steps end → Satisfies end parts.goal
@@ -50,7 +50,7 @@ module _ (parts : TaskParts) where
       ∙ ap answer.Valid (let e : n ≡ n + 0 = omega arith in e)
   verdict_from_valid n state end (step ∷ steps) leads holds =
       let (can, rest) = lead_first parts state end step steps leads in
-      split n state step steps None (hindrance_from_applicable parts state step can)
+      verdict_split n state step steps None (hindrance_from_applicable parts state step can)
       ∙ verdict_from_valid (n + 1) (after parts state step) end steps rest holds
       ∙ ap answer.Valid (let e : n + 1 + length steps ≡ n + suc (length steps) = omega arith in e)
 
@@ -77,11 +77,11 @@ module _ (parts : TaskParts) where
           → (before : ℕ) × (step : StepText) × (at : State) × (i ≡ n + before + 1) × (slice_get (first ∷ steps) before ≡ Some step)
           × LeadTo parts state (take before (first ∷ steps)) at × (IsApplicable parts at step → ⊥)
       by (Some hindered) f rest =
-          let same : answer.Fails (n + 1) hindered ≡ answer.Fails i why = sym (split n state first steps (Some hindered) f) ∙ e in
+          let same : answer.Fails (n + 1) hindered ≡ answer.Fails i why = sym (verdict_split n state first steps (Some hindered) f) ∙ e in
           let place : n + 1 ≡ i = cc in
           (0, first, state, omega arith, refl, lead_none parts state, not_applicable state first hindered f)
       by None f rest =
-          let (before, step, at, place, of, leads, cannot) = rest (sym (split n state first steps None f) ∙ e) in
+          let (before, step, at, place, of, leads, cannot) = rest (sym (verdict_split n state first steps None f) ∙ e) in
           (suc before, step, at, omega arith, of, lead_more parts state at first (take before steps) (applicable_from_hindrance parts state first f) leads, cannot)
 
   verdict_from_fails : (n : ℕ) (state at : State) (steps : List StepText) (before : ℕ) (step : StepText) → slice_get steps before ≡ Some step
@@ -94,7 +94,7 @@ module _ (parts : TaskParts) where
       here = cc
 
       by : (o : Option Why) → hindrance parts state first ≡ o → (why : Why) × (verdict_from parts n state (first ∷ steps) ≡ answer.Fails (n + 0 + 1) why)
-      by (Some why) f = (why, split n state first steps (Some why) f ∙ ap (λ k. answer.Fails k why) (let e : n + 1 ≡ n + 0 + 1 = omega arith in e))
+      by (Some why) f = (why, verdict_split n state first steps (Some why) f ∙ ap (λ k. answer.Fails k why) (let e : n + 1 ≡ n + 0 + 1 = omega arith in e))
       by None f =
           absurd (cannot (subst (λ (x : StepText). IsApplicable parts at x) here
           (subst (λ (s : State). IsApplicable parts s first) (lead_none_same parts state at leads) (applicable_from_hindrance parts state first f))))
@@ -102,7 +102,7 @@ module _ (parts : TaskParts) where
       let (can, rest) = lead_first parts state at first (take before steps) leads in
       let (why, e) = verdict_from_fails (n + 1) (after parts state first) at steps before step of rest cannot in (
         why,
-        split n state first steps None (hindrance_from_applicable parts state first can) ∙ e
+        verdict_split n state first steps None (hindrance_from_applicable parts state first can) ∙ e
             ∙ ap (λ k. answer.Fails k why) (let place : n + 1 + before + 1 ≡ n + suc before + 1 = omega arith in place),
       )
 
@@ -120,9 +120,9 @@ module _ (parts : TaskParts) where
           → (verdict_from parts (n + 1) (after parts state step) steps ≡ answer.Goal unmet
           → (end : State) × LeadTo parts (after parts state step) steps end × (Satisfies end parts.goal → ⊥))
           → (end : State) × LeadTo parts state (step ∷ steps) end × (Satisfies end parts.goal → ⊥)
-      by (Some why) f rest = let apart : answer.Fails (n + 1) why ≡ answer.Goal unmet = sym (split n state step steps (Some why) f) ∙ e in cc
+      by (Some why) f rest = let apart : answer.Fails (n + 1) why ≡ answer.Goal unmet = sym (verdict_split n state step steps (Some why) f) ∙ e in cc
       by None f rest =
-          let (end, leads, lacks) = rest (sym (split n state step steps None f) ∙ e) in
+          let (end, leads, lacks) = rest (sym (verdict_split n state step steps None f) ∙ e) in
           (end, lead_more parts state end step steps (applicable_from_hindrance parts state step f) leads, lacks)
 
   verdict_from_goal : (n : ℕ) (state end : State) (steps : List StepText) → LeadTo parts state steps end → (Satisfies end parts.goal → ⊥)
@@ -136,7 +136,7 @@ module _ (parts : TaskParts) where
   verdict_from_goal n state end (step ∷ steps) leads lacks =
       let (can, rest) = lead_first parts state end step steps leads in
       let (unmet, e) = verdict_from_goal (n + 1) (after parts state step) end steps rest lacks in
-      (unmet, split n state step steps None (hindrance_from_applicable parts state step can) ∙ e)
+      (unmet, verdict_split n state step steps None (hindrance_from_applicable parts state step can) ∙ e)
 
   pub valid_means_valid : (plan : Plan) → ValidMeansValid parts plan
   valid_means_valid (Steps steps) count = (

@@ -22,7 +22,7 @@ pub record Code : Type 0 where
   pub deleted : List ℕ
   pub added : List ℕ
 
--- the code that is lent
+-- the code that is borrowed
 abbrev pub code_shown : StepCode → Code
 code_shown code = record { needed = code.needed.now; forbidden = code.forbidden.now; deleted = code.deleted.now; added = code.added.now }
 
@@ -30,12 +30,12 @@ code_shown code = record { needed = code.needed.now; forbidden = code.forbidden.
 abbrev pub AreNumbers : List Atom → List Atom → List ℕ → Type 0
 AreNumbers atoms ground numbers = map (number_in atoms) ground ≡ map Some numbers
 
--- the atom that a condition with this sign and this formula asks for, if it asks for an atom and wants this truth
+-- the atom that a condition with this sign and this formula asks for, if its formula is an atom and must be true, or false
 abbrev pub asked_by : Bool → Bool → GroundFormula → Option Atom
 asked_by truth positive (grounded.Atom atom) = if beq truth positive then Some atom else None
 asked_by truth positive (grounded.Equal left right) = None
 
--- the atoms that conditions want to be true, or to be false
+-- the atoms that conditions ask to be true, or to be false
 abbrev pub asked : Bool → List GroundCond → List Atom
 asked truth conds = filter_map (λ cond. asked_by truth cond.positive cond.formula) conds
 
@@ -50,14 +50,14 @@ pub record AsksFor (atoms : List Atom) (conds : List GroundCond) (code : Code) :
   pub forbidden : AreNumbers atoms (asked false conds) code.forbidden
   pub equalities : All (λ cond. HoldsIfEquality cond cond.formula) conds
 
--- this is the code of a step, where atoms have these numbers: the step has no fault, and the code asks and does what it asks and does
+-- this is the code of a step, if atoms have these numbers: the step has no fault, and the code asks and does what the step asks and does
 pub record IsCode (parts : TaskParts) (atoms : List Atom) (step : StepText) (code : Code) : Type 0 where
   pub faultless : fault parts step ≡ None
   pub asks : AsksFor atoms (precondition parts step) code
   pub deleted : AreNumbers atoms (deletes parts step) code.deleted
   pub added : AreNumbers atoms (adds parts step) code.added
 
--- the code that asks for one atom more
+-- the code that asks for one more atom
 abbrev pub asking_more : Code → Bool → ℕ → Code
 asking_more code true number = record code { needed = code.needed ++ number ∷ [] }
 asking_more code false number = record code { forbidden = code.forbidden ++ number ∷ [] }

@@ -10,14 +10,14 @@ use Rattle.strips_judge.specs.declared.verdict.Why.{Why}
 use Rattle.strips_judge.specs.Validity.{IsValidPlan, IsFirstFailure, IsGoalMissed}
 use Rattle.strips_judge.specs.Verdict.{verdict}
 
--- the verdict is `Valid` exactly for valid plans, with the number of their steps
+-- the verdict is `Valid` if and only if the plan is valid, with the number of its steps
 abbrev pub ValidMeansValid : TaskParts → Plan → Type 0
 ValidMeansValid parts plan = (count : ℕ) → (verdict parts plan ≡ answer.Valid count) ↔ IsValidPlan parts plan count
 
--- the verdict is `Fails` exactly where the plan fails, with the number of the first step that is not applicable
+-- the verdict is `Fails` if and only if the plan fails, with the number of the first step that is not applicable
 abbrev pub FailsMeansFirstFailure : TaskParts → Plan → Type 0
 FailsMeansFirstFailure parts plan = (place : ℕ) → ((why : Why) × (verdict parts plan ≡ answer.Fails place why)) ↔ IsFirstFailure parts plan place
 
--- the verdict is `Goal` exactly where all steps are applicable in their turn and the goal does not hold after them
+-- the verdict is `Goal` if and only if all steps are applicable in their turn and the goal does not hold after them
 abbrev pub GoalMeansGoalMissed : TaskParts → Plan → Type 0
 GoalMeansGoalMissed parts plan = ((conds : List GroundCond) × (verdict parts plan ≡ answer.Goal conds)) ↔ IsGoalMissed parts plan

@@ -1,4 +1,4 @@
--- Atoms that were looked up of late.
+-- Recently used atoms.
 
 use Rattle.std.specs.Prelude.{◌≡◌, ◌≤◌, List, Some}
 use Rattle.strips_task.specs.declared.atoms.Atom.{Atom}

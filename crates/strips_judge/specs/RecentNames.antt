@@ -1,4 +1,4 @@
--- Words that were looked up of late.
+-- Recently used words.
 
 use Rattle.std.specs.Prelude.{◌≡◌, ◌≤◌, ℕ, true, List, Option, Some}
 use Rattle.pddl_words.specs.Words.{is_name, folded}

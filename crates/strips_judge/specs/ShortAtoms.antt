@@ -1,4 +1,4 @@
--- Atoms of at most four objects, which stand side by side.
+-- Atoms of at most four objects, which are kept side by side.
 
 use Rattle.std.specs.Prelude.{[], ◌∷◌, take}
 use Rattle.strips_task.specs.declared.atoms.Atom.{Atom}

@@ -28,11 +28,11 @@ with_all state atoms = λ atom. state atom || is_in atoms atom
 abbrev pub after_effects : State → List Atom → List Atom → State
 after_effects state deletes adds = with_all (without state deletes) adds
 
--- whether the formula is true: an atom where the state has it, and an equality in every state where both sides are the same object
+-- whether the formula is true: an atom if the state has it, and an equality if both sides are the same object, in every state
 abbrev pub is_true : State → GroundFormula → Bool
 is_true state (grounded.Atom atom) = state atom
 is_true state (grounded.Equal left right) = nat_eq left right
 
--- whether the condition holds: a positive one where its formula is true, a negated one where its formula is false
+-- whether the condition holds: a positive one if its formula is true, a negated one if its formula is false
 abbrev pub holds : State → GroundCond → Bool
 holds state cond = if cond.positive then is_true state cond.formula else not (is_true state cond.formula)

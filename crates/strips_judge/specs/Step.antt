@@ -30,7 +30,7 @@ objects_named parts words = filter_map (number_named parts.objects) words
 abbrev pub is_unknown : TaskParts → List ℕ → Bool
 is_unknown parts word = is_none (number_named parts.objects word)
 
--- an object fits a parameter where its type is below one of the parameter's types (this validator's choice)
+-- an object fits a parameter if its type is below one of the parameter's types (this validator's choice)
 abbrev pub object_fits : TaskParts → List ℕ → ℕ → Bool
 object_fits parts alternatives object = fits parts.parents (slice_index (values_of parts.objects) object ∷ []) alternatives
 
@@ -46,8 +46,8 @@ first_unknown parts args = position_from (is_unknown parts) 1 args
 abbrev pub first_ill_typed : TaskParts → Action → List (List ℕ) → Option ℕ
 first_ill_typed parts action args = position_from (is_ill_typed parts) 1 (zip action.params (objects_named parts args))
 
--- the first fault of a step of this action: its number of arguments, then an argument that names no object, then one that does not fit
--- its parameter. All arguments are tested for being known before any is tested for its type (this validator's choice)
+-- the first fault of a step of this action: the number of arguments, then an argument that names no object, then one that does not fit
+-- its parameter. All arguments are tested for being known before any type is tested (this validator's choice)
 abbrev pub argument_fault : TaskParts → Action → List (List ℕ) → Option Why
 argument_fault parts action args =
     if length args == length action.params
@@ -59,7 +59,7 @@ abbrev pub fault_by : TaskParts → Option Action → List (List ℕ) → Option
 fault_by parts None args = Some UnknownAction
 fault_by parts (Some action) args = argument_fault parts action args
 
--- the first thing that is wrong with a step whatever the state
+-- the first thing that is wrong with a step in every state
 abbrev pub fault : TaskParts → StepText → Option Why
 fault parts step = fault_by parts (action_named parts step.action) step.args
 
@@ -81,17 +81,17 @@ after_by objects state (Some action) = after_effects state (map (ground objects)
 abbrev pub after : TaskParts → State → StepText → State
 after parts state step = after_by (objects_named parts step.args) state (action_named parts step.action)
 
--- the conditions that do not hold, in order, each at its first place only; the two signs of a formula are two conditions
+-- the conditions that do not hold, in the order in which they first occur, each once; a formula and its negation are two conditions
 -- (which of them are named, and in which order, is this validator's choice)
 abbrev pub missing : State → List GroundCond → List GroundCond
 missing state conds = first_places cond_eq (filter (λ cond. not (holds state cond)) conds)
 
--- conditions that are missing hinder a step
+-- why a step is not applicable when these conditions do not hold
 abbrev pub missing_why : List GroundCond → Option Why
 missing_why [] = None
 missing_why (cond ∷ conds) = Some (Missing (cond ∷ conds))
 
--- why a step is not applicable in a state, if it is not: its fault, or else the conditions that do not hold
+-- why a step is not applicable in a state, if it is not: its fault, or if it has none, the conditions that do not hold
 abbrev pub hindrance : TaskParts → State → StepText → Option Why
 hindrance parts state step = option_or (fault parts step) (missing_why (missing state (precondition parts step)))
 

@@ -13,13 +13,13 @@ use Rattle.strips_judge.specs.Step.{fault, precondition, after}
 abbrev pub Satisfies : State → List GroundCond → Type 0
 Satisfies state conds = All (λ cond. IsTrue (holds state cond)) conds
 
--- a step is applicable in a state where it has no fault and its precondition holds
+-- a step is applicable in a state if it has no fault and its precondition holds
 pub record IsApplicable (parts : TaskParts) (state : State) (step : StepText) : Type 0 where
   pub faultless : fault parts step ≡ None
   pub satisfied : Satisfies state (precondition parts step)
 
--- a run of steps is a list of states, one more than the steps: the first is the start, each step is applicable in the state that stands
--- at its place, and the state behind it is the one after the step
+-- a run of steps is a list of states, one more than the steps: the first is the start, each step is applicable in the state with its index,
+-- and the next state is the one after the step
 pub record IsRun (parts : TaskParts) (start : State) (states : List State) (steps : List StepText) : Type 0 where
   pub one_more : length states ≡ length steps + 1
   pub starts : slice_get states 0 ≡ Some start
@@ -30,7 +30,7 @@ pub record IsRun (parts : TaskParts) (start : State) (states : List State) (step
 abbrev pub LeadTo : TaskParts → State → List StepText → State → Type 0
 LeadTo parts start steps end = (states : List State) × IsRun parts start states steps × (slice_get states (length steps) ≡ Some end)
 
--- the steps are a valid plan where they lead to a state in which the goal holds
+-- the steps are a valid plan if they lead to a state in which the goal holds
 abbrev pub AreValid : TaskParts → List StepText → Type 0
 AreValid parts steps = (end : State) × LeadTo parts (is_in parts.init) steps end × Satisfies end parts.goal
 
@@ -43,7 +43,7 @@ FailAt parts steps place = (before : ℕ) × (step : StepText) × (state : State
 abbrev pub MissGoal : TaskParts → List StepText → Type 0
 MissGoal parts steps = (end : State) × LeadTo parts (is_in parts.init) steps end × (Satisfies end parts.goal → ⊥)
 
--- a plan is valid where it was read and its steps are; the number is that of its steps
+-- a plan is valid if it was read and its steps are valid; the number is that of its steps
 abbrev pub IsValidPlan : TaskParts → Plan → ℕ → Type 0
 IsValidPlan parts (Steps steps) count = AreValid parts steps × (length steps ≡ count)
 IsValidPlan parts (Unreadable line) count = ⊥

@@ -12,17 +12,17 @@ use Rattle.strips_judge.specs.declared.verdict.Why.{Why}
 use Rattle.strips_judge.specs.State.{State, is_in}
 use Rattle.strips_judge.specs.Step.{hindrance, after, missing}
 
--- the verdict where so many steps were applicable and these conditions of the goal are unmet
+-- the verdict when all steps, this many, were applicable and these conditions of the goal do not hold
 abbrev pub goal_verdict : ℕ → List GroundCond → Verdict
 goal_verdict steps [] = answer.Valid steps
 goal_verdict steps (cond ∷ conds) = answer.Goal (cond ∷ conds)
 
--- the verdict where this step is hindered or not, and the rest of the plan has its own
+-- the verdict from this step on: that it fails, if there is a reason, and otherwise the verdict of the rest of the plan
 abbrev pub step_verdict : ℕ → Option Why → Verdict → Verdict
 step_verdict step (Some why) rest = answer.Fails step why
 step_verdict step None rest = rest
 
--- the verdict of the steps that are left in this state, so many having been taken
+-- the verdict of the steps that are left, in this state and after `taken` steps
 abbrev pub verdict_from : TaskParts → ℕ → State → List StepText → Verdict
 verdict_from parts taken state [] = goal_verdict taken (missing state parts.goal)
 verdict_from parts taken state (step ∷ steps) = step_verdict (taken + 1) (hindrance parts state step) (verdict_from parts (taken + 1) (after parts state step) steps)

@@ -8,7 +8,7 @@ use crate::verdict::Why;
 use std::alloc::AllocError;
 use strips_task::{Action, Alternatives, StepView, Task};
 
-/// Finds the objects that a step of an action names, or else what is wrong with its arguments.
+/// Finds the objects that a step of an action names, or what is wrong with its arguments.
 pub(crate) fn bind(
     task: &Task,
     action: &Action,
@@ -33,8 +33,8 @@ pub(crate) fn bind(
     }
 }
 
-/// Gathers the numbers of the objects that a step names, up to the first argument that names none, and answers which that is,
-/// counted from 1.
+/// Gathers the numbers of the objects that a step names, up to the first argument that names none. Returns which one that is, counted
+/// from 1.
 fn find_objects(
     task: &Task,
     step: StepView<'_>,

@@ -1,8 +1,8 @@
 //! Codes of steps: what a step asks of the state and does to it, by the numbers of its atoms.
 //!
-//! The same steps come again in many plans of a task. A step whose code is known needs no word and no atom looked up: its code is tested
-//! and taken bit by bit. A code holds only what depends on the state. A step with a fault, or with an equality that does not hold, is
-//! hindered in every state, and has no code.
+//! The same steps occur in many plans of a task. For a step whose code is known, no word and no atom need be looked up: its code is tested
+//! and taken bit by bit. A code holds only what depends on the state. A step with a fault, or with an equality that does not hold,
+//! is not applicable in any state, and has no code.
 ghost use Rattle.std.specs.Prelude.{◌≡◌, ◌<◌, ◌∷◌, [], ◌++◌, List, Some, None, true, false, Bool, map, length, All, IsTrue, IfOk, IfSome, OnOk, OnErr};
 ghost use Rattle.strips_task.specs.declared.atoms.Atom.{Atom};
 ghost use Rattle.strips_task.specs.declared.atoms.GroundCond.{GroundCond};
@@ -25,17 +25,17 @@ use strips_task::{Action, Atom, Cond, Formula, Pattern};
 /// What a step asks of the state and does to it, by the numbers of its atoms in a [`NumberedState`].
 #[derive(Clone, Copy, Debug)]
 pub struct StepCode<'c> {
-    /// The atoms that have to be true.
+    /// The atoms that must be true.
     pub needed: &'c [u32],
-    /// The atoms that have to be false.
+    /// The atoms that must be false.
     pub forbidden: &'c [u32],
-    /// The atoms that are false afterwards, but for those that are also added.
+    /// The atoms that are false afterwards, except those that are also added.
     pub deleted: &'c [u32],
     /// The atoms that are true afterwards.
     pub added: &'c [u32],
 }
 
-/// Room for one code, which is used again for each step. Contracts see the code.
+/// Room for one code, used again for each step. Contracts see the code.
 #[derive(Debug, Drop)]
 pub struct CodeBuffer {
     needed: Vec<u32>,
@@ -96,7 +96,7 @@ impl CodeBuffer {
     }
 }
 
-/// Takes a step by its code where all that it asks for holds, and else changes nothing. Whether it did. Takes no memory.
+/// Takes a step by its code if everything that the code asks for holds, and otherwise changes nothing. Returns whether it did. Takes no memory.
 pub fn take_by_code(state: &mut NumberedState<'_>, code: StepCode<'_>) -> bool
     requires { All (λ number. number < length state.old.atoms) (code_shown code).added }
     ensures taken { IsTrue result → (parts : TaskParts) (step : StepText) → IsCode parts state.old.atoms step (code_shown code.entry)
@@ -232,7 +232,7 @@ fn ask_one(
     }
 }
 
-/// Gathers the numbers of the atoms that patterns stand for, if 32 bits hold each.
+/// Gathers the numbers of the atoms that patterns stand for, if each fits in 32 bits.
 fn number_all(
     alloc: Global,
     patterns: &[Pattern],
@@ -256,7 +256,7 @@ fn number_all(
     Ok(true)
 }
 
-/// The number of the atom that a pattern stands for, which gets one where it has none, if 32 bits hold it.
+/// The number of the atom that a pattern stands for, if it fits in 32 bits. An atom without a number gets one.
 fn short_number(
     alloc: Global,
     pattern: &Pattern,

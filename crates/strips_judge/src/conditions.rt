@@ -1,7 +1,7 @@
 //! Which conditions do not hold in a state.
 //!
-//! An atom is looked up as it stands in the one that is used again and again; only a condition that fails gets memory of its own, and that
-//! ends the plan.
+//! Each atom is grounded into the same one, used again and again, and looked up from there. Only a condition that fails gets memory of its own,
+//! and that ends the plan.
 ghost use Rattle.std.specs.Prelude.{◌≡◌, length, map, All, IfOk, OnOk};
 ghost use Rattle.indexmap.specs.IndexSet.{insert_key};
 ghost use Rattle.strips_task.specs.Atom.{cond_eq};
@@ -17,7 +17,7 @@ use indexmap::IndexSet;
 use std::alloc::{AllocError, Global};
 use strips_task::{Atom, Cond, CondList, Formula, GroundCond, GroundFormula, Seed};
 
-/// The conditions of an action that do not hold, in order, each at its first place only.
+/// The conditions of an action that do not hold, in order, each only once.
 pub(crate) fn missing(
     alloc: Global,
     state: &mut NumberedState<'_>,
@@ -39,7 +39,7 @@ pub(crate) fn missing(
     listed(alloc, found)
 }
 
-/// The ground conditions that do not hold, in order, each at its first place only.
+/// The ground conditions that do not hold, in order, each only once.
 pub(crate) fn missing_ground(
     alloc: Global,
     state: &NumberedState<'_>,

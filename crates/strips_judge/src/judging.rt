@@ -1,7 +1,7 @@
 //! The judge: it takes the steps of a plan one after the other, and stops at the first that is not applicable.
 //!
-//! A step is found by the bytes of its words, bound to objects, tested and applied, all in place: the list of objects and the one ground
-//! atom are used again for every step, and memory is taken only where an atom comes up that was never true before.
+//! The action of a step and its objects are found by the bytes of their names, and then the step is tested and applied. The list of objects and
+//! the one ground atom are used again for every step, and memory is taken only for an atom that becomes true for the first time.
 ghost use Rattle.std.specs.Prelude.{◌≡◌, IfOk, IfNone, Some, length};
 ghost use Rattle.strips_task.specs.StepView.{step_shown};
 ghost use Rattle.strips_task.specs.Within.{IsActionWithin};
@@ -19,10 +19,10 @@ use crate::verdict::{Verdict, Why};
 use std::alloc::{AllocError, Global};
 use strips_task::{Action, Atom, Plan, ShortSeq, StepList, StepView, Task};
 
-/// How many atoms that were looked up of late are kept beside each other while one plan is judged: up to 256 KiB.
+/// How many recently used atoms are kept in slots while one plan is judged: up to 256 KiB.
 const MOST_RECENT: usize = 16_384;
 
-/// What steps share, so that a step takes no memory of its own. No answer depends on what it holds.
+/// Room that all steps use, so that a step takes no memory of its own. No answer depends on what it holds.
 #[derive(Drop)]
 pub struct Scratch {
     pub(crate) objects: Vec<u16>,
@@ -44,7 +44,7 @@ impl Scratch {
 
 /// Whether a plan is valid for a task, and if not, why (PDDL 2.1, Fox and Long 2003, section 6).
 ///
-/// Takes memory for one bit for each initial atom, for the atoms that come up later, and for what is missing at the end.
+/// Takes memory for one bit for each initial atom, for atoms that become true later, and for the conditions that do not hold at the end.
 pub fn judge(alloc: Global, task: &Task, plan: &Plan) -> Result<Verdict, AllocError>
     ensures { IfOk result (λ answer. answer ≡ verdict task.now plan.now) }
 {
@@ -70,7 +70,7 @@ fn judge_steps(alloc: Global, task: &Task, steps: &StepList) -> Result<Verdict, 
     judge_goal(alloc, task, &state, steps.len() as u32)
 }
 
-/// The verdict of a plan whose steps were all taken and lead to this state. Takes memory for what is missing.
+/// The verdict of a plan whose steps were all taken and lead to this state. Takes memory for the conditions that do not hold.
 pub fn judge_goal(
     alloc: Global,
     task: &Task,
@@ -87,7 +87,7 @@ pub fn judge_goal(
     }
 }
 
-/// Takes a step where it is applicable, or else answers why it is not. Where memory runs out some of its effects may have happened.
+/// Takes a step if it is applicable, and otherwise returns why it is not. If memory runs out, some of its effects may have happened.
 ///
 /// Takes one hash for each of its words and for each of its atoms, and memory for atoms that have no number yet.
 pub fn take_step(
@@ -107,7 +107,7 @@ pub fn take_step(
     }
 }
 
-/// Takes a step of an action where it is applicable, or else answers why it is not.
+/// Takes a step of an action if it is applicable, and otherwise returns why it is not.
 fn take_action(
     alloc: Global,
     task: &Task,

@@ -1,9 +1,21 @@
-//! The judge: whether a plan is valid for a task, and if not, why.
+//! The judge: checks whether a plan solves a task, and if not, says why.
 //!
-//! [`judge`] takes a [`Task`] and a [`Plan`] and gives a [`Verdict`]. What the verdict means is stated by `specs/Verdict.antt`, and the
-//! functions of [`laws`] tie it to validity in the words of PDDL. Who judges many plans of one task keeps a [`NumberedState`] over them, and
-//! takes their steps by [`take_step`], or by the [`StepCode`] of a step that came before ([`take_by_code`]). Tasks and plans come from the
-//! crate `strips_task`, whose whole surface is passed on here, so that users name this crate alone.
+//! ```text
+//! match judge(alloc, &task, &plan)? {
+//!     Verdict::Valid { steps } => ..,            // each step is applicable, and the goal holds at the end
+//!     Verdict::Fails { step, why } => ..,        // the first step that is not applicable, counted from 1
+//!     Verdict::Goal { missing } => ..,           // the conditions of the goal that do not hold at the end
+//!     Verdict::Unreadable { line } => ..,        // the plan's text could not be read
+//! }
+//! ```
+//!
+//! [`judge`] takes a [`Task`] and a [`Plan`] and gives a [`Verdict`]. `specs/Verdict.antt` defines the verdict of a plan, and the functions of
+//! [`laws`] tie it to validity in the words of PDDL.
+//!
+//! To judge many plans of one task, keep a [`NumberedState`] for all of them. Take each step with [`take_step`], or with [`take_by_code`] if the
+//! step was taken before and its [`StepCode`] was kept.
+//!
+//! Tasks and plans come from the crate `strips_task`. Its types are re-exported here, so users need to name only this crate.
 #![tactic(auto)]
 
 mod arguments;
@@ -31,7 +43,7 @@ pub use state::NumberedState;
 pub use step_names::StepNames;
 pub use strips_task::{
     Action, Alternatives, Atom, AtomList, Cond, CondList, Formula, GroundCond, GroundFormula,
-    InitialAtoms, MOST_STEPS, Name, NameTable, OpenSteps, Pattern, Plan, Seed, Seq, ShortSeq,
-    StepList, StepRange, StepText, StepView, Task, TaskParts, Term, TypeList, Word, WordList,
+    InitialAtoms, MOST_STEPS, Name, NameKey, NameTable, OpenSteps, Pattern, Plan, Seed, Seq,
+    ShortSeq, StepList, StepRange, StepText, StepView, Task, TaskParts, Term, TypeList, WordList,
 };
 pub use verdict::{Verdict, Why};

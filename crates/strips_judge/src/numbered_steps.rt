@@ -1,7 +1,7 @@
 //! Steps that are known by the numbers of their names.
 //!
-//! What a step asks and does depends on its action and its objects alone, so whoever has their numbers needs none of its words. A step that
-//! is not applicable is not explained here: the judge finds out by its words, once a plan.
+//! What a step asks and does depends only on its action and its objects, so with their numbers none of its words is needed. A step that is not
+//! applicable is not explained here: the judge explains it by its words, at most once for each plan.
 ghost use Rattle.std.specs.Prelude.{◌≡◌, [], length, map, false, None, Some, IfOk, IfSome, IsTrue, All};
 ghost use Rattle.strips_task.specs.declared.steps.StepText.{StepText};
 ghost use Rattle.strips_task.specs.Within.{IsActionWithin, IsFormulaWithin};
@@ -20,10 +20,10 @@ use crate::state::NumberedState;
 use std::alloc::{AllocError, Global};
 use strips_task::{Action, Atom, Cond, Task};
 
-/// Takes the step with these numbers where it is applicable, and else leaves the state as it is. Whether it did. Where memory runs out some of its
-/// effects may have happened.
+/// Takes the step with these numbers if it is applicable, and otherwise leaves the state as it is. Returns whether it did. If memory runs out, some
+/// of its effects may have happened.
 ///
-/// Takes one look at memory for each atom that was looked up of late and one hash for each other, and memory for atoms that have no number yet.
+/// Takes one read of memory for each recently used atom and one hash for each other one, and memory for atoms that have no number yet.
 pub fn take_numbered(
     alloc: Global,
     task: &Task,
@@ -48,10 +48,10 @@ pub fn take_numbered(
     Ok(true)
 }
 
-/// Puts the code of the step with these numbers into a buffer. Whether the step has one. Its atoms get numbers where they have none, and stay
-/// true or false.
+/// Puts the code of the step with these numbers into a buffer, and returns whether the step has one. Its atoms get numbers if they have none,
+/// and stay true or false.
 ///
-/// Where there is no code, or memory runs out, the buffer holds part of one.
+/// If there is no code, or memory runs out, the buffer may hold part of one.
 pub fn code_of_numbered(
     alloc: Global,
     task: &Task,

@@ -1,4 +1,4 @@
-//! The numbers of the atoms that a plan brings up.
+//! The numbers of the atoms that are not initial.
 ghost use Rattle.std.specs.Prelude.{◌≡◌};
 ghost use Rattle.strips_judge.specs.AtomNumbers.{number_in};
 

@@ -1,9 +1,9 @@
-//! The numbers of atoms that were looked up of late.
+//! The numbers of recently used atoms.
 //!
-//! Most atoms of a step were looked up a short while ago, by the step itself (what an action deletes it mostly asks for too) or by one
-//! before it. A table of all atoms finds a number by several looks at memory. Here an atom of at most four objects is in the slot of its hash, side
-//! by side with its number, or has to be looked up: of atoms with one slot only the last is there. The hash is no secret. Whoever picks atoms
-//! with one slot makes each of them be looked up, which takes no longer than if there were no slots.
+//! Most atoms of a step were looked up a short while ago, by the step itself (an action mostly asks for what it deletes) or by one before it. The
+//! table of all atoms needs several reads of memory to find a number. Here an atom of at most four objects is in the slot of its hash, next to
+//! its number, or must be looked up in that table: of all atoms with the same slot, only the last one is here. The hash is no secret. Choosing
+//! atoms with the same slot makes each of them be looked up, which takes no longer than if there were no slots.
 ghost use Rattle.std.specs.Prelude.{◌≡◌, ◌≤◌, List, All, IfOk, IfSome, Some};
 ghost use Rattle.strips_task.specs.declared.atoms.Atom.{Atom};
 ghost use Rattle.strips_judge.specs.AtomNumbers.{number_in};
@@ -22,7 +22,7 @@ pub(crate) struct Slot {
     number: u32,
 }
 
-/// Atoms that were looked up of late, with their numbers. Contracts see the slots.
+/// Recently used atoms, with their numbers. Contracts see the slots.
 #[derive(Debug, Drop)]
 pub(crate) struct RecentAtoms {
     slots: Vec<Slot>,
@@ -39,7 +39,7 @@ impl Model for RecentAtoms {
 }
 
 impl RecentAtoms {
-    /// No atom, and never more slots than `most`. Takes no memory.
+    /// No atom, and never more than `most` slots. Takes no memory.
     pub(crate) fn new(alloc: Global, most: usize) -> Self
         ensures { (atoms : List Atom) → All (IsRecent atoms) result }
     {
@@ -73,7 +73,7 @@ impl RecentAtoms {
         Ok(())
     }
 
-    /// Counts what was not found, and makes more slots where there are too few.
+    /// Counts an atom that was not found, and makes more slots if there are too few.
     fn make_room(&mut self) -> Result<(), AllocError>
         ensures { (atoms : List Atom) → All (IsRecent atoms) self.old → All (IsRecent atoms) self.new }
     {
@@ -83,7 +83,7 @@ impl RecentAtoms {
         }
     }
 
-    /// Makes so many slots. The atoms stay, but for those that come to one slot.
+    /// Makes `count` slots. The atoms stay, except that of those with the same slot only one does.
     fn grow(&mut self, count: usize) -> Result<(), AllocError>
         ensures { (atoms : List Atom) → All (IsRecent atoms) self.old → All (IsRecent atoms) self.new }
     {
@@ -94,7 +94,7 @@ impl RecentAtoms {
     }
 }
 
-/// So many slots without an atom.
+/// `count` slots without an atom.
 fn empty_slots(alloc: Global, count: usize) -> Result<Vec<Slot>, AllocError>
     ensures { IfOk result (λ slots. (atoms : List Atom) → All (IsRecent atoms) slots.items) }
 {

@@ -1,8 +1,9 @@
-//! The numbers of words that were looked up of late.
+//! The numbers of recently used words.
 //!
 //! The steps of a plan name few objects, again and again. To find one in its table, a word is tested for being a name, folded, hashed and
-//! compared with a name elsewhere in memory. Here a word of at most 16 bytes is kept as it is written, in the slot of its bytes, side by side with
-//! its number. Of the words with one slot only the last is there. As with `recent`, whoever picks words with one slot only makes them be looked up.
+//! compared with a name elsewhere in memory. Here a word of at most 16 bytes is kept as it is written, in the slot of its bytes, next to its
+//! number. Of all words with the same slot, only the last one is here. As with `recent`, choosing words with the same slot only makes them be
+//! looked up.
 ghost use Rattle.std.specs.Prelude.{◌≡◌, ℕ, List, Option, All, IfOk, IfSome, Some, true};
 ghost use Rattle.pddl_words.specs.Words.{is_name, folded};
 ghost use Rattle.strips_judge.specs.RecentNames.{IsRecentName};
@@ -20,7 +21,7 @@ pub(crate) struct NameSlot {
     number: u16,
 }
 
-/// Words that were looked up of late, with their numbers. Contracts see the slots.
+/// Recently used words, with their numbers. Contracts see the slots.
 #[derive(Debug, Drop)]
 pub(crate) struct RecentNames {
     slots: Vec<NameSlot>,
@@ -37,7 +38,7 @@ impl Model for RecentNames {
 }
 
 impl RecentNames {
-    /// No word, and never more slots than `most`. Takes no memory.
+    /// No word, and never more than `most` slots. Takes no memory.
     pub(crate) fn new(alloc: Global, most: usize) -> Self
         ensures { (number_of : List ℕ → Option ℕ) → All (IsRecentName number_of) result }
     {
@@ -73,7 +74,7 @@ impl RecentNames {
         Ok(())
     }
 
-    /// Counts what was not found, and makes more slots where there are too few.
+    /// Counts a word that was not found, and makes more slots if there are too few.
     fn make_room(&mut self) -> Result<(), AllocError>
         ensures { (number_of : List ℕ → Option ℕ) → All (IsRecentName number_of) self.old → All (IsRecentName number_of) self.new }
     {
@@ -83,7 +84,7 @@ impl RecentNames {
         }
     }
 
-    /// Makes so many slots. The words stay, but for those that come to one slot.
+    /// Makes `count` slots. The words stay, except that of those with the same slot only one does.
     fn grow(&mut self, count: usize) -> Result<(), AllocError>
         ensures { (number_of : List ℕ → Option ℕ) → All (IsRecentName number_of) self.old → All (IsRecentName number_of) self.new }
     {
@@ -94,7 +95,7 @@ impl RecentNames {
     }
 }
 
-/// So many slots without a word.
+/// `count` slots without a word.
 fn empty_slots(alloc: Global, count: usize) -> Result<Vec<NameSlot>, AllocError>
     ensures { IfOk result (λ slots. (number_of : List ℕ → Option ℕ) → All (IsRecentName number_of) slots.items) }
 {

@@ -1,9 +1,9 @@
-//! How many slots a table of what was looked up of late has.
+//! How many slots a table of recently used things has.
 //!
 //! There are none at first, so that a short plan takes no memory for them. Whenever as many things were not found as there are slots, there are four
-//! times as many slots, up to a bound. What a table answers doesn't depend on it.
+//! times as many slots, up to a bound. No answer depends on it.
 
-/// So many things are looked up before there are slots, and so many slots there are then.
+/// How many things are looked up before there are slots, and how many slots there are then.
 const FIRST_SLOTS: usize = 1_024;
 
 /// How many times as many slots there are each time.
@@ -22,7 +22,7 @@ impl SlotCount {
         SlotCount { most, missed: 0 }
     }
 
-    /// Counts one thing that was not found among so many slots, and answers how many slots there are to be, if there are to be more.
+    /// Counts one thing that was not found among `slots` slots. Returns how many slots there should be, if there should be more.
     pub(crate) fn miss(&mut self, slots: usize) -> Option<usize> {
         if self.missed < slots.max(FIRST_SLOTS) {
             self.missed += 1;
@@ -36,7 +36,7 @@ impl SlotCount {
     }
 }
 
-/// The index of a hash among so many slots, or 0 if there are none.
+/// The index of a hash among `slots` slots, or 0 if there are none.
 pub(crate) fn index_of(hash: u64, slots: usize) -> usize {
     ((hash >> 32) as usize).wrapping_mul(slots) >> 32
 }

@@ -1,7 +1,7 @@
 //! The state of the world while plans are judged: which ground atoms are true.
 //!
 //! Each atom that was ever true or asked for by number has a number and a bit. The initial atoms have the task's numbers, so a plan starts
-//! with a row of ones and hashes none of them. Atoms that come up later get the numbers behind, and numbers never change: a state that is
+//! with a row of ones and hashes none of them. Atoms that come up later get the next numbers, and numbers never change: a state that is
 //! reset for another plan keeps them. Steps change the bits in place. An atom without a number is false.
 ghost use Rattle.std.specs.Prelude.{◌≡◌, ◌∷◌, [], ◌<◌, ◌≤◌, ℕ, None, Some, IfOk, IfSome, OnOk, length};
 ghost use Rattle.strips_task.specs.Within.{IsPatternWithin};
@@ -49,8 +49,8 @@ impl<'t> Model for NumberedState<'t> {
 impl NumberedState<'_> {
     /// The state in which the initial atoms are true, and no others. Takes a bit for each of them.
     ///
-    /// Of the atoms that are looked up, at most `most_recent` are found by one look at memory the next time. That takes up to 16 bytes for each, as
-    /// atoms come up.
+    /// At most `most_recent` of the atoms that were looked up are found by one read of memory the next time. That takes up to 16 bytes for each,
+    /// once there are as many.
     pub fn new(
         alloc: Global,
         initial: &InitialAtoms,
@@ -76,7 +76,7 @@ impl NumberedState<'_> {
         self.bits.reset_to_first(self.initial.distinct_len());
     }
 
-    /// How many atoms have numbers beside the initial ones.
+    /// How many atoms have numbers besides the initial ones.
     pub fn later_len(&self) -> usize {
         self.later.len()
     }
@@ -86,8 +86,8 @@ impl NumberedState<'_> {
         self.initial.seed()
     }
 
-    /// The number of the atom that a pattern stands for, if it has one. Takes one look at memory where it was looked up of late, and else a hash for
-    /// each table. Takes memory once in a long while. The last argument is room for the atom.
+    /// The number of the atom that a pattern stands for, if it has one. Takes one read of memory if the atom was used recently, and otherwise a hash
+    /// for each table. Takes memory once in a long while. The last argument is room for the atom.
     pub(crate) fn look_up(
         &mut self,
         pattern: &Pattern,
@@ -136,7 +136,7 @@ impl NumberedState<'_> {
         }
     }
 
-    /// The number of the atom that a pattern stands for, which gets the next one where it has none. It stays as true or false as it is.
+    /// The number of the atom that a pattern stands for. An atom without a number gets the next one. Whether it is true does not change.
     pub(crate) fn number(
         &mut self,
         alloc: Global,
@@ -161,7 +161,7 @@ impl NumberedState<'_> {
         Ok(number)
     }
 
-    /// The same for an atom, by the tables of all atoms.
+    /// The number of an atom, by the tables of all atoms. An atom without a number gets the next one.
     fn number_for(&mut self, alloc: Global, atom: &Atom) -> Result<usize, AllocError>
         ensures number { IfOk result (λ number. number_in self.new.atoms atom.now ≡ Some number) }
         ensures state { state_of self.new ≡ state_of self.old }
@@ -173,7 +173,7 @@ impl NumberedState<'_> {
         }
     }
 
-    /// Gives an atom without a number the next one, which is the result. It is false.
+    /// Gives an atom without a number the next one, and returns it. The atom is false.
     fn add(&mut self, alloc: Global, atom: &Atom) -> Result<usize, AllocError>
         requires { number_in self.old.atoms atom.now ≡ None }
         ensures number { IfOk result (λ number. number_in self.new.atoms atom.now ≡ Some number) }
@@ -232,7 +232,7 @@ impl NumberedState<'_> {
         }
     }
 
-    /// Whether an atom is true. Takes one look where the atom was looked up of late, and one or two hashes else.
+    /// Whether an atom is true. Takes one or two hashes.
     pub fn contains(&self, atom: &Atom) -> bool
         ensures { result ≡ state_of self.now atom.now }
     {

@@ -11,7 +11,7 @@ use std::alloc::{AllocError, Global};
 use std::marker::Model;
 use strips_task::{Task, WordList};
 
-/// Finds the names of steps by the bytes that write them, and keeps those that it found of late. Contracts see the task.
+/// Finds the numbers of the names of steps by their bytes, and keeps those that were used recently. Contracts see the task.
 #[derive(Drop)]
 pub struct StepNames<'t> {
     task: &'t Task,
@@ -35,10 +35,10 @@ impl<'t> Model for StepNames<'t> {
 }
 
 impl<'t> StepNames<'t> {
-    /// The names of a task, none of which was looked up. Takes no memory.
+    /// The names of a task, none of which was looked up yet. Takes no memory.
     ///
-    /// Of the actions that are looked up, and of the objects, at most `most_recent` are found by one look at memory the next time. That takes up to 32
-    /// bytes for each, as names come up.
+    /// At most `most_recent` of the actions that were looked up, and as many of the objects, are found by one read of memory the next time. That
+    /// takes up to 32 bytes for each, once there are as many.
     pub fn new(alloc: Global, task: &'t Task, most_recent: usize) -> StepNames<'t>
         ensures { result ≡ task.now }
     {
@@ -50,11 +50,11 @@ impl<'t> StepNames<'t> {
         }
     }
 
-    /// Finds the numbers of the names of a step, if the row spells one and each name is known: the action's, and then those of the objects. Whether
-    /// it did.
+    /// Finds the numbers of the names of a step, if the row spells one and each name is known: the action's, and then those of the objects. Returns
+    /// whether it did.
     ///
-    /// A name takes a hash and a look at one place of memory where it was looked up of late, and one look-up in the task's table else. Takes
-    /// memory for that once.
+    /// A name takes a hash and one read of memory if it was used recently, and otherwise one look-up in the task's table. Takes memory for that
+    /// once.
     pub fn number(&mut self, row: &[u8], numbers: &mut Vec<u16>) -> Result<bool, AllocError>
         ensures task { self.new ≡ self.old }
         ensures spelled { IfOk result (λ found. IsTrue found → IsSpelled row.now) }
@@ -71,7 +71,7 @@ impl<'t> StepNames<'t> {
         Ok(!numbers.is_empty())
     }
 
-    /// The number of the action, or else of the object, that a word names, if it is a name that is known.
+    /// The number of the action or the object that a word names, if it is a known name.
     fn number_of(&mut self, is_action: bool, word: &[u8]) -> Result<Option<u16>, AllocError>
         ensures task { self.new ≡ self.old }
         ensures named { IfOk result (λ found. IfSome found (λ number. (is_name word.now ≡ true) × (number_by self.old is_action (folded word.now) ≡ Some number))) }

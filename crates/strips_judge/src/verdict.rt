@@ -1,4 +1,4 @@
-//! What the judge says of a plan.
+//! What the judge says about a plan.
 use strips_task::CondList;
 
 /// Whether a plan is valid, and if not, why.
@@ -28,7 +28,7 @@ pub enum Verdict {
     },
 }
 
-/// Why a step is not applicable. Of several reasons the first in this order is given.
+/// Why a step is not applicable. If there are several reasons, only the first in this order is reported.
 #[derive(Debug, Drop)]
 pub enum Why {
     /// No action of the task has the name.

@@ -63,7 +63,7 @@ variables_known parents variables h =
 
 module _ (task : TaskParts) (params : List (List ℕ)) where
   -- a parameter that fits is one of the action's
-  term_within : (term : Term) (places : List ℕ) → is_fitting task.parents (term_types task params term) places ≡ true → IsTermWithin (length params) term
+  term_within : (term : Term) (places : List ℕ) → is_fitting task.parents (term_types task.objects params term) places ≡ true → IsTermWithin (length params) term
   unfolding term_types is_fitting
   term_within (Object object) places h = tt
   term_within (Param place) places h = by (slice_get params place) refl
@@ -72,26 +72,26 @@ module _ (task : TaskParts) (params : List (List ℕ)) where
       by None e = absurd (true≢false (sym h ∙ ap (λ o. is_fitting task.parents o places) e))
       by (Some types) e = slice_get_within params place types e
 
-  terms_within : (terms : List Term) (places : List (List ℕ)) → length (map (term_types task params) terms) ≡ length places
-      → list_all (λ p. is_fitting task.parents p.0 p.1) (zip (map (term_types task params) terms) places) ≡ true
+  terms_within : (terms : List Term) (places : List (List ℕ)) → length (map (term_types task.objects params) terms) ≡ length places
+      → list_all (λ p. is_fitting task.parents p.0 p.1) (zip (map (term_types task.objects params) terms) places) ≡ true
       → All (IsTermWithin (length params)) terms
   terms_within [] places e h = λ k d lt. absurd (omega arith)
   terms_within (term ∷ terms) [] e h = absurd (omega (arith, e))
   terms_within (term ∷ terms) (place ∷ places) e h =
-      let parts = both_hold (is_fitting task.parents (term_types task params term) place) (list_all (λ p. is_fitting task.parents p.0 p.1) (zip (map (term_types task params) terms) places)) h in
+      let parts = both_hold (is_fitting task.parents (term_types task.objects params term) place) (list_all (λ p. is_fitting task.parents p.0 p.1) (zip (map (term_types task.objects params) terms) places)) h in
       all_cons (IsTermWithin (length params)) term terms (term_within term place parts.0)
-      (terms_within terms places (let n : suc (length (map (term_types task params) terms)) ≡ suc (length places) = e in omega arith) parts.1)
+      (terms_within terms places (let n : suc (length (map (term_types task.objects params) terms)) ≡ suc (length places) = e in omega arith) parts.1)
 
   pattern_within : (pattern : Pattern) → is_pattern task params pattern ≡ true → IsPatternWithin (length params) pattern
   unfolding is_pattern are_fitting
   pattern_within pattern h = by (slice_get (values_of task.preds) pattern.pred) refl
     where
       by : (r : Option (List (List ℕ))) → slice_get (values_of task.preds) pattern.pred ≡ r → IsPatternWithin (length params) pattern
-      by None e = absurd (true≢false (sym h ∙ ap (are_fitting task.parents (map (term_types task params) pattern.terms)) e))
+      by None e = absurd (true≢false (sym h ∙ ap (are_fitting task.parents (map (term_types task.objects params) pattern.terms)) e))
       by (Some places) e =
-          let fit = sym (ap (are_fitting task.parents (map (term_types task params) pattern.terms)) e) ∙ h in
-          let parts = both_hold (nat_eq (length (map (term_types task params) pattern.terms)) (length places)) (list_all (λ p. is_fitting task.parents p.0 p.1) (zip (map (term_types task params) pattern.terms) places)) fit in
-          terms_within pattern.terms places (eqb-true (length (map (term_types task params) pattern.terms)) (length places) parts.0) parts.1
+          let fit = sym (ap (are_fitting task.parents (map (term_types task.objects params) pattern.terms)) e) ∙ h in
+          let parts = both_hold (nat_eq (length (map (term_types task.objects params) pattern.terms)) (length places)) (list_all (λ p. is_fitting task.parents p.0 p.1) (zip (map (term_types task.objects params) pattern.terms) places)) fit in
+          terms_within pattern.terms places (eqb-true (length (map (term_types task.objects params) pattern.terms)) (length places) parts.0) parts.1
 
   -- a side of an equality that is known is one of the action's parameters or an object
   side_within : (term : Term) → is_known task params term ≡ true → IsTermWithin (length params) term

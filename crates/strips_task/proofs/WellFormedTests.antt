@@ -5,7 +5,6 @@ use Rattle.std.specs.List.{list_all, zip}
 use Rattle.std.specs.Option.{option_map}
 use Rattle.std.specs.Map.{values_of}
 use Rattle.strips_task.specs.declared.actions.Term.TheVariants.{Param, Object}
-use Rattle.strips_task.specs.declared.tasks.TaskParts.{TaskParts}
 use Rattle.strips_task.specs.Types.{fits}
 use Rattle.strips_task.specs.WellFormed.{term_types, is_fitting}
 
@@ -16,27 +15,27 @@ all_zip-map f test [] ys = refl
 all_zip-map f test (x ∷ xs) [] = refl
 all_zip-map f test (x ∷ xs) (y ∷ ys) = ap (λ b. test (f x) y && b) (all_zip-map f test xs ys)
 
-module _ (task : TaskParts) (params : List (List ℕ)) (places : List ℕ) where
+module _ (parents : List ℕ) (objects : List (List ℕ × ℕ)) (params : List (List ℕ)) (places : List ℕ) where
   -- a parameter has the types that it was given
   pub param_fitting : (place : ℕ) (types : List ℕ) → slice_get params place ≡ Some types
-      → is_fitting task.parents (term_types task params (Param place)) places ≡ fits task.parents types places
+      → is_fitting parents (term_types objects params (Param place)) places ≡ fits parents types places
   unfolding term_types is_fitting
-  param_fitting place types e = ap (λ o. is_fitting task.parents o places) e
+  param_fitting place types e = ap (λ o. is_fitting parents o places) e
 
   -- and what is no parameter fits nowhere
-  pub param_unknown : (place : ℕ) → slice_get params place ≡ None → is_fitting task.parents (term_types task params (Param place)) places ≡ false
+  pub param_unknown : (place : ℕ) → slice_get params place ≡ None → is_fitting parents (term_types objects params (Param place)) places ≡ false
   unfolding term_types is_fitting
-  param_unknown place e = ap (λ o. is_fitting task.parents o places) e
+  param_unknown place e = ap (λ o. is_fitting parents o places) e
 
   -- an object has its one type
-  pub object_fitting : (object type : ℕ) → slice_get (values_of task.objects) object ≡ Some type
-      → is_fitting task.parents (term_types task params (Object object)) places ≡ fits task.parents (type ∷ []) places
+  pub object_fitting : (object type : ℕ) → slice_get (values_of objects) object ≡ Some type
+      → is_fitting parents (term_types objects params (Object object)) places ≡ fits parents (type ∷ []) places
   unfolding term_types is_fitting
   object_fitting object type e =
-      ap (λ o. is_fitting task.parents (option_map (λ t. t ∷ []) o) places) e
+      ap (λ o. is_fitting parents (option_map (λ t. t ∷ []) o) places) e
 
   -- and what is no object fits nowhere
-  pub object_unknown : (object : ℕ) → slice_get (values_of task.objects) object ≡ None
-      → is_fitting task.parents (term_types task params (Object object)) places ≡ false
+  pub object_unknown : (object : ℕ) → slice_get (values_of objects) object ≡ None
+      → is_fitting parents (term_types objects params (Object object)) places ≡ false
   unfolding term_types is_fitting
-  object_unknown object e = ap (λ o. is_fitting task.parents (option_map (λ t. t ∷ []) o) places) e
+  object_unknown object e = ap (λ o. is_fitting parents (option_map (λ t. t ∷ []) o) places) e

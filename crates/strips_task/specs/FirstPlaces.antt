@@ -1,4 +1,4 @@
--- The items of a list, each at its first place only.
+-- The items of a list, each only where it first occurs.
 
 use Rattle.std.specs.Prelude.{Bool, not, List, [], ◌∷◌, filter}
 

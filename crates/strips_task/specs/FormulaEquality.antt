@@ -25,12 +25,12 @@ abbrev is_equality : GroundFormula → Bool
 is_equality (formula.Atom atom) = false
 is_equality (formula.Equal left right) = true
 
--- the atom of a formula, or another where it is none
+-- the atom of a formula, or another atom if the formula is none
 abbrev atom_in : Atom → GroundFormula → Atom
 atom_in other (formula.Atom atom) = atom
 atom_in other (formula.Equal left right) = other
 
--- the sides of a formula, or 0 where it is no equality
+-- the left side of an equality, or 0 for another formula
 abbrev left_in : GroundFormula → ℕ
 left_in (formula.Atom atom) = 0
 left_in (formula.Equal left right) = left

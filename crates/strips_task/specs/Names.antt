@@ -1,4 +1,4 @@
--- Tables of names: entries are numbered in the order in which they came, from 0.
+-- Tables of names: entries are numbered in the order in which they were added, from 0.
 
 use Rattle.std.specs.Prelude.{ℕ, Bool, true, not, ◌&&◌, List, [], ◌∷◌, Option}
 use Rattle.std.specs.List.{list_any, position_from}
@@ -9,7 +9,7 @@ use Rattle.std.specs.Str.{bytes_eq}
 unfoldable pub number_named : {V : Type 0} → List (List ℕ × V) → List ℕ → Option ℕ
 number_named entries word = position_from (bytes_eq word) 0 (keys_of entries)
 
--- whether no name stands twice
+-- whether no name occurs twice
 unfoldable pub are_distinct : List (List ℕ) → Bool
 are_distinct [] = true
 are_distinct (name ∷ names) = not (list_any (bytes_eq name) names) && are_distinct names

@@ -9,7 +9,7 @@ pub record OpenPlan : Type 0 where
   pub steps : List StepText
   pub words : List (List ℕ)
 
--- the new list is the old one with some words behind it
+-- the new list is the old one followed by some words
 pub record IsExtension (old new : List (List ℕ)) : Type 0 where
   pub more : List (List ℕ)
   pub extends : new ≡ old ++ more

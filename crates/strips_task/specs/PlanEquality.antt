@@ -27,6 +27,6 @@ plan_same (Steps xs) (Unreadable n) h = absurd (true≢false (sym h))
 plan_same (Unreadable m) (Steps ys) h = absurd (true≢false (sym h))
 plan_same (Unreadable m) (Unreadable n) h = ap Unreadable ((unsigned_Decides m n).0 h)
 
--- plans compare alike both ways round, along a chain, and each with itself
+-- the test of two plans is reflexive, symmetric and transitive
 pub plans_equivalence : IsEquivalence plan_eq
 plans_equivalence = record { refl = itself; symm = symmetric; congr = λ a b z h. ap (λ p. plan_eq p z) (plan_same a b h) }

@@ -9,7 +9,7 @@ use Rattle.std.specs.Str.{bytes_eq}
 use Rattle.strips_task.specs.declared.steps.StepText.{StepText}
 use Rattle.strips_task.specs.Steps.{step_eq}
 
--- steps compare alike both ways round, along a chain, and each with itself
+-- the test of two steps is reflexive, symmetric and transitive
 pub step_equivalence : IsEquivalence step_eq
 step_equivalence = and_equiv (on_equiv (λ s. s.action) nat_list_eq_equiv) (on_equiv (λ s. s.args) (lists_equiv nat_list_eq_equiv))
 
@@ -23,6 +23,6 @@ step_decides a b = (
   λ e. ap (λ s. step_eq a s) (sym e) ∙ step_equivalence.refl a,
 )
 
--- plans compare alike both ways round, along a chain, and each with itself
+-- the test of two lists of steps is reflexive, symmetric and transitive
 pub steps_equivalence : IsEquivalence (pointwise step_eq)
 steps_equivalence = lists_equiv step_equivalence

@@ -16,6 +16,6 @@ step_of (word ∷ words) = record { action = word; args = words }
 abbrev pub step_eq : StepText → StepText → Bool
 step_eq = eq_of_both (on (λ s. s.action) bytes_eq) (on (λ s. s.args) (pointwise bytes_eq))
 
--- the step whose words stand in a range
+-- the step whose words are those of a range
 abbrev pub step_at : List (List ℕ) → StepRange → StepText
 step_at words range = step_of (slice_range words range.first range.end)

@@ -50,10 +50,10 @@ are_alternatives parents types = nat_le (length types) most_alternatives && list
 unfoldable pub are_variables : List ℕ → List (List ℕ) → Bool
 are_variables parents variables = nat_le (length variables) most_variables && list_all (are_alternatives parents) variables
 
--- the types of a term, where there is such a parameter or object
-unfoldable pub term_types : TaskParts → List (List ℕ) → Term → Option (List ℕ)
-term_types task params (Param place) = slice_get params place
-term_types task params (Object object) = option_map (λ type. type ∷ []) (slice_get (values_of task.objects) object)
+-- the types of a term, if there is such a parameter or object. Objects come with their types, in the order of their numbers
+unfoldable pub term_types : List (List ℕ × ℕ) → List (List ℕ) → Term → Option (List ℕ)
+term_types objects params (Param number) = slice_get params number
+term_types objects params (Object number) = option_map (λ type. type ∷ []) (slice_get (values_of objects) number)
 
 -- whether a term with these types, if it has any, fits a place for those
 unfoldable pub is_fitting : List ℕ → Option (List ℕ) → List ℕ → Bool
@@ -69,7 +69,7 @@ are_fitting parents terms (Some places) =
 -- whether a pattern has a declared predicate, and terms that fit its places
 unfoldable pub is_pattern : TaskParts → List (List ℕ) → Pattern → Bool
 is_pattern task params pattern =
-    are_fitting task.parents (map (term_types task params) pattern.terms) (slice_get (values_of task.preds) pattern.pred)
+    are_fitting task.parents (map (term_types task.objects params) pattern.terms) (slice_get (values_of task.preds) pattern.pred)
 
 -- whether a number is that of an object
 unfoldable pub is_object : TaskParts → ℕ → Bool
@@ -88,7 +88,7 @@ is_formula task params (formula.Equal left right) = is_known task params left &&
 -- whether an atom has a declared predicate, and objects that fit its places
 unfoldable pub is_atom : TaskParts → Atom → Bool
 is_atom task atom =
-    are_fitting task.parents (map (λ object. term_types task [] (Object object)) atom.args) (slice_get (values_of task.preds) atom.pred)
+    are_fitting task.parents (map (λ object. term_types task.objects [] (Object object)) atom.args) (slice_get (values_of task.preds) atom.pred)
 
 -- whether a ground formula is an atom of the task, or an equality of two of its objects, of whatever types
 unfoldable pub is_ground_formula : TaskParts → GroundFormula → Bool

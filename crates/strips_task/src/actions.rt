@@ -5,16 +5,16 @@
 
 use crate::{Seq, ShortSeq};
 
-/// What stands at an argument's place inside an action.
+/// An argument of an atom inside an action.
 #[derive(Clone, Copy, Debug, PartialEq, Eq)]
 pub enum Term {
-    /// A parameter of the action, by its place, counted from 0.
+    /// A parameter of the action, by its index, counted from 0.
     Param(u16),
     /// An object, by its number in the task.
     Object(u16),
 }
 
-// The first parameter: what fills the places of a short list that hold no term yet.
+// The first parameter: it fills the part of a short list that holds no terms yet.
 impl Default for Term {
     fn default() -> Term {
         Term::Param(0)
@@ -39,27 +39,27 @@ pub enum Formula {
     Equal(Term, Term),
 }
 
-/// A formula that has to be true (`positive`) or false before the action.
+/// A formula that must be true (`positive`) or false before the action.
 #[derive(Debug, Drop)]
 pub struct Cond {
-    /// Whether the formula has to be true.
+    /// Whether the formula must be true.
     pub positive: bool,
-    /// The formula that is asked for.
+    /// The formula.
     pub formula: Formula,
 }
 
-/// The types of which an argument may be: those that stand in `(either ..)`, or the one.
+/// The types that an argument may have: those in `(either ..)`, or a single one.
 pub type Alternatives = Seq<u16>;
 
 /// An action without its name (PDDL 2.1, Fox and Long 2003, level 1).
 #[derive(Debug, Drop)]
 pub struct Action {
-    /// For each parameter the types of which its object may be.
+    /// For each parameter, the types that its object may have.
     pub params: Seq<Alternatives>,
-    /// The precondition: all of these have to hold.
+    /// The precondition: all of these must hold.
     pub pre: Seq<Cond>,
     /// The atoms that are true afterwards.
     pub add: Seq<Pattern>,
-    /// The atoms that are false afterwards, but for those that are also added.
+    /// The atoms that are false afterwards, except those that are also added.
     pub del: Seq<Pattern>,
 }

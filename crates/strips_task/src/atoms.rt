@@ -25,7 +25,7 @@ pub struct Atom {
 impl Atom {
     ghost use Rattle.std.specs.Prelude.{IfOk};
 
-    /// An atom of its own with the same predicate and arguments. Takes memory where there are more arguments than an atom holds in place.
+    /// Another atom with the same predicate and arguments. Takes memory only if there are more arguments than fit in the value itself.
     pub fn copy(&self, alloc: Global) -> Result<Atom, AllocError>
         ensures { IfOk result (λ copy. copy ≡ self.now) }
     {
@@ -48,12 +48,12 @@ pub enum GroundFormula {
     Equal(u16, u16),
 }
 
-/// A ground formula that has to be true (`positive`) or false.
+/// A ground formula that must be true (`positive`) or false.
 #[derive(Debug, Drop)]
 pub struct GroundCond {
-    /// Whether the formula has to be true.
+    /// Whether the formula must be true.
     pub positive: bool,
-    /// The formula that is asked for.
+    /// The formula.
     pub formula: GroundFormula,
 }
 

@@ -1,6 +1,6 @@
-//! When two plans are the same: by their content, whatever stands behind the words of a list of steps.
+//! When two plans are the same: by their content, whatever follows the words of the last step in a list.
 //!
-//! Case is folded before a word comes into a step, so words are compared byte by byte.
+//! Steps hold words in lower case, so words are compared byte by byte.
 ghost use Rattle.std.specs.Prelude.{◌≡◌};
 ghost use Rattle.std.specs.Cmp.{partial_equiv_from_equiv};
 ghost use Rattle.std.specs.Cmp.Lexicographic.{pointwise};

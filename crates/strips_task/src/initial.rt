@@ -30,7 +30,7 @@ impl Model for InitialAtoms {
 
     ghost view = { λ s. filter_map (slice_get s.distinct.keys) s.numbers.items };
 
-    // Each number is that of an atom, and the distinct atoms stand in the order in which they came first.
+    // Each number is that of an atom, and the distinct atoms are in the order in which they first occur.
     ghost invariant = { λ s. (All (λ n. n < length s.distinct.keys) s.numbers.items)
         × (s.distinct.keys ≡ first_places atom_eq (filter_map (slice_get s.distinct.keys) s.numbers.items)) };
 }
@@ -46,7 +46,7 @@ impl InitialAtoms {
         }
     }
 
-    /// Makes room for so many more atoms where there is memory for them, so that the table does not have to grow while they come. The list stays as it is.
+    /// Makes room for `count` more atoms if there is memory for it, so that the table need not grow while they are pushed. The list does not change.
     pub fn expect(&mut self, count: usize)
         ensures { self.new ≡ self.old }
     {
@@ -54,7 +54,7 @@ impl InitialAtoms {
         let _ = self.distinct.reserve(count);
     }
 
-    /// Adds an atom at the end, with one hash. Where memory runs out the atom comes back.
+    /// Adds an atom at the end, with one hash. If memory runs out, the atom is given back.
     pub fn push(&mut self, atom: Atom) -> Result<(), AllocFailed<Atom>>
         ensures ok { OnOk result (self.new ≡ self.old ++ atom ∷ []) }
         ensures err { OnErr result (self.new ≡ self.old) }
@@ -73,14 +73,14 @@ impl InitialAtoms {
         *self.distinct.hasher()
     }
 
-    /// How many atoms the list holds, repeats counted.
+    /// How many atoms the list holds, including repeats.
     pub fn len(&self) -> usize
         ensures { result ≡ length self.now }
     {
         self.numbers.len()
     }
 
-    /// The atom at a place of the text's order, counted from 0.
+    /// The atom with an index in the order of the text, counted from 0.
     pub fn get(&self, place: usize) -> &Atom
         requires { place < length self.now }
         ensures { slice_get self.now place ≡ Some result.now }
@@ -95,8 +95,8 @@ impl InitialAtoms {
         self.distinct.len()
     }
 
-    /// How many of these atoms the list holds. They are looked for one directly behind the other, so that the processor waits for several places of
-    /// the table at a time. What is pushed right afterwards finds its place at hand.
+    /// How many of these atoms the list holds. They are looked up directly one after the other, so that the processor waits for several reads of the
+    /// table at the same time. Atoms that are pushed right afterwards find their part of the table in the cache.
     pub fn known(&self, atoms: &[Atom]) -> usize
         ensures count { result ≡ count_by (λ atom. is_some (position_from (atom_eq atom) 0 (first_places atom_eq self.now))) atoms.now }
         ensures within { result ≤ length atoms.now }
@@ -107,7 +107,7 @@ impl InitialAtoms {
             .count()
     }
 
-    /// The number of an atom among the distinct ones, in the order of their first places, with one hash and no memory.
+    /// The number of an atom among the distinct ones, in the order in which they first occur. Takes one hash and no memory.
     pub fn number_of(&self, atom: &Atom) -> Option<usize>
         ensures number { result ≡ position_from (atom_eq atom.now) 0 (first_places atom_eq self.now) }
         ensures within { IfSome result (λ number. number < length (first_places atom_eq self.now)) }

@@ -1,9 +1,19 @@
 //! Planning tasks and plans, as the readers of texts make them and the judge takes them.
 //!
+//! ```text
+//! let task = Task::make(parts);                     // parts: a well-formed TaskParts
+//! task.action_named(b"stack")                       // Some(number), or None if no action has this name
+//! let mut steps = OpenSteps::new(alloc);
+//! steps.push_word(b"Stack")?;                       // the words of a step one by one, kept in lower case
+//! steps.push_word(b"b")?;
+//! steps.close_step()?;
+//! let plan = Plan::Steps(steps.finish());           // the plan whose only step is (stack b)
+//! ```
+//!
 //! A reader fills a [`TaskParts`]: tables of named things ([`NameTable`]), the order of types ([`TypeList`]), actions, initial atoms
-//! ([`InitialAtoms`]) and the goal. [`Task::make`] turns well-formed parts into a [`Task`], whose type keeps that they are, so that nothing
-//! that takes a task has to test it again. A [`Plan`] holds its steps as folded text ([`StepList`]); names in it are looked up when it is
-//! judged, since a plan may name what no task has.
+//! ([`InitialAtoms`]) and the goal. [`Task::make`] turns well-formed parts into a [`Task`]. Every [`Task`] is well formed, by its type, so no
+//! function that takes one has to test it again. A [`Plan`] holds its steps as text in lower case ([`StepList`]). The names in it are looked up
+//! when it is judged, since a plan may use names that the task doesn't have.
 #![tactic(auto)]
 
 mod actions;
@@ -29,7 +39,7 @@ mod words;
 pub use actions::{Action, Alternatives, Cond, Formula, Pattern, Term};
 pub use atoms::{Atom, AtomList, CondList, GroundCond, GroundFormula};
 pub use initial::InitialAtoms;
-pub use names::{Name, Word};
+pub use names::{Name, NameKey};
 pub use plans::Plan;
 pub use seed::Seed;
 pub use seq::Seq;
@@ -39,4 +49,8 @@ pub use steps::{MOST_STEPS, OpenSteps, StepList, StepRange, StepText};
 pub use table::NameTable;
 pub use tasks::{Task, TaskParts};
 pub use types::TypeList;
+pub use well_formed::{
+    MOST_ACTIONS, MOST_ALTERNATIVES, MOST_OBJECTS, MOST_PREDICATES, MOST_TYPES, MOST_VARIABLES,
+    object_fits, term_fits,
+};
 pub use words::WordList;

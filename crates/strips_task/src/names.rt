@@ -1,7 +1,7 @@
 //! Names of types, objects, predicates and actions.
 //!
-//! A name is stored in lower case, since case is not significant in PDDL. Names of up to 22 bytes stand in the value itself and
-//! take no memory of their own. Tables of names are asked by a borrowed [`Word`], which takes none either.
+//! A name is stored in lower case, since case is not significant in PDDL. Names of up to 22 bytes are kept in the value itself
+//! and take no memory of their own. Names are looked up in tables by a borrowed [`NameKey`], which takes none either.
 ghost use Rattle.std.specs.Prelude.{◌≡◌, List, ℕ, nat_eq, length, IsTrue, IfOk, ◌∷◌, []};
 ghost use Rattle.std.specs.Str.{bytes_eq};
 ghost use Rattle.std.specs.Hash as fed;
@@ -16,7 +16,7 @@ use std::alloc::{AllocError, Global};
 use std::hash::{Hash, Hasher};
 use std::marker::Model;
 
-/// How many bytes of a name stand in the value itself.
+/// How many bytes of a name fit in the value itself.
 const INLINE: usize = 22;
 
 /// A name in lower case, seen by contracts as the list of its bytes.
@@ -73,7 +73,7 @@ impl Eq for Name {
     ghost laws = { Prim.search (comparing, rules) };
 }
 
-// One write of all bytes, so that a name and the word that asks for it hash alike and at the speed of whole words.
+// One write of all bytes, so that a name and the word that it is looked up by have the same hash, at the speed of whole words.
 impl Hash for Name {
     ghost hash_input = { λ n. n ∷ [] };
 
@@ -84,28 +84,28 @@ impl Hash for Name {
     }
 }
 
-/// A borrowed word in lower case, by which a table of names is asked. Making one takes no memory.
+/// A borrowed word in lower case, to look up a name in a table. Making one takes no memory.
 #[derive(Clone, Copy, Debug)]
-pub struct Word<'a> {
-    /// The bytes of the word. A name is asked for by the bytes as they are.
+pub struct NameKey<'a> {
+    /// The bytes of the word. They are compared as they are.
     pub bytes: &'a [u8],
 }
 
-impl PartialEq for Word<'_> {
+impl PartialEq for NameKey<'_> {
     ghost eq = { λ a b. bytes_eq a.bytes.now b.bytes.now };
 
     ghost laws = { Prim.search (comparing, rules) };
 
-    fn eq(&self, other: &Word<'_>) -> bool {
+    fn eq(&self, other: &NameKey<'_>) -> bool {
         self.bytes == other.bytes
     }
 }
 
-impl Eq for Word<'_> {
+impl Eq for NameKey<'_> {
     ghost laws = { Prim.search (comparing, rules) };
 }
 
-impl Hash for Word<'_> {
+impl Hash for NameKey<'_> {
     ghost hash_input = { λ w. w.bytes.now ∷ [] };
 
     ghost respects_eq = { Prim.search (hashing, rules) };
@@ -116,7 +116,7 @@ impl Hash for Word<'_> {
 }
 
 // A word stands for the name with the same bytes, and hashes as that name does: one write of all bytes.
-impl Equivalent<Name> for Word<'_> {
+impl Equivalent<Name> for NameKey<'_> {
     ghost equivalent = { λ w n. bytes_eq w.bytes.now n };
 
     ghost respects_hash = { λ w n h. ap (λ bytes. bytes ∷ []) ((bytes_decides w.bytes.now n).0 h) };

@@ -1,7 +1,8 @@
-//! Places in a list or a text, in half the memory as long as they are near.
+//! Places: indexes in a list or offsets in a text, in half the memory as long as they are small.
 //!
-//! The ends of words are a large part of a plan's memory, and hardly ever is one of them 2^32 or more. So places take four bytes each while all of
-//! them are less than that, and eight from then on. The first few take no memory of their own, since a file may hold many plans of a step or two.
+//! The ends of words are a large part of a plan's memory, and hardly ever is one of them 2^32 or more. So places take four bytes each as long as
+//! all of them are less than that, and eight bytes otherwise. The first few take no memory of their own, since a file may hold many plans of a step
+//! or two.
 ghost use Rattle.std.specs.Prelude.{◌≡◌, ◌<◌, ℕ, List, [], ◌∷◌, ◌++◌, length, slice_get, OnOk, OnErr, IfOk, Some};
 
 use smallvec::SmallVec;
@@ -43,7 +44,7 @@ impl Places {
         }
     }
 
-    /// Removes all places. Keeps the room for those to come, of the size that they had.
+    /// Removes all places. Keeps the room, in four or eight bytes for each as before.
     #[tactic(auto, unfolding(crate::specs::Places::places_kept))]
     pub(crate) fn clear(&mut self)
         ensures { self.new ≡ [] }
@@ -54,7 +55,7 @@ impl Places {
         }
     }
 
-    /// Adds a place at the end. Where memory runs out the list stays as it was.
+    /// Adds a place at the end. If memory runs out, the list does not change.
     #[tactic(auto, unfolding(crate::specs::Places::places_kept))]
     pub(crate) fn push(&mut self, place: usize) -> Result<(), AllocError>
         ensures ok { OnOk result (self.new ≡ self.old ++ place ∷ []) }
@@ -83,7 +84,7 @@ impl Places {
         }
     }
 
-    /// The place with a number, counted from 0.
+    /// The place with an index, counted from 0.
     #[tactic(auto, unfolding(crate::specs::Places::places_kept))]
     pub(crate) fn get(&self, number: usize) -> usize
         requires { number < length self.now }
@@ -96,7 +97,7 @@ impl Places {
     }
 }
 
-/// Near places and one more.
+/// A list of these near places and one more.
 fn far_with(alloc: Global, near: &[u32], place: usize) -> Result<Vec<usize>, AllocError>
     ensures { IfOk result (λ far. far.items ≡ near.now ++ place ∷ []) }
 {

@@ -44,7 +44,7 @@ impl StepRanges {
         }
     }
 
-    /// Removes all ranges. Keeps the room for those to come, of the size that they had.
+    /// Removes all ranges. Keeps the room, in the form that it had.
     #[tactic(auto, unfolding(crate::specs::Ranges::ranges_kept), using(crate::proofs::JoinedRanges::joined_none))]
     pub(crate) fn clear(&mut self)
         ensures { self.new ≡ [] }
@@ -55,7 +55,7 @@ impl StepRanges {
         }
     }
 
-    /// Adds a range at the end. Where memory runs out the list stays as it was.
+    /// Adds a range at the end. If memory runs out, the list does not change.
     #[tactic(auto, unfolding(crate::specs::Ranges::ranges_kept), using(crate::proofs::JoinedRanges::joined_push))]
     pub(crate) fn push(&mut self, range: StepRange) -> Result<(), AllocError>
         ensures ok { OnOk result (self.new ≡ self.old ++ range ∷ []) }
@@ -84,7 +84,7 @@ impl StepRanges {
         }
     }
 
-    /// The range with a number, counted from 0.
+    /// The range with an index, counted from 0.
     #[tactic(auto, unfolding(crate::specs::Ranges::ranges_kept), using(crate::proofs::JoinedRanges::length_joined, crate::proofs::JoinedRanges::joined_at))]
     pub(crate) fn get(&self, number: usize) -> StepRange
         requires { number < length self.now }
@@ -97,7 +97,7 @@ impl StepRanges {
     }
 }
 
-/// Where a range with a number starts: at the end of the one before it.
+/// Where the range with an index starts: at the end of the one before it.
 fn start_of(ends: &[u32], number: usize) -> usize
     requires { number ≤ length ends.now }
     ensures { result ≡ slice_index (0 ∷ ends.now) number }
@@ -121,7 +121,7 @@ fn joined_range(ends: &[u32], number: usize) -> StepRange
     }
 }
 
-/// The end of a range that starts where the last one ends, where it fits.
+/// The end of a range, if the range starts where the last one ends and its end is small enough.
 fn joined_end(ends: &[u32], range: StepRange) -> Option<u32>
     ensures { IfSome result (λ end. record { first = slice_index (0 ∷ ends.now) (length ends.now); end = end } ≡ range) }
 {

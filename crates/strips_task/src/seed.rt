@@ -1,8 +1,8 @@
 //! The seed of a run's hash tables.
 //!
-//! Whoever writes a plan picks the atoms that the judge has to find, and whoever writes a problem picks its names. Were the hash the same in
-//! every run, they could pick thousands of keys with one hash, and each look-up would walk past all of them. So each hash begins with a
-//! secret number that is drawn anew for each run, and each part of a key passes through it. No answer depends on the seed.
+//! The author of a plan picks the atoms that the judge must find, and the author of a problem picks its names. If the hash were the same in
+//! every run, they could pick thousands of keys with the same hash, and each look-up would walk past all of them. So each hash begins with a
+//! secret number that is drawn anew for each run, and each part of a key is mixed with it. No answer depends on the seed.
 
 use std::hash::{BuildHasher, FoldHasher, Hasher, RandomState};
 
@@ -13,14 +13,14 @@ pub struct Seed {
 }
 
 impl Seed {
-    /// The seed that is the same in every run: for keys that nobody picked to do harm, and where the system has no random bytes.
+    /// The seed that is the same in every run: for keys that nobody picked to do harm, and for systems without random bytes.
     pub fn fixed() -> Self {
         Seed {
             begun: FoldHasher::default(),
         }
     }
 
-    /// A seed that only this run knows, where the keys are random.
+    /// A seed that only this run knows, if the keys are random.
     pub fn new(keys: &RandomState) -> Self {
         let mut begun = FoldHasher::default();
         begun.write_u64(keys.hash_one(0u64));

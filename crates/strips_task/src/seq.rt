@@ -1,7 +1,7 @@
 //! A list that contracts see as a list.
 //!
-//! What a task and a verdict hold in numbers, such as atoms, parameters and effects, stands in a `Seq`. A reader pushes items
-//! to its end, and everyone later reads them by place or as a slice.
+//! The lists of a task and a verdict, such as atoms, parameters and effects, are kept in a `Seq`. A reader pushes items to its end, and
+//! later they are read by index or as a slice.
 ghost use Rattle.std.specs.Prelude.{◌≡◌, ◌+◌, ◌<◌, ◌↔◌, List, [], ◌∷◌, ◌++◌, length, slice_get, IsTrue, OnOk, OnErr, IfErr, Some};
 
 use std::alloc::{AllocFailed, Global};
@@ -44,7 +44,7 @@ impl<T> Seq<T> {
         items
     }
 
-    /// Adds an item at the end, in constant time on average. Where memory runs out the item comes back.
+    /// Adds an item at the end, in constant time on average. If memory runs out, the item is given back.
     pub fn push(&mut self, item: T) -> Result<(), AllocFailed<T>>
         ensures ok { OnOk result (self.new ≡ self.old ++ item ∷ []) }
         ensures err { OnErr result (self.new ≡ self.old) }
@@ -67,7 +67,7 @@ impl<T> Seq<T> {
         self.items.is_empty()
     }
 
-    /// The item at a place, counted from 0.
+    /// The item with an index, counted from 0.
     pub fn get(&self, place: usize) -> &T
         requires { place < length self.now }
         ensures { slice_get self.now place ≡ Some result.now }

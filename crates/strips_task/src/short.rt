@@ -1,6 +1,6 @@
 //! A list of a few numbers or terms, which takes no memory of its own while it is short.
 //!
-//! Arguments of atoms stand in such lists: nearly all atoms of planning problems have at most four.
+//! Arguments of atoms are kept in such lists: nearly all atoms of planning problems have at most four.
 ghost use Rattle.std.specs.Prelude.{◌≡◌, ◌+◌, ◌<◌, ◌↔◌, List, [], ◌∷◌, ◌++◌, length, slice_get, IsTrue, OnOk, OnErr, IfErr, IfOk, Some};
 
 use smallvec::SmallVec;
@@ -10,7 +10,7 @@ use std::marker::Model;
 /// How many items a `ShortSeq` holds in the value itself.
 const INLINE: usize = 4;
 
-/// A list of items in the order in which they were pushed. Up to four stand in the value itself, and more are allocated.
+/// A list of items in the order in which they were pushed. Up to four are kept in the value itself; more are allocated.
 #[derive(Debug, Drop)]
 pub struct ShortSeq<T> {
     items: SmallVec<T, INLINE>,
@@ -32,7 +32,7 @@ impl<T: Default + Drop> ShortSeq<T> {
         }
     }
 
-    /// Adds an item at the end. Where memory runs out the item comes back; up to four items need none.
+    /// Adds an item at the end. If memory runs out, the item is given back; up to four items need no memory.
     pub fn push(&mut self, item: T) -> Result<(), AllocFailed<T>>
         ensures ok { OnOk result (self.new ≡ self.old ++ item ∷ []) }
         ensures err { OnErr result (self.new ≡ self.old) }
@@ -64,7 +64,7 @@ impl<T> ShortSeq<T> {
         self.items.is_empty()
     }
 
-    /// The item at a place, counted from 0.
+    /// The item with an index, counted from 0.
     pub fn get(&self, place: usize) -> &T
         requires { place < length self.now }
         ensures { slice_get self.now place ≡ Some result.now }

@@ -1,9 +1,9 @@
-//! A look at one step of a plan, which copies nothing.
+//! A view of one step of a plan, which copies nothing.
 ghost use Rattle.std.specs.Prelude.{◌≡◌, ◌<◌, ◌≤◌, length, slice_get, slice_range, Some};
 
 use crate::WordList;
 
-/// A look at one step of a plan, which copies nothing.
+/// A view of one step of a plan, which copies nothing.
 #[derive(Clone, Copy, Debug)]
 pub struct StepView<'a> {
     words: &'a WordList,
@@ -17,7 +17,7 @@ impl<'a> StepView<'a> {
     ghost use Rattle.strips_task.specs.StepView.{step_shown};
     ghost use Rattle.strips_task.specs.Steps.{step_of};
 
-    /// A look at the words from one place up to another, of which there is at least one.
+    /// A view of the words from the index `first` up to but not including `end`, at least one.
     pub(crate) fn new(words: &'a WordList, first: usize, end: usize) -> Self
         requires not_empty { first < end }
         requires within { end ≤ length words.now }
@@ -40,7 +40,7 @@ impl<'a> StepView<'a> {
         self.end - self.first - 1
     }
 
-    /// The name of an argument, counted from 0, in lower case.
+    /// The name of the argument with an index, counted from 0, in lower case.
     pub fn arg(&self, place: usize) -> &'a [u8]
         requires { place < length (step_shown self.now).args }
         ensures { slice_get (step_shown self.now).args place ≡ Some result.now }

@@ -1,7 +1,7 @@
 //! The steps of a plan, as folded text.
 //!
-//! A reader hands the words of a step to an [`OpenSteps`] one by one, and closes the step; a judge later looks at each step of the
-//! [`StepList`] through a [`StepView`]. No step is kept by itself: all words stand in one [`WordList`], and a step is a range of them.
+//! A reader hands the words of a step to an [`OpenSteps`] one by one, and closes the step. A judge later gets a [`StepView`] of each step of the
+//! [`StepList`]. No step is kept by itself: all words are in one [`WordList`], and a step is a range of them.
 ghost use Rattle.strips_task.specs.declared.steps.TheConstants.{MOST_STEPS};
 ghost use Rattle.std.specs.Prelude.{◌≡◌, ◌+◌, ◌<◌, ◌≤◌, ◌↔◌, ℕ, List, [], ◌∷◌, ◌++◌, length, slice_get, IsTrue, OnOk, OnErr, IfErr, Some};
 ghost use Rattle.pddl_words.specs.Words.{folded};
@@ -26,7 +26,7 @@ pub struct StepText {
     pub args: Seq<Name>,
 }
 
-/// Where the words of a step stand: from `first` up to and without `end`.
+/// Where the words of a step are: from the index `first` up to but not including `end`.
 #[derive(Clone, Copy, Debug, PartialEq, Eq)]
 pub struct StepRange {
     pub first: usize,
@@ -65,7 +65,7 @@ impl StepList {
         }
     }
 
-    /// Adds a step at the end. Where memory runs out the step comes back.
+    /// Adds a step at the end. If memory runs out, the step is given back.
     pub fn push(&mut self, step: StepText) -> Result<(), AllocFailed<StepText>>
         requires { length self.old < MOST_STEPS }
         ensures ok { OnOk result (self.new ≡ self.old ++ step ∷ []) }
@@ -78,7 +78,7 @@ impl StepList {
         }
     }
 
-    /// Adds the words of a step and their range. Where memory runs out some words may stand behind those of all steps.
+    /// Adds the words of a step and their range. If memory runs out, some words may be left after those of all steps.
     fn append(&mut self, step: &StepText) -> Result<(), AllocError>
         requires { length self.old < MOST_STEPS }
         ensures ok { OnOk result (self.new ≡ self.old ++ step.now ∷ []) }
@@ -106,7 +106,7 @@ impl StepList {
         self.ranges.len() == 0
     }
 
-    /// A look at the step at a place, counted from 0.
+    /// A view of the step with an index, counted from 0.
     pub fn get(&self, place: usize) -> StepView<'_>
         requires { place < length self.now }
         ensures { slice_get self.now place ≡ Some (step_shown result) }
@@ -116,7 +116,7 @@ impl StepList {
     }
 }
 
-/// Adds a step's words behind those that are there. Where memory runs out only some of them stand there.
+/// Adds a step's words after those that are there. If memory runs out, only some of them are added.
 fn push_words(words: &mut WordList, step: &StepText) -> Result<(), AllocError>
     ensures ok { OnOk result (words.new ≡ words.old ++ step.now.action ∷ step.now.args) }
     ensures kept { IsExtension words.old words.new }
@@ -162,7 +162,7 @@ impl OpenSteps {
         }
     }
 
-    /// Removes all steps and all words of the open one. Keeps the room, so that a row of steps that are read one by one takes memory once.
+    /// Removes all steps and all words of the open one. Keeps the room, so that reading many steps one by one takes memory once.
     pub fn clear(&mut self)
         ensures { self.new ≡ record { steps = []; words = [] } }
     {
@@ -171,7 +171,7 @@ impl OpenSteps {
         self.first = 0;
     }
 
-    /// Adds a word to the open step, in lower case. Where memory runs out nothing changes.
+    /// Adds a word to the open step, in lower case. If memory runs out, nothing changes.
     pub fn push_word(&mut self, word: &[u8]) -> Result<(), AllocError>
         ensures ok { OnOk result (self.new ≡ record { steps = self.old.steps; words = self.old.words ++ folded word.now ∷ [] }) }
         ensures err { OnErr result (self.new ≡ self.old) }
@@ -180,7 +180,7 @@ impl OpenSteps {
         Ok(())
     }
 
-    /// Completes the open step. Where memory runs out nothing changes.
+    /// Completes the open step. If memory runs out, nothing changes.
     pub fn close_step(&mut self) -> Result<(), AllocError>
         requires has_action { 0 < length self.old.words }
         requires room { length self.old.steps < MOST_STEPS }
@@ -204,7 +204,7 @@ impl OpenSteps {
         self.ranges.len()
     }
 
-    /// A look at the complete step at a place, counted from 0.
+    /// A view of the complete step with an index, counted from 0.
     pub fn get(&self, place: usize) -> StepView<'_>
         requires { place < length self.now.steps }
         ensures { slice_get self.now.steps place ≡ Some (step_shown result) }

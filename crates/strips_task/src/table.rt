@@ -1,14 +1,14 @@
 //! Tables of things that have names: objects, predicates and actions.
 //!
-//! An entry is numbered by its place, and found by its number or by the bytes of its name. A look-up hashes the bytes once and takes
-//! no memory.
+//! The number of an entry is its index in the table. An entry is found by its number or by the bytes of its name. A look-up hashes the bytes once
+//! and takes no memory.
 ghost use Rattle.std.specs.Prelude.{◌≡◌, ◌+◌, ◌<◌, ℕ, List, [], ◌∷◌, ◌++◌, length, slice_get, IsTrue, IfSome, OnOk, OnErr, IfErr, Some, None};
 ghost use Rattle.std.specs.Map.{keys_of, values_of};
 ghost use Rattle.std.specs.Map.Iter.{ShowsInOrder, deref};
 ghost use Rattle.std.specs.Option.{option_copied};
 ghost use Rattle.strips_task.specs.Names.{number_named, are_distinct};
 
-use crate::{Name, Seed, Word};
+use crate::{Name, NameKey, Seed};
 use indexmap::IndexMap;
 use indexmap::map::Values;
 use std::alloc::{AllocFailed, Global};
@@ -61,7 +61,7 @@ impl<V> NameTable<V> {
         ensures number { result ≡ number_named self.now word.now }
         ensures within { IfSome result (λ number. number < length self.now) }
     {
-        self.entries.get_index_of(Word { bytes: word })
+        self.entries.get_index_of(NameKey { bytes: word })
     }
 
     /// The name and the value of the entry with a number.
@@ -93,7 +93,7 @@ impl<V> NameTable<V> {
 }
 
 impl<V: Drop> NameTable<V> {
-    /// Adds an entry at the end. `number_of` tells whether a name is new. Where memory runs out the name and the value come back.
+    /// Adds an entry at the end. Its name must be new, which `number_of` finds out. If memory runs out, the name and the value are given back.
     pub fn push(&mut self, name: Name, value: V) -> Result<(), AllocFailed<(Name, V)>>
         requires new_name { number_named self.old name ≡ None }
         ensures ok { OnOk result (self.new ≡ self.old ++ (name, value) ∷ []) }

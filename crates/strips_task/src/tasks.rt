@@ -1,6 +1,6 @@
 //! A planning task: what a domain and a problem say together (PDDL 2.1, Fox and Long 2003, level 1).
 //!
-//! A reader fills [`TaskParts`] and makes a [`Task`] of them, whose type keeps that they are well formed; judges then only read it.
+//! A reader fills [`TaskParts`] and makes a [`Task`] of them. The type [`Task`] ensures that they are well formed, and judges only read it.
 ghost use Rattle.std.specs.Prelude.{◌≡◌, ◌<◌, ◌≤◌, ◌^◌, ℕ, ◌↔◌, IsTrue, length, slice_get, slice_index, IfSome, Some};
 ghost use Rattle.strips_task.specs.Names.{number_named};
 ghost use Rattle.strips_task.specs.Types.{IsBelow, is_below};
@@ -12,7 +12,7 @@ ghost use Rattle.std.specs.Option.{option_map};
 use crate::{Action, Alternatives, CondList, InitialAtoms, Name, NameTable, Seq, TypeList};
 use std::marker::Model;
 
-/// The parts of a task. Names are distinct in each table; numbers are places in the tables.
+/// The parts of a task. Names are distinct in each table; numbers are indexes in the tables.
 #[derive(Debug, Drop)]
 pub struct TaskParts {
     /// The name of the domain.
@@ -23,13 +23,13 @@ pub struct TaskParts {
     pub parents: TypeList,
     /// For each object, constants first, its name and the number of its type.
     pub objects: NameTable<u16>,
-    /// For each predicate its name and, for each argument, the types of which it may be.
+    /// For each predicate its name and, for each argument, the types that it may have.
     pub preds: NameTable<Seq<Alternatives>>,
     /// For each action its name and what it asks and does.
     pub actions: NameTable<Action>,
     /// The atoms that are true at the start.
     pub init: InitialAtoms,
-    /// What has to hold at the end.
+    /// What must hold at the end.
     pub goal: CondList,
 }
 
@@ -51,7 +51,7 @@ impl Model for Task {
 }
 
 impl Task {
-    /// The task of well-formed parts. It refuses nothing, takes no memory and copies nothing.
+    /// The task of well-formed parts. It never fails, takes no memory and copies nothing.
     pub fn make(parts: TaskParts) -> Task
         requires { IsWellFormed parts }
         ensures { result ≡ parts }
@@ -80,7 +80,7 @@ impl Task {
         &self.parts.init
     }
 
-    /// What has to hold at the end.
+    /// What must hold at the end.
     pub fn goal(&self) -> &CondList
         ensures { result.now ≡ self.now.goal }
     {
@@ -157,8 +157,8 @@ impl Task {
         }
     }
 
-    /// Whether the first type is below the second: they are the same, or the second stands some parents up
-    /// (PDDL 2.1, Fox and Long 2003, section 2). One look at a table.
+    /// Whether the first type is below the second: they are the same, or the second is the parent of the first, or its parent's parent, and so on
+    /// (PDDL 2.1, Fox and Long 2003, section 2). Takes one read of a table.
     pub fn is_subtype(&self, sub: u16, sup: u16) -> bool
         requires sub_known { sub < length self.now.parents }
         requires sup_known { sup < length self.now.parents }

@@ -1,8 +1,8 @@
 //! The types of a task and their order.
 //!
 //! Types form a tree below `object` (PDDL 2.1, Fox and Long 2003, section 2). A `TypeList` holds for each type the number of its parent.
-//! A reader pushes the parents in the order of the types' numbers, and then indexes the list, so that whether one type is below
-//! another is answered by one look at a table. A list that was not indexed answers the same by a walk.
+//! A reader pushes the parents in the order of the types' numbers, and then indexes the list, so that one read of a table says
+//! whether one type is below another. A list that was not indexed gives the same answer by a walk.
 ghost use Rattle.std.specs.Prelude.{◌≡◌, ◌+◌, ◌*◌, ◌<◌, ◌≤◌, ◌||◌, ◌&&◌, ◌↔◌, ◌≢◌, ℕ, List, [], ◌∷◌, ◌++◌, length, slice_index, All, IsTrue, true, nat_lt, IfOk, OnOk, OnErr, IfErr};
 ghost use Rattle.std.specs.List.{list_any};
 ghost use Rattle.bit_rows.specs.Rows.{row_has};
@@ -51,7 +51,7 @@ impl TypeList {
         }
     }
 
-    /// Adds the parent of the next type. The parent may have a greater number. Where memory runs out the number comes back.
+    /// Adds the parent of the next type. The parent may have a greater number. If memory runs out, the number is given back.
     pub fn push(&mut self, parent: u16) -> Result<(), AllocFailed<u16>>
         ensures ok { OnOk result (self.new ≡ self.old ++ parent ∷ []) }
         ensures err { OnErr result (self.new ≡ self.old) }
@@ -88,9 +88,9 @@ impl TypeList {
         Ok(())
     }
 
-    /// Whether a type is below another: they are the same, or the other stands some parents up. What is no type is taken to stand
-    /// right below `object`. Takes one look at the table once the list is indexed, and otherwise a walk of at most as many steps as there
-    /// are types.
+    /// Whether a type is below another: they are the same, or the other is the parent of the first, or its parent's parent, and so on. A
+    /// number that is no type counts as a type right below `object`. Takes one read of the table once the list is indexed, and otherwise a walk
+    /// of at most as many steps as there are types.
     pub fn is_below(&self, sub: u16, sup: u16) -> bool
         ensures { result ≡ is_below self.now sub sup }
     {
@@ -98,8 +98,9 @@ impl TypeList {
     }
 
     /// Whether each of the first types is below one of the second. One or two types, or any number against a single one, are tested pair by
-    /// pair, and so are all in a list without a table. Otherwise the rows of the second are joined, 17 words each or one word where there are at most 64
-    /// types, and each of the first takes one look. So the time grows with the sum of the two numbers, and not with their product. No memory is taken.
+    /// pair, and so are all types of a list without a table. Otherwise the rows of the second types are joined, 17 words each, or one word if there
+    /// are at most 64 types, and each of the first takes one test. So the time grows with the sum of the two numbers, and not with their product.
+    /// No memory is taken.
     pub fn are_below(&self, subs: &[u16], sups: &[u16]) -> bool
         ensures { result ≡ fits self.now subs.now sups.now }
     {
@@ -174,7 +175,7 @@ fn are_below_joined(
         .all(|sub| is_below_joined(parents, table, joined, *sub, sups))
 }
 
-/// Whether a type is below one of others, whose rows are joined. What is no type has no bit, and is tested pair by pair.
+/// Whether a type is below one of others, whose rows are joined. A number that is no type has no bit, and is tested pair by pair.
 #[inline(always)]
 fn is_below_joined(parents: &[u16], table: &[u64], joined: &[u64], sub: u16, sups: &[u16]) -> bool
     requires { AreJoined parents.now table.now joined.now sups.now }
@@ -305,7 +306,7 @@ fn stands_above(parents: &[u16], sub: usize, sup: usize) -> bool
     at == sup
 }
 
-/// The parent of a type, and `object` for what is no type.
+/// The parent of a type, or `object` for a number that is no type.
 fn parent_of(parents: &[u16], number: usize) -> usize
     ensures { result ≡ slice_index parents.now number }
 {

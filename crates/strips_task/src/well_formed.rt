@@ -10,26 +10,27 @@ ghost use Rattle.strips_task.specs.declared.actions.Term.TheVariants.{Object};
 ghost use Rattle.strips_task.specs.WellFormed.{IsWellFormed, most_types, most_objects, most_predicates, most_actions, are_alternatives, are_variables, term_types, is_fitting, are_fitting, is_pattern, is_object, is_known, is_formula, is_atom, is_ground_formula, is_action};
 
 use crate::{
-    Action, Alternatives, Atom, Cond, Formula, GroundFormula, Pattern, TaskParts, Term, TypeList,
+    Action, Alternatives, Atom, Cond, Formula, GroundFormula, NameTable, Pattern, TaskParts, Term,
+    TypeList,
 };
 
-/// The most types, `object` among them.
-const MOST_TYPES: usize = 1025;
+/// The most types of a task, `object` among them.
+pub const MOST_TYPES: usize = 1025;
 
-/// The most objects.
-const MOST_OBJECTS: usize = 65535;
+/// The most objects of a task.
+pub const MOST_OBJECTS: usize = 65535;
 
-/// The most predicates.
-const MOST_PREDICATES: usize = 4096;
+/// The most predicates of a task.
+pub const MOST_PREDICATES: usize = 4096;
 
-/// The most actions.
-const MOST_ACTIONS: usize = 4096;
+/// The most actions of a task.
+pub const MOST_ACTIONS: usize = 4096;
 
-/// The most variables of a predicate or an action.
-const MOST_VARIABLES: usize = 32;
+/// The most arguments of a predicate, and the most parameters of an action.
+pub const MOST_VARIABLES: usize = 32;
 
-/// The most types of which a variable may be.
-const MOST_ALTERNATIVES: usize = 32;
+/// The most types among which an argument or a parameter may have a choice.
+pub const MOST_ALTERNATIVES: usize = 32;
 
 impl TaskParts {
     /// Whether the parts are well formed: every number is in range, every arity right, every atom and pattern fits by the order of types,
@@ -189,7 +190,7 @@ fn patterns_fit(parts: &TaskParts, params: &[Alternatives], patterns: &[Pattern]
         .all(|pattern| is_pattern(parts, params, pattern))
 }
 
-/// Whether a pattern has a predicate of the task, and terms that fit its places.
+/// Whether a pattern has a predicate of the task, and terms that fit its arguments.
 #[tactic(auto, unfolding(crate::specs::WellFormed::is_pattern, crate::specs::WellFormed::are_fitting))]
 fn is_pattern(parts: &TaskParts, params: &[Alternatives], pattern: &Pattern) -> bool
     ensures { result ≡ is_pattern parts.now params.now pattern.now }
@@ -200,7 +201,7 @@ fn is_pattern(parts: &TaskParts, params: &[Alternatives], pattern: &Pattern) -> 
     }
 }
 
-/// Whether as many terms as there are places fit them one by one.
+/// Whether there are as many terms as arguments, and they fit them one by one.
 #[tactic(auto, unfolding(crate::specs::WellFormed::are_fitting))]
 fn terms_fit(
     parts: &TaskParts,
@@ -208,33 +209,46 @@ fn terms_fit(
     terms: &[Term],
     places: &[Alternatives],
 ) -> bool
-    ensures { result ≡ are_fitting parts.now.parents (map (term_types parts.now params.now) terms.now) (Some places.now) }
+    ensures { result ≡ are_fitting parts.now.parents (map (term_types parts.now.objects params.now) terms.now) (Some places.now) }
 {
     terms.len() == places.len() && terms_fit_places(parts, params, terms, places)
 }
 
-/// Whether each term fits the place beside it.
+/// Whether each term fits the argument beside it.
 fn terms_fit_places(
     parts: &TaskParts,
     params: &[Alternatives],
     terms: &[Term],
     places: &[Alternatives],
 ) -> bool
-    ensures { result ≡ list_all (λ p. is_fitting parts.now.parents (term_types parts.now params.now p.0) p.1) (zip terms.now places.now) }
+    ensures { result ≡ list_all (λ p. is_fitting parts.now.parents (term_types parts.now.objects params.now p.0) p.1) (zip terms.now places.now) }
 {
-    terms.iter().zip(places).all(|(term, place)| term_fits(parts, params, *term, place.as_slice()))
+    terms.iter().zip(places).all(|(term, types)| term_fits(
+        &parts.parents,
+        &parts.objects,
+        params,
+        *term,
+        types.as_slice(),
+    ))
 }
 
-/// Whether a term is a parameter or an object that fits a place for these types.
-fn term_fits(parts: &TaskParts, params: &[Alternatives], term: Term, place: &[u16]) -> bool
-    ensures { result ≡ is_fitting parts.now.parents (term_types parts.now params.now term) place.now }
+/// Whether a term is a parameter or an object, and fits an argument that may be of these types: each type of the term is one of them or below one
+/// of them. The parameters come with their types, and the objects, too. Takes no memory.
+pub fn term_fits(
+    parents: &TypeList,
+    objects: &NameTable<u16>,
+    params: &[Alternatives],
+    term: Term,
+    types: &[u16],
+) -> bool
+    ensures { result ≡ is_fitting parents.now (term_types objects.now params.now term) types.now }
 {
     match term {
         Term::Param(number) => match params.get(usize::from(number)) {
-            Some(types) => parts.parents.are_below(types.as_slice(), place),
+            Some(own) => parents.are_below(own.as_slice(), types),
             None => false,
         },
-        Term::Object(number) => object_fits(parts, number, place),
+        Term::Object(number) => object_fits(parents, objects, number, types),
     }
 }
 
@@ -249,7 +263,7 @@ fn is_ground_formula(parts: &TaskParts, formula: &GroundFormula) -> bool
     }
 }
 
-/// Whether an atom has a predicate of the task, and objects that fit its places.
+/// Whether an atom has a predicate of the task, and objects that fit its arguments.
 #[tactic(auto, unfolding(crate::specs::WellFormed::is_atom, crate::specs::WellFormed::are_fitting))]
 fn is_atom(parts: &TaskParts, atom: &Atom) -> bool
     ensures { result ≡ is_atom parts.now atom.now }
@@ -260,28 +274,33 @@ fn is_atom(parts: &TaskParts, atom: &Atom) -> bool
     }
 }
 
-/// Whether as many objects as there are places fit them one by one.
+/// Whether there are as many objects as arguments, and they fit them one by one.
 #[tactic(auto, unfolding(crate::specs::WellFormed::are_fitting))]
 fn objects_fit(parts: &TaskParts, objects: &[u16], places: &[Alternatives]) -> bool
-    ensures { result ≡ are_fitting parts.now.parents (map (λ object. term_types parts.now [] (Object object)) objects.now) (Some places.now) }
+    ensures { result ≡ are_fitting parts.now.parents (map (λ object. term_types parts.now.objects [] (Object object)) objects.now) (Some places.now) }
 {
     objects.len() == places.len() && objects_fit_places(parts, objects, places)
 }
 
-/// Whether each object fits the place beside it.
+/// Whether each object fits the argument beside it.
 fn objects_fit_places(parts: &TaskParts, objects: &[u16], places: &[Alternatives]) -> bool
-    ensures { result ≡ list_all (λ p. is_fitting parts.now.parents (term_types parts.now [] (Object p.0)) p.1) (zip objects.now places.now) }
+    ensures { result ≡ list_all (λ p. is_fitting parts.now.parents (term_types parts.now.objects [] (Object p.0)) p.1) (zip objects.now places.now) }
 {
-    objects.iter().zip(places).all(|(object, place)| object_fits(parts, *object, place.as_slice()))
+    objects.iter().zip(places).all(|(object, types)| object_fits(
+        &parts.parents,
+        &parts.objects,
+        *object,
+        types.as_slice(),
+    ))
 }
 
-/// Whether there is an object with a number, and it fits a place for these types.
+/// Whether there is an object with a number, and it fits an argument that may be of these types. Takes no memory.
 #[tactic(auto, using(crate::proofs::WellFormedTests::object_fitting, crate::proofs::WellFormedTests::object_unknown))]
-fn object_fits(parts: &TaskParts, number: u16, place: &[u16]) -> bool
-    ensures { result ≡ is_fitting parts.now.parents (term_types parts.now [] (Object number)) place.now }
+pub fn object_fits(parents: &TypeList, objects: &NameTable<u16>, number: u16, types: &[u16]) -> bool
+    ensures { result ≡ is_fitting parents.now (term_types objects.now [] (Object number)) types.now }
 {
-    match parts.objects.value(usize::from(number)) {
-        Some(object_type) => parts.parents.are_below(&[*object_type], place),
+    match objects.value(usize::from(number)) {
+        Some(own) => parents.are_below(&[*own], types),
         None => false,
     }
 }

@@ -1,6 +1,6 @@
 //! Many words kept in one piece.
 //!
-//! Planners' files are the bulk of all memory, so the words of a plan stand in one buffer of folded bytes, each known by where it ends.
+//! Planners' files take most of the memory, so the words of a plan are kept in one buffer of bytes in lower case, each known by where it ends.
 ghost use Rattle.std.specs.Prelude.{◌≡◌, ◌+◌, ◌<◌, ℕ, List, [], ◌∷◌, ◌++◌, length, slice_get, OnOk, OnErr, Some, ◌≤◌, slice_index, ◌-◌, take, drop};
 ghost use Rattle.pddl_words.specs.Words.{folded};
 ghost use Rattle.smallvec.specs.SmallVec.{HasRoomFor};
@@ -48,7 +48,8 @@ impl WordList {
         self.ends.clear();
     }
 
-    /// Adds a word at the end, in lower case (PDDL 2.1, Fox and Long 2003: case is not significant). Where memory runs out the list stays as it was.
+    /// Adds a word at the end, in lower case (PDDL 2.1, Fox and Long 2003: case is not significant). If memory runs out, the list does
+    /// not change.
     pub fn push_folded(&mut self, word: &[u8]) -> Result<(), AllocError>
         ensures ok { OnOk result (self.new ≡ self.old ++ folded word.now ∷ []) }
         ensures err { OnErr result (self.new ≡ self.old) }
@@ -67,7 +68,7 @@ impl WordList {
         self.ends.len()
     }
 
-    /// The word at a place, counted from 0.
+    /// The word with an index, counted from 0.
     pub fn get(&self, place: usize) -> &[u8]
         requires { place < length self.now }
         ensures { slice_get self.now place ≡ Some result.now }
@@ -102,7 +103,7 @@ fn append_byte_by_byte(bytes: &mut SmallVec<u8, 24>, word: &[u8])
     }
 }
 
-/// Where a part starts: at the end of the one before it.
+/// Where the word with an index starts: at the end of the one before it.
 fn start_of(ends: &Places, place: usize) -> usize
     requires { place < length ends.now }
     ensures { result ≡ slice_index (0 ∷ ends.now) place }
@@ -110,7 +111,7 @@ fn start_of(ends: &Places, place: usize) -> usize
     if place == 0 { 0 } else { ends.get(place - 1) }
 }
 
-/// The bytes between two places.
+/// The bytes from `start` up to but not including `end`.
 fn part_of(bytes: &[u8], start: usize, end: usize) -> &[u8]
     requires in_order { start ≤ end }
     requires within { end ≤ length bytes.now }

@@ -1,4 +1,4 @@
--- What is kept of a plan, as the plan that it is.
+-- The plan that is meant by what is kept of it.
 
 use Rattle.std.specs.Arc.{arc_value}
 use Rattle.plan_text.specs.PlanReading.{plan_of}
@@ -13,7 +13,7 @@ abbrev pub content : Kept → Plan
 content (kept.Read plan) = arc_value plan
 content (kept.Text text) = plan_of text
 
--- the same of what is shown of it
+-- the plan that is shown: itself, or the plan of its text
 abbrev pub content_shown : Form → Plan
 content_shown (shown.Read plan) = plan.now
 content_shown (shown.Text text) = plan_of text.now

@@ -1,17 +1,17 @@
-//! Plans as they are handed in: read already, or as the text that was handed in.
-//!
-//! Who takes plans in and gives them out need not know which it is: contracts see a [`SubmittedPlan`] as its content, a
-//! [`Plan`](strips_task::Plan). A plan that is kept as its text takes no memory of its own, since the text is a range of a file's bytes that
-//! all plans of the file share, and whoever judges it reads it.
+//! Plans as they were handed in: already read, or still as text.
 //!
 //! ```text
 //! let text = SharedText::new(bytes, 0, end);          // a range of an Arc<Vec<u8>>
 //! let plan = SubmittedPlan::from_text(text);          // not read
 //! match plan.form() {
-//!     Form::Text(text) => ..,                         // the bytes, to be read in one pass with whatever is done with the steps
+//!     Form::Text(text) => ..,                         // the bytes, to be read and judged in one pass
 //!     Form::Read(plan) => ..,
 //! }
 //! ```
+//!
+//! Code that only passes plans on need not know which form they have: contracts see a [`SubmittedPlan`] as its content, a
+//! [`Plan`](strips_task::Plan). A plan that is kept as text takes no memory of its own, since its text is a range of a file's bytes that all
+//! plans of the file share. It is read by the code that judges it.
 #![tactic(auto)]
 
 mod plan;

@@ -20,18 +20,18 @@ pub struct SubmittedPlan {
 /// What is kept of a plan.
 #[derive(Debug, Drop)]
 enum Kept {
-    /// The plan, which others may own as well.
+    /// The plan, which may have other owners as well.
     Read(Arc<Plan>),
     /// Its text, which was not read.
     Text(SharedText),
 }
 
-/// What there is of a plan to look at.
+/// A plan in the form in which it is kept.
 #[derive(Clone, Copy, Debug)]
 pub enum Form<'a> {
     /// The plan itself.
     Read(&'a Plan),
-    /// The text, of which it is the plan.
+    /// The text whose plan it is.
     Text(&'a [u8]),
 }
 
@@ -75,7 +75,7 @@ impl SubmittedPlan {
         }
     }
 
-    /// Whether the other is the same plan, however each is kept. Takes no memory. Texts are walked through unless their bytes are the same.
+    /// Whether two plans are the same, however each is kept. Takes no memory. Texts are read unless their bytes are the same.
     pub fn is_same(&self, other: &SubmittedPlan) -> bool
         ensures { result ≡ plan_eq self.now other.now }
     {
@@ -87,7 +87,7 @@ impl SubmittedPlan {
         }
     }
 
-    /// The same plan with one owner more. Copies nothing; the only error is that there are too many owners.
+    /// The same plan with one more owner. Copies nothing; the only error is too many owners.
     pub fn try_clone(&self) -> Result<SubmittedPlan, AllocError>
         ensures { IfOk result (λ plan. plan ≡ self.now) }
     {

@@ -1,4 +1,4 @@
-//! A range of bytes that several own.
+//! A range of bytes that may have several owners.
 ghost use Rattle.std.specs.Arc.{arc_value};
 ghost use Rattle.std.specs.Prelude.{◌≡◌, ◌≤◌, length, slice_range, IfOk};
 
@@ -6,7 +6,7 @@ use std::alloc::AllocError;
 use std::marker::Model;
 use std::sync::Arc;
 
-/// A range of bytes that others may own as well. Contracts see the bytes of the range.
+/// A range of bytes that may have other owners as well. Contracts see the bytes of the range.
 #[derive(Debug, Drop)]
 pub struct SharedText {
     bytes: Arc<Vec<u8>>,
@@ -26,7 +26,7 @@ impl Model for SharedText {
 }
 
 impl SharedText {
-    /// The bytes from `start` up to and without `end`. Takes no memory.
+    /// The bytes from `start` up to but not including `end`. Takes no memory.
     pub fn new(bytes: Arc<Vec<u8>>, start: usize, end: usize) -> SharedText
         requires ordered { start ≤ end }
         requires within { end ≤ length (arc_value bytes).items }
@@ -42,7 +42,7 @@ impl SharedText {
         &self.bytes[self.start..self.end]
     }
 
-    /// The same bytes with one owner more. Copies nothing; the only error is that there are too many owners.
+    /// The same bytes with one more owner. Copies nothing; the only error is too many owners.
     pub fn try_clone(&self) -> Result<SharedText, AllocError>
         ensures { IfOk result (λ text. text ≡ self.now) }
     {

@@ -1,4 +1,4 @@
--- Which step of a plan changed an atom last: what a condition that does not hold is explained by.
+-- Which step of a plan changed an atom last, to explain conditions that do not hold.
 
 use Rattle.std.specs.Prelude.{◌≡◌, ◌≢◌, ℕ, ◌-◌, ◌<◌, ◌≤◌, true, false, List, Option, Some, None, fold, length, slice_get, take}
 use Rattle.std.specs.List.{AllZip}
@@ -10,7 +10,7 @@ use Rattle.strips_judge.specs.declared.verdict.Verdict.TheVariants.{Valid, Fails
 use Rattle.strips_judge.specs.State.{State, is_in}
 use Rattle.strips_judge.specs.Step.{adds, after, deletes}
 
--- the state after the first steps of a plan, as many as the number says
+-- the state after the first `count` steps of a plan
 abbrev pub state_after : TaskParts → List StepText → ℕ → State
 state_after parts steps count = fold (after parts) (is_in parts.init) (take count steps)
 
@@ -33,18 +33,18 @@ IsLastChange parts steps atom None = Stays parts steps atom 0
 abbrev pub AreLastChanges : TaskParts → List StepText → List Atom → List (Option ℕ) → Type 0
 AreLastChanges parts steps atoms changes = AllZip (IsLastChange parts steps) atoms changes
 
--- the steps that are taken before the verdict is clear: those before the one that fails, or all
+-- the steps that are taken before the verdict is clear: those before the step that fails, or all
 abbrev pub steps_taken : Verdict → List StepText → List StepText
 steps_taken (Fails number why) steps = take (number - 1) steps
 steps_taken (Valid count) steps = steps
 steps_taken (Goal missing) steps = steps
 steps_taken (Unreadable line) steps = steps
 
--- a step makes an atom true where it adds it, also if it deletes it too
+-- a step makes an atom true if it adds it, even if it deletes it too
 abbrev pub MakesTrue : TaskParts → StepText → Atom → Type 0
 MakesTrue parts step atom = is_in (adds parts step) atom ≡ true
 
--- a step makes an atom false where it deletes it and does not add it
+-- a step makes an atom false if it deletes it and does not add it
 abbrev pub MakesFalse : TaskParts → StepText → Atom → Type 0
 MakesFalse parts step atom =
     (is_in (deletes parts step) atom ≡ true)

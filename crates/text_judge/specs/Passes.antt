@@ -19,12 +19,12 @@ use Rattle.text_judge.specs.declared.pass.Passed.TheVariants.{All, Fails, Unread
 abbrev pub AreTogether : Walk → Judging → Type 0
 AreTogether walk judging = (steps : List StepText) × HasPassed walk steps × HasTaken judging steps
 
--- whatever follows, a plan that begins with these steps fails at the one behind them
+-- a plan that begins with these steps and this one fails at this one, whatever follows
 abbrev pub FailsNext : CostedTask → List StepText → StepText → Why → Type 0
 FailsNext task steps step why =
     (rest : List StepText) → assessment task (Steps (steps ++ step ∷ rest)) ≡ record { verdict = answer.Fails (length steps + 1) why; cost = NotCounted }
 
--- the walk has passed a step, with a number from 1 on, at which each plan fails that begins with the steps up to it
+-- the walk has passed the step with this number, counted from 1, and every plan that begins with the steps up to it fails at it
 pub record FailsAt (walk : Walk) (task : CostedTask) (number : ℕ) (why : Why) : Type 0 where
   pub before : List StepText
   pub step : StepText
@@ -32,13 +32,13 @@ pub record FailsAt (walk : Walk) (task : CostedTask) (number : ℕ) (why : Why) 
   pub is : number ≡ length before + 1
   pub fails : FailsNext task before step why
 
--- how a pass ends: all steps of the text were taken; or a step of it fails; or the text is no plan text
+-- how a pass ends: all steps of the text were taken, or a step fails, or the text is no plan text
 abbrev pub EndsPass : Passed → Walk → Judging → Type 0
 EndsPass All walk judging = (steps : List StepText) × HasTaken judging steps × (plan_of walk.text ≡ Steps steps)
 EndsPass (Fails number why) walk judging = FailsAt walk judging.task number why
 EndsPass (Faulty line) walk judging = plan_of walk.text ≡ Unreadable line
 
--- what is found of a text with a fault in a line
+-- the assessment of a text with its fault in this line
 abbrev pub unreadable : ℕ → Assessment
 unreadable line = record { verdict = answer.Unreadable line; cost = NotCounted }
 
@@ -47,11 +47,11 @@ abbrev pub with_next : List StepText → Option StepText → List StepText
 with_next steps None = steps
 with_next steps (Some step) = steps ++ step ∷ []
 
--- a walk and a judge that were behind these steps are behind them still, or behind one more
+-- a walk and a judge that were after these steps still are, or are after one more
 abbrev pub GoOn : Walk → Judging → List StepText → Type 0
 GoOn walk judging steps = (next : Option StepText) × HasPassed walk (with_next steps next) × HasTaken judging (with_next steps next)
 
--- what becomes of a walk and a judge that were behind these steps: they go on, or the pass ends there
+-- what becomes of a walk and a judge that were after these steps: they go on, or the pass ends there
 abbrev pub GoOnOrEnd : Option Passed → Walk → Judging → List StepText → Type 0
 GoOnOrEnd None walk judging steps = GoOn walk judging steps
 GoOnOrEnd (Some All) walk judging steps = HasTaken judging steps × (plan_of walk.text ≡ Steps steps)

@@ -20,18 +20,18 @@ pub record IsWatched (parts : TaskParts) (steps : List StepText) (atom : Atom) (
   pub now : watch.is_true ≡ state_after parts steps (length steps) atom
   pub last : IsLastChange parts steps atom watch.last
 
--- of each atom, in order
+-- what is kept of each atom after these steps, in order
 abbrev pub AreWatched : TaskParts → List StepText → List Atom → List Watch → Type 0
 AreWatched parts steps atoms watches = AllZip (IsWatched parts steps) atoms watches
 
--- a walk and a judge are behind the same steps, and this is kept of the atoms
+-- a walk and a judge are after the same steps, and this is kept of the atoms
 pub record WatchTogether (walk : Walk) (judging : Judging) (atoms : List Atom) (watches : List Watch) : Type 0 where
   pub steps : List StepText
   pub passed : HasPassed walk steps
   pub taken : HasTaken judging steps
   pub watched : AreWatched judging.task.task steps atoms watches
 
--- how taking the steps of a text ends for the atoms that are watched
+-- what is known of the watched atoms when taking the steps of a text ends
 abbrev pub EndsWatch : Passed → Walk → Judging → List Atom → List Watch → Type 0
 EndsWatch All walk judging atoms watches =
     (steps : List StepText) × HasTaken judging steps × (plan_of walk.text ≡ Steps steps) × AreWatched judging.task.task steps atoms watches

@@ -1,6 +1,6 @@
 //! Which steps of a plan changed atoms last.
 //!
-//! The steps of a text are taken once more, and after each it is seen whether the atoms that are watched have changed.
+//! The steps of a text are taken once more, and after each step the atoms that are watched are checked for changes.
 ghost use Rattle.std.specs.Prelude.{◌≡◌, ◌<◌, ◌∷◌, [], ◌++◌, ℕ, Bool, List, None, Option, Some, length, slice_get, slice_index_or, IfOk, IfNone};
 ghost use Rattle.strips_task.specs.declared.atoms.Atom.{Atom};
 ghost use Rattle.strips_task.specs.declared.steps.StepText.{StepText};
@@ -44,7 +44,7 @@ pub(crate) fn watch_all(
     Ok(watches)
 }
 
-/// Takes the steps of a text one after the other, as `pass` does, and notes after each what has become of the atoms.
+/// Takes the steps of a text one after the other, as `pass` does, and notes after each whether the atoms have changed.
 pub(crate) fn watch_steps(
     alloc: Global,
     judge: &mut Judge<'_>,
@@ -66,7 +66,7 @@ pub(crate) fn watch_steps(
     }
 }
 
-/// Notes what has become of the atoms, behind the same steps as before or one more.
+/// Notes whether the atoms have changed, after the same steps as before or one more.
 fn note(judge: &Judge<'_>, atoms: &[Atom], watches: &mut [Watch])
     requires { length watches.old ≡ length atoms.now }
     ensures watched { (steps : List StepText) (next : Option StepText) → HasTaken judge.now (with_next steps next)
@@ -78,7 +78,7 @@ fn note(judge: &Judge<'_>, atoms: &[Atom], watches: &mut [Watch])
     }
 }
 
-/// What is kept of an atom that is now true or not, after so many steps.
+/// What is kept of an atom, by whether it is true after `count` steps.
 fn noted(watch: Watch, is_true: bool, count: usize) -> Watch
     ensures { (parts : TaskParts) (steps : List StepText) (next : Option StepText) (atom : Atom) → IsWatched parts steps atom watch
         → is_true ≡ state_after parts (with_next steps next) (length (with_next steps next)) atom → count ≡ length (with_next steps next)

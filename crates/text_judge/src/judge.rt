@@ -27,7 +27,7 @@ use strips_task::{Atom, OpenSteps};
 pub struct TextJudge<'t> {
     task: &'t CostedTask,
     judge: Judge<'t>,
-    /// The step that is being read, where it is not known.
+    /// The step that is being read, if it is not known.
     step: OpenSteps,
 }
 
@@ -43,7 +43,7 @@ impl<'t> Model for TextJudge<'t> {
 }
 
 impl<'t> TextJudge<'t> {
-    /// A judge that has seen no step: one of so many that share the room for known steps. Takes memory for a bit for each initial atom.
+    /// A judge that has seen no step, one of `judges` that share the room for known steps. Takes memory for a bit for each initial atom.
     pub fn new(
         alloc: Global,
         task: &'t CostedTask,
@@ -67,7 +67,7 @@ impl<'t> TextJudge<'t> {
 
     /// Judges the plan of a text, and adds up what it costs if it is valid and the task counts costs.
     ///
-    /// One pass over the text. The judge takes memory for steps and atoms that it has not seen before, within the bounds that `step_memo` tells.
+    /// One pass over the text. The judge takes memory for steps and atoms that it has not seen before, within the bounds of `step_memo`.
     pub fn assess(&mut self, alloc: Global, text: &[u8]) -> Result<Assessment, AllocError>
         ensures answer { IfOk result (λ answer. answer ≡ assessment self.old (plan_of text.now)) }
         ensures compact { IfOk result (λ answer. IsCompact answer.cost) }
@@ -80,9 +80,9 @@ impl<'t> TextJudge<'t> {
     }
 
     /// For each atom the number of the last step, counted from 1, that changed whether it is true, if one did. The steps are those of the
-    /// text's plan, up to the one at which it fails. Of a text that is no plan nothing is said.
+    /// text's plan, up to the one at which it fails. For a text that is no plan text the answer means nothing.
     ///
-    /// One pass over the text, with a look at each atom after each step, so it is meant for a few atoms.
+    /// One pass over the text. Each atom is checked after each step, so this is meant for a few atoms.
     pub fn last_changes(
         &mut self,
         alloc: Global,
@@ -113,7 +113,7 @@ impl<'t> TextJudge<'t> {
     }
 }
 
-/// Watches atoms while the steps of a text are taken, at whose first step a walk stands.
+/// Watches atoms while the steps of a text are taken. The walk is at the first step.
 fn follow(
     alloc: Global,
     judge: &mut Judge<'_>,
@@ -139,7 +139,7 @@ fn follow(
     }
 }
 
-/// Judges the plan of a text, at whose first step a walk stands.
+/// Judges the plan of a text. The walk is at the first step.
 fn assess_steps(
     alloc: Global,
     judge: &mut Judge<'_>,
@@ -165,7 +165,7 @@ fn assess_steps(
     }
 }
 
-/// What is found of a text that is no plan.
+/// The assessment of a text that is no plan text.
 fn unreadable(line: u32) -> Assessment
     ensures answer { result ≡ unreadable line }
     ensures compact { IsCompact result.cost }

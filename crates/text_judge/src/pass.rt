@@ -21,7 +21,7 @@ use strips_task::OpenSteps;
 pub(crate) enum Passed {
     /// All steps were taken, and the text is at its end.
     All,
-    /// A step can't be taken. What stands behind it was not looked at.
+    /// A step can't be taken. What follows it was not read.
     Fails {
         /// The step, counted from 1.
         step: u32,
@@ -57,7 +57,7 @@ pub(crate) fn pass(
     }
 }
 
-/// Goes on by a step, or by a stamp or a number alone, or else answers how the pass ends here.
+/// Goes on by a step, or by a stamp or a number alone, or returns how the pass ends here.
 pub(crate) fn advance(
     alloc: Global,
     judge: &mut Judge<'_>,
@@ -76,7 +76,7 @@ pub(crate) fn advance(
     take_next(alloc, judge, step, walk)
 }
 
-/// Takes the next step by its words, or else answers how the pass ends here.
+/// Takes the next step by its words, or returns how the pass ends here.
 fn take_next(
     alloc: Global,
     judge: &mut Judge<'_>,
@@ -102,9 +102,9 @@ fn take_next(
     }
 }
 
-/// Takes the next step, if the bytes between its parentheses are its names, each parted by one space, and it is applicable. A step that the judge
-/// knows is found by those bytes as a whole. Before a step, and behind one, it reads a stamp or a number on. Whether it did either; else the walk
-/// stays where it is.
+/// Takes the next step, if the bytes between its parentheses are its names with single spaces between them, and it is applicable. A step that the
+/// judge knows is found by those bytes as a whole. Before and after a step, it passes a stamp or a number instead. Returns whether it did either;
+/// otherwise the walk stays where it is.
 fn go_on(alloc: Global, judge: &mut Judge<'_>, walk: &mut PlanSteps<'_>) -> Result<bool, AllocError>
     requires { AreTogether walk.old judge.old }
     ensures task { judge.new.task ≡ judge.old.task }
@@ -128,7 +128,7 @@ fn go_on(alloc: Global, judge: &mut Judge<'_>, walk: &mut PlanSteps<'_>) -> Resu
     Ok(true)
 }
 
-/// Takes a step of these words, or else answers why it is not applicable.
+/// Takes a step of these words, or returns why it is not applicable.
 fn take_words(
     alloc: Global,
     judge: &mut Judge<'_>,
@@ -147,7 +147,7 @@ fn take_words(
     judge.take(alloc, step.get(0))
 }
 
-/// Walks to the end of a text, and answers the line of its first fault, if it has one.
+/// Walks to the end of a text, and returns the line of its first fault, if it has one.
 pub(crate) fn fault_behind(walk: &mut PlanSteps<'_>) -> Option<u32>
     ensures { (steps : List StepText) → HasPassed walk.old steps → MatchOption result
         ((more : List StepText) × (plan_of walk.old.text ≡ Steps (steps ++ more))) (λ line. plan_of walk.old.text ≡ Unreadable line) }

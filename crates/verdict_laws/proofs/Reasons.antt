@@ -1,6 +1,6 @@
 -- The verdict names the reason that the run of a plan breaks off.
 
-use Rattle.std.proofs.Common.{◌≡◌, ℕ, ◌+◌, zero, suc, List, [], ◌∷◌, Option, Some, None, slice_get, take, inl, inr, refl, ap, sym, ◌∙◌, length, arith}
+use Rattle.std.proofs.Common.{◌≡◌, ℕ, ◌+◌, suc, List, [], ◌∷◌, Option, Some, None, slice_get, take, inl, inr, refl, ap, sym, ◌∙◌, arith}
 use Rattle.std.specs.Option.{option_or}
 use Rattle.strips_task.specs.declared.atoms.GroundCond.{GroundCond}
 use Rattle.strips_task.specs.declared.plans.Plan.{Plan}
@@ -11,10 +11,11 @@ use Rattle.strips_judge.specs.declared.verdict.Verdict.TheVariants as answer
 use Rattle.strips_judge.specs.declared.verdict.Why.{Why}
 use Rattle.strips_judge.specs.State.{State, is_in}
 use Rattle.strips_judge.specs.Step.{fault, precondition, hindrance, after, missing, missing_why}
-use Rattle.strips_judge.specs.Verdict.{goal_verdict, step_verdict, verdict_from}
+use Rattle.strips_judge.specs.Verdict.{goal_verdict, verdict_from}
 use Rattle.strips_judge.specs.Validity.{LeadTo}
 use Rattle.strips_judge.proofs.Applicable.{applicable_from_hindrance}
 use Rattle.strips_judge.proofs.Runs.{lead_none, lead_more}
+use Rattle.strips_judge.proofs.VerdictMeanings.{verdict_split}
 use Rattle.verdict_laws.specs.Reasons.{AreUnmet, IsReason, FailsNamesTheReason, GoalNamesTheUnmet}
 use Rattle.verdict_laws.proofs.Unmet.{are_unmet}
 
@@ -31,11 +32,6 @@ module _ (parts : TaskParts) where
       by None (condition ∷ conds) f g =
           let same : missing_why (condition ∷ conds) ≡ Some why = sym (ap missing_why g) ∙ sym (ap (λ x. option_or x (missing_why (missing state (precondition parts step)))) f) ∙ e in
           inr (f, (condition ∷ conds, cc, are_unmet state (precondition parts step) (condition ∷ conds) g (λ none. cc)))
-
-  -- the verdict of a step and others, by what hinders the step
-  split : (n : ℕ) (state : State) (step : StepText) (steps : List StepText) (o : Option Why) → hindrance parts state step ≡ o
-      → verdict_from parts n state (step ∷ steps) ≡ step_verdict (n + 1) o (verdict_from parts (n + 1) (after parts state step) steps)
-  split n state step steps o e = ap (λ w. step_verdict (n + 1) w (verdict_from parts (n + 1) (after parts state step) steps)) e
 
   abbrev FailsFrom : ℕ → State → List StepText → ℕ → Why → Type 0
   FailsFrom n state steps i why = (before : ℕ) × (step : StepText) × (at : State) × (i ≡ n + before + 1) × (slice_get steps before ≡ Some step)
@@ -54,12 +50,12 @@ module _ (parts : TaskParts) where
           → (verdict_from parts (n + 1) (after parts state first) steps ≡ answer.Fails i why → FailsFrom (n + 1) (after parts state first) steps i why)
           → FailsFrom n state (first ∷ steps) i why
       by (Some hindered) f rest =
-          let same : answer.Fails (n + 1) hindered ≡ answer.Fails i why = sym (split n state first steps (Some hindered) f) ∙ e in
+          let same : answer.Fails (n + 1) hindered ≡ answer.Fails i why = sym (verdict_split parts n state first steps (Some hindered) f) ∙ e in
           let number : n + 1 ≡ i = cc in
           let told : hindered ≡ why = cc in
           (0, first, state, omega arith, refl, lead_none parts state, reason state first why (f ∙ ap Some told))
       by None f rest =
-          let (before, step, at, number, of, leads, because) = rest (sym (split n state first steps None f) ∙ e) in
+          let (before, step, at, number, of, leads, because) = rest (sym (verdict_split parts n state first steps None f) ∙ e) in
           (suc before, step, at, omega arith, of, lead_more parts state at first (take before steps) (applicable_from_hindrance parts state first f) leads, because)
 
   goal_for : (n : ℕ) (state : State) (steps : List StepText) (unmet : List GroundCond) → verdict_from parts n state steps ≡ answer.Goal unmet
@@ -78,17 +74,17 @@ module _ (parts : TaskParts) where
           → (verdict_from parts (n + 1) (after parts state step) steps ≡ answer.Goal unmet
           → (end : State) × LeadTo parts (after parts state step) steps end × AreUnmet end parts.goal unmet)
           → (end : State) × LeadTo parts state (step ∷ steps) end × AreUnmet end parts.goal unmet
-      by (Some why) f rest = let apart : answer.Fails (n + 1) why ≡ answer.Goal unmet = sym (split n state step steps (Some why) f) ∙ e in cc
+      by (Some why) f rest = let apart : answer.Fails (n + 1) why ≡ answer.Goal unmet = sym (verdict_split parts n state step steps (Some why) f) ∙ e in cc
       by None f rest =
-          let (end, leads, lacks) = rest (sym (split n state step steps None f) ∙ e) in
+          let (end, leads, lacks) = rest (sym (verdict_split parts n state step steps None f) ∙ e) in
           (end, lead_more parts state end step steps (applicable_from_hindrance parts state step f) leads, lacks)
 
-  pub reasons_are_told : (plan : Plan) → FailsNamesTheReason parts plan
-  reasons_are_told (Steps steps) number why e =
+  pub failures_name_the_reason : (plan : Plan) → FailsNamesTheReason parts plan
+  failures_name_the_reason (Steps steps) number why e =
       let (before, step, at, is, of, leads, because) = fails_for 0 (is_in parts.init) steps number why e in
       (before, step, at, omega arith, of, leads, because)
-  reasons_are_told (Unreadable line) number why e = cc
+  failures_name_the_reason (Unreadable line) number why e = cc
 
-  pub unmet_goals_are_told : (plan : Plan) → GoalNamesTheUnmet parts plan
-  unmet_goals_are_told (Steps steps) unmet e = goal_for 0 (is_in parts.init) steps unmet e
-  unmet_goals_are_told (Unreadable line) unmet e = cc
+  pub missed_goals_name_the_unmet : (plan : Plan) → GoalNamesTheUnmet parts plan
+  missed_goals_name_the_unmet (Steps steps) unmet e = goal_for 0 (is_in parts.init) steps unmet e
+  missed_goals_name_the_unmet (Unreadable line) unmet e = cc

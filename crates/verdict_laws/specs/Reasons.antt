@@ -1,6 +1,6 @@
 -- Why a plan fails, in the words of PDDL.
 
-use Rattle.std.specs.Prelude.{◌≡◌, ◌≢◌, ◌⊎◌, ℕ, ◌+◌, Bool, false, not, ◌&&◌, List, [], ◌∷◌, Some, None, slice_get, take}
+use Rattle.std.specs.Prelude.{◌≡◌, ◌≢◌, ◌⊎◌, ℕ, ◌+◌, false, not, ◌&&◌, List, [], ◌∷◌, Some, None, slice_get, take}
 use Rattle.std.specs.List.{list_any}
 use Rattle.strips_task.specs.declared.atoms.GroundCond.{GroundCond}
 use Rattle.strips_task.specs.declared.plans.Plan.{Plan}
@@ -16,12 +16,12 @@ use Rattle.strips_judge.specs.Step.{fault, precondition}
 use Rattle.strips_judge.specs.Validity.{LeadTo}
 use Rattle.strips_judge.specs.Verdict.{verdict}
 
--- no condition is twice in the list
+-- no condition occurs twice in the list
 abbrev pub IsEachOnce : List GroundCond → Type 0
 IsEachOnce [] = Unit {0}
 IsEachOnce (cond ∷ conds) = (list_any (cond_eq cond) conds ≡ false) × IsEachOnce conds
 
--- the unmet ones of some conditions are exactly those that do not hold in the state, each once; there are some
+-- the list `unmet` has exactly those of some conditions that do not hold in the state, each once; there is at least one
 pub record AreUnmet (state : State) (conds unmet : List GroundCond) : Type 0 where
   pub some : unmet ≢ []
   pub exactly : (cond : GroundCond) → list_any (cond_eq cond) unmet ≡ (list_any (cond_eq cond) conds && not (holds state cond))
@@ -33,16 +33,16 @@ IsReason parts state step why =
     (fault parts step ≡ Some why)
     ⊎ ((fault parts step ≡ None) × ((unmet : List GroundCond) × (why ≡ Missing unmet) × AreUnmet state (precondition parts step) unmet))
 
--- some steps fail at a step, counted from 1, for a reason: the steps before it lead to a state in which it is not applicable for that reason
+-- a list of steps fails at a step, counted from 1, for a reason: the steps before it lead to a state in which it is not applicable for that reason
 abbrev pub FailFor : TaskParts → List StepText → ℕ → Why → Type 0
 FailFor parts steps number why = (before : ℕ) × (step : StepText) × (state : State) × (number ≡ before + 1) × (slice_get steps before ≡ Some step)
     × LeadTo parts (is_in parts.init) (take before steps) state × IsReason parts state step why
 
--- some steps lead to a state in which these conditions of the goal do not hold
+-- the steps lead to a state in which exactly these conditions of the goal do not hold
 abbrev pub LeaveUnmet : TaskParts → List StepText → List GroundCond → Type 0
 LeaveUnmet parts steps unmet = (end : State) × LeadTo parts (is_in parts.init) steps end × AreUnmet end parts.goal unmet
 
--- the same of plans; a text that is no plan has other verdicts
+-- the same for plans; an unreadable plan does not fail at a step
 abbrev pub PlanFailsFor : TaskParts → Plan → ℕ → Why → Type 0
 PlanFailsFor parts (Steps steps) number why = FailFor parts steps number why
 PlanFailsFor parts (Unreadable line) number why = ⊥
@@ -52,10 +52,10 @@ abbrev pub PlanLeavesUnmet : TaskParts → Plan → List GroundCond → Type 0
 PlanLeavesUnmet parts (Steps steps) unmet = LeaveUnmet parts steps unmet
 PlanLeavesUnmet parts (Unreadable line) unmet = ⊥
 
--- a verdict that a plan fails names the reason
+-- if the verdict is that a plan fails, it names the reason
 abbrev pub FailsNamesTheReason : TaskParts → Plan → Type 0
 FailsNamesTheReason parts plan = (number : ℕ) (why : Why) → verdict parts plan ≡ answer.Fails number why → PlanFailsFor parts plan number why
 
--- a verdict that a plan misses its goal names what is unmet
+-- if the verdict is that a plan misses its goal, it names what is unmet
 abbrev pub GoalNamesTheUnmet : TaskParts → Plan → Type 0
 GoalNamesTheUnmet parts plan = (unmet : List GroundCond) → verdict parts plan ≡ answer.Goal unmet → PlanLeavesUnmet parts plan unmet

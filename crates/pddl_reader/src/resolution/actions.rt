@@ -1,6 +1,7 @@
 //! What the literals of actions stand for, and the table of actions.
 
 ghost use Rattle.std.specs.Prelude.{◌≡◌, ◌≤◌, length, OnOk, Some};
+ghost use Rattle.strips_task.specs.WellFormed.{most_types, most_variables};
 ghost use Rattle.std.specs.Map.{keys_of};
 ghost use Rattle.pddl_reader.specs.Resolved.{known_form, parameters_form, vocabulary_form};
 ghost use Rattle.pddl_reader.specs.Declarations.{condition_of, conditions_of, equality_by, pattern_of, term_named};
@@ -22,7 +23,7 @@ use plan_cost::Increases;
 use std::alloc::{AllocError, Global};
 use strips_task::{Action, Alternatives, Cond, Formula, NameTable, Pattern, Seq};
 
-/// The table of the declared predicates, with the types of which each argument may be.
+/// The table of the declared predicates, with the types that each argument may have.
 pub(crate) type Predicates = NameTable<Seq<Alternatives>>;
 
 /// What an effect adds, what it deletes, and by how much it increases the total cost.
@@ -42,7 +43,7 @@ fn equality_condition(
     positive: bool,
     sides: &EqualitySyntax<'_>,
 ) -> Result<Cond, ReadFault>
-    requires { length parameters.now.names.items ≤ 32 }
+    requires { length parameters.now.names.items ≤ most_variables }
     ensures { Gives (λ condition. condition) result (equality_by positive (term_named (known_form known.now) (parameters_form parameters.now) sides.now.left.text.now)
         (term_named (known_form known.now) (parameters_form parameters.now) sides.now.right.text.now)) }
 {
@@ -62,7 +63,7 @@ fn condition(
     parameters: &ActionParameters<'_>,
     literal: &LiteralSyntax<'_>,
 ) -> Result<Cond, ReadFault>
-    requires { length parameters.now.names.items ≤ 32 }
+    requires { length parameters.now.names.items ≤ most_variables }
     ensures { Gives (λ condition. condition) result (condition_of (known_form known.now) (parameters_form parameters.now) (literal_form literal.now)) }
 {
     match literal {
@@ -86,7 +87,7 @@ fn conditions(
     parameters: &ActionParameters<'_>,
     mut literals: Literals<'_>,
 ) -> Result<Seq<Cond>, ReadFault>
-    requires { length parameters.now.names.items ≤ 32 }
+    requires { length parameters.now.names.items ≤ most_variables }
     ensures { Gives (λ conditions. conditions) result (conditions_of (known_form known.now) (parameters_form parameters.now) literals.entry) }
 {
     let mut conditions = Seq::new(alloc);
@@ -96,7 +97,7 @@ fn conditions(
     Ok(conditions)
 }
 
-/// Puts one more pattern behind the others: it is added (`positive`) or deleted.
+/// Appends a pattern to those that are added (`positive`) or to those that are deleted.
 fn put_pattern(effects: &mut Effects, positive: bool, pattern: Pattern) -> Result<(), AllocError>
     ensures { OnOk result (effects.new ≡ changed effects.old positive pattern) }
 {
@@ -108,7 +109,7 @@ fn put_pattern(effects: &mut Effects, positive: bool, pattern: Pattern) -> Resul
     Ok(())
 }
 
-/// Puts what an atom of an effect adds or deletes behind the rest.
+/// Appends what an atom of an effect adds or deletes.
 #[tactic(auto, using(crate::proofs::ActionMeaning::change_steps))]
 fn put_change(
     alloc: Global,
@@ -118,7 +119,7 @@ fn put_change(
     positive: bool,
     atom: &AtomSyntax<'_>,
 ) -> Result<(), ReadFault>
-    requires { length parameters.now.names.items ≤ 32 }
+    requires { length parameters.now.names.items ≤ most_variables }
     ensures { Puts result (with_change effects.old positive (pattern_of (known_form known.now) (parameters_form parameters.now) (atom_form atom.now))) effects.new }
 {
     let pattern = pattern(alloc, known, parameters, atom)?;
@@ -126,7 +127,7 @@ fn put_change(
     Ok(())
 }
 
-/// Puts what a literal of an effect does behind the rest.
+/// Appends what a literal of an effect does.
 #[tactic(auto, using(crate::proofs::ActionMeaning::effect_steps))]
 fn put_effect(
     alloc: Global,
@@ -135,7 +136,7 @@ fn put_effect(
     effects: &mut Effects,
     literal: &LiteralSyntax<'_>,
 ) -> Result<(), ReadFault>
-    requires { length parameters.now.names.items ≤ 32 }
+    requires { length parameters.now.names.items ≤ most_variables }
     ensures { Puts result (with_effect (vocabulary_form vocabulary.now) (parameters_form parameters.now) effects.old (literal_form literal.now)) effects.new }
 {
     match literal {
@@ -171,7 +172,7 @@ fn effect(
     parameters: &ActionParameters<'_>,
     mut literals: Literals<'_>,
 ) -> Result<Effects, ReadFault>
-    requires { length parameters.now.names.items ≤ 32 }
+    requires { length parameters.now.names.items ≤ most_variables }
     ensures { Gives (λ effects. effects) result (effects_of (vocabulary_form vocabulary.now) (parameters_form parameters.now) literals.entry) }
 {
     let mut effects = Effects {
@@ -185,14 +186,14 @@ fn effect(
     Ok(effects)
 }
 
-/// What an action asks and does.
+/// The precondition and the effects of an action.
 #[derive(Drop)]
 struct ActionBody {
     pre: Seq<Cond>,
     effects: Effects,
 }
 
-/// What an action with these parameters asks and does.
+/// The precondition and the effects of an action with these parameters.
 #[tactic(auto, using(crate::proofs::ActionMeaning::body_steps))]
 fn body(
     alloc: Global,
@@ -200,7 +201,7 @@ fn body(
     parameters: &ActionParameters<'_>,
     syntax: &ActionSyntax<'_>,
 ) -> Result<ActionBody, ReadFault>
-    requires { length parameters.now.names.items ≤ 32 }
+    requires { length parameters.now.names.items ≤ most_variables }
     ensures { Gives (λ body. action_doing parameters.now.types body.pre body.effects) result
         (action_by (vocabulary_form vocabulary.now) (action_syntax_form syntax.now) (Some (parameters_form parameters.now))) }
 {
@@ -230,7 +231,7 @@ fn action(
     vocabulary: &Vocabulary<'_>,
     syntax: &ActionSyntax<'_>,
 ) -> Result<CostedAction, ReadFault>
-    requires { length types.now ≤ 1025 }
+    requires { length types.now ≤ most_types }
     ensures { Gives (λ action. action) result (action_meant (keys_of types.now) (vocabulary_form vocabulary.now) (action_syntax_form syntax.now)) }
 {
     let declared = part_variables(alloc, &syntax.parts.parameters)?;
@@ -254,7 +255,7 @@ fn action(
 }
 
 /// The table of actions, and the increases of each by its number.
-#[derive(Drop)]
+#[derive(Debug, Drop)]
 pub(crate) struct ActionTables {
     pub(crate) actions: NameTable<Action>,
     pub(crate) increases: Seq<Increases>,
@@ -269,7 +270,7 @@ fn declare_action(
     tables: &mut ActionTables,
     syntax: &ActionSyntax<'_>,
 ) -> Result<(), ReadFault>
-    requires { length types.now ≤ 1025 }
+    requires { length types.now ≤ most_types }
     ensures { Puts result (with_action_of (keys_of types.now) (vocabulary_form vocabulary.now) tables.old (action_syntax_form syntax.now)) tables.new }
 {
     let name = name(alloc, syntax.name)?;
@@ -288,7 +289,7 @@ pub(crate) fn actions(
     vocabulary: &Vocabulary<'_>,
     declared: &[ActionSyntax<'_>],
 ) -> Result<ActionTables, ReadFault>
-    requires { length types.now ≤ 1025 }
+    requires { length types.now ≤ most_types }
     ensures { Gives (λ tables. tables) result (actions_from (keys_of types.now) (vocabulary_form vocabulary.now) no_actions (action_forms declared.now)) }
 {
     let mut tables = ActionTables {

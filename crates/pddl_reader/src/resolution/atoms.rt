@@ -1,6 +1,7 @@
 //! The patterns and the ground atoms that atoms stand for.
 
 ghost use Rattle.std.specs.Prelude.{◌≡◌, ◌≤◌, length, slice_get, true, Some};
+ghost use Rattle.strips_task.specs.WellFormed.{most_variables};
 ghost use Rattle.std.specs.Map.{values_of};
 ghost use Rattle.pddl_reader.specs.Declarations.{ground_of, pattern_of, takes_terms};
 ghost use Rattle.pddl_syntax.specs.Forms.{atom_form};
@@ -16,7 +17,7 @@ use pddl_syntax::{AtomSyntax, ReadFault};
 use std::alloc::Global;
 use strips_task::{Alternatives, Atom, NameTable, Pattern, Seq};
 
-/// The places of a predicate.
+/// The types of a predicate's arguments.
 #[tactic(auto, using(crate::proofs::AtomSteps::places_steps))]
 fn places_of(
     predicates: &NameTable<Seq<Alternatives>>,
@@ -71,7 +72,7 @@ pub(crate) fn pattern(
     parameters: &ActionParameters<'_>,
     syntax: &AtomSyntax<'_>,
 ) -> Result<Pattern, ReadFault>
-    requires { length parameters.now.names.items ≤ 32 }
+    requires { length parameters.now.names.items ≤ most_variables }
     ensures { Gives (λ pattern. pattern) result (pattern_of (known_form known.now) (parameters_form parameters.now) (atom_form syntax.now)) }
 {
     let pred = predicate_number(alloc, known.predicates, NO_GUESS, syntax)?;

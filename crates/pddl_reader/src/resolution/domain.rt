@@ -1,6 +1,7 @@
 //! Types, constants, predicates, functions and actions are declared one after another.
 
 ghost use Rattle.std.specs.Prelude.{◌≡◌, ◌≤◌, length, [], IfOk};
+ghost use Rattle.strips_task.specs.WellFormed.{most_objects, most_predicates, most_types};
 ghost use Rattle.std.specs.Map.{keys_of};
 ghost use Rattle.pddl_reader.specs.Domain.{domain_of, domain_with, functions_from, head_of, predicates_from, with_predicate};
 ghost use Rattle.pddl_reader.specs.DomainTables.{IsDomain};
@@ -9,7 +10,7 @@ ghost use Rattle.pddl_reader.specs.Problem.{domain_extended};
 ghost use Rattle.pddl_syntax.specs.Forms.{domain_syntax_form, name_groups, predicate_form, predicate_forms};
 ghost use Rattle.pddl_reader.specs.Parts.{part_items};
 ghost use Rattle.pddl_syntax.specs.Reading.{Gives, Puts};
-ghost use Rattle.pddl_reader.specs.Assembled.{domain_assembled, domain_joined};
+ghost use Rattle.pddl_reader.specs.Assembled.{domain_assembled};
 
 use crate::resolution::actions::{ActionTables, Predicates, actions};
 use crate::resolution::functions::functions;
@@ -20,23 +21,33 @@ use crate::resolution::types::{KnownTypes, types};
 use crate::resolution::variables::places;
 use crate::resolution::vocabulary::Vocabulary;
 use pddl_syntax::{Dialect, DomainSyntax, NameGroup, PredicateSyntax, ReadFault};
-use plan_cost::Increases;
 use std::alloc::Global;
 use std::marker::Model;
-use strips_task::{Action, Name, NameTable, Seed, Seq, TypeList};
+use strips_task::{Name, NameTable, Seed, TypeList};
 
 /// What a domain says: its name, types, constants, predicates, functions and actions, and the increases of each action. Contracts see the
 /// record of them.
 #[derive(Debug, Drop)]
 pub struct Domain {
+    pub(crate) head: Head,
+    pub(crate) tables: Tables,
+}
+
+/// What a domain declares before its predicates.
+#[derive(Debug, Drop)]
+pub(crate) struct Head {
     pub(crate) name: Name,
     pub(crate) types: NameTable<()>,
     pub(crate) parents: TypeList,
     pub(crate) objects: NameTable<u16>,
+}
+
+/// The tables of a domain's predicates, functions and actions.
+#[derive(Debug, Drop)]
+pub(crate) struct Tables {
     pub(crate) predicates: Predicates,
     pub(crate) functions: Predicates,
-    pub(crate) actions: NameTable<Action>,
-    pub(crate) increases: Seq<Increases>,
+    pub(crate) actions: ActionTables,
 }
 
 impl Model for Domain {
@@ -55,16 +66,17 @@ impl Domain {
     ghost use Rattle.pddl_reader.specs.Problem.{vocabulary_in};
     ghost use Rattle.pddl_reader.specs.Resolved.{vocabulary_form};
 
-    /// What the literals of a problem may speak of.
+    /// What the literals of a problem may name.
     pub(crate) fn vocabulary(&self) -> Vocabulary<'_>
         ensures known { vocabulary_form result ≡ vocabulary_in self.now }
         ensures kept { IsDomain self.now }
     {
+        let Domain { head, tables } = self;
         Vocabulary::new(
-            &self.parents,
-            &self.objects,
-            &self.predicates,
-            &self.functions,
+            &head.parents,
+            &head.objects,
+            &tables.predicates,
+            &tables.functions,
         )
     }
 }
@@ -77,9 +89,9 @@ fn declare_predicate(
     table: &mut Predicates,
     predicate: &PredicateSyntax<'_>,
 ) -> Result<(), ReadFault>
-    requires few { length types.now ≤ 1025 }
-    requires room { length table.old ≤ 4096 }
-    ensures within { length table.new ≤ 4096 }
+    requires few { length types.now ≤ most_types }
+    requires room { length table.old ≤ most_predicates }
+    ensures within { length table.new ≤ most_predicates }
     ensures given { Puts result (with_predicate (keys_of types.now) table.old (predicate_form predicate.now)) table.new }
 {
     let name = name(alloc, predicate.name)?;
@@ -97,8 +109,8 @@ fn predicates(
     types: &NameTable<()>,
     declared: &[PredicateSyntax<'_>],
 ) -> Result<Predicates, ReadFault>
-    requires { length types.now ≤ 1025 }
-    ensures within { IfOk result (λ table. length table ≤ 4096) }
+    requires { length types.now ≤ most_types }
+    ensures within { IfOk result (λ table. length table ≤ most_predicates) }
     ensures given { Gives (λ table. table) result (predicates_from (keys_of types.now) [] (predicate_forms declared.now)) }
 {
     let mut table = NameTable::new(alloc, types.seed());
@@ -108,23 +120,15 @@ fn predicates(
     Ok(table)
 }
 
-/// The tables of a domain's predicates, functions and actions.
-#[derive(Drop)]
-struct Tables {
-    predicates: Predicates,
-    functions: Predicates,
-    actions: ActionTables,
-}
-
-/// The tables that the sections of a domain stand for behind its types and constants.
+/// The tables of the sections that follow a domain's types and constants.
 #[tactic(auto, using(crate::proofs::DomainMeaning::domain_steps))]
 fn resolve_tables(
     alloc: Global,
     head: &Head,
     syntax: &DomainSyntax<'_>,
 ) -> Result<Tables, ReadFault>
-    requires types { length head.now.types ≤ 1025 }
-    requires objects { length head.now.objects ≤ 65535 }
+    requires types { length head.now.types ≤ most_types }
+    requires objects { length head.now.objects ≤ most_objects }
     ensures { Gives (domain_assembled head.now) result
         (domain_with (domain_syntax_form syntax.now) head.now
         (predicates_from (keys_of head.now.types) [] (predicate_forms (part_items syntax.now.sections.predicates)))
@@ -153,37 +157,7 @@ fn assemble(head: Head, tables: Tables) -> Domain
     requires { IsDomain (domain_assembled head tables) }
     ensures { result ≡ domain_assembled head tables }
 {
-    let Head {
-        name,
-        types,
-        parents,
-        objects,
-    } = head;
-    let Tables {
-        predicates,
-        functions,
-        actions,
-    } = tables;
-    let ActionTables { actions, increases } = actions;
-    Domain {
-        name,
-        types,
-        parents,
-        objects,
-        predicates,
-        functions,
-        actions,
-        increases,
-    }
-}
-
-/// What a domain declares before its predicates.
-#[derive(Drop)]
-pub(crate) struct Head {
-    name: Name,
-    types: NameTable<()>,
-    parents: TypeList,
-    objects: NameTable<u16>,
+    Domain { head, tables }
 }
 
 /// The name of a domain, its types and its constants.
@@ -225,72 +199,16 @@ pub(crate) fn resolve_domain(
     Ok(assemble(head, tables))
 }
 
-/// What a domain says beside its constants.
-#[derive(Drop)]
-pub(crate) struct Rest {
-    name: Name,
-    types: NameTable<()>,
-    parents: TypeList,
-    predicates: Predicates,
-    functions: Predicates,
-    actions: NameTable<Action>,
-    increases: Seq<Increases>,
-}
-
-/// The constants of a domain, and the rest of it.
-fn split(domain: Domain) -> (Rest, NameTable<u16>)
-    ensures value { domain_joined result.0 result.1 ≡ domain }
+/// The parts of a domain.
+fn split(domain: Domain) -> (Head, Tables)
+    ensures value { domain_assembled result.0 result.1 ≡ domain }
     ensures kept { IsDomain domain }
 {
-    let Domain {
-        name,
-        types,
-        parents,
-        objects,
-        predicates,
-        functions,
-        actions,
-        increases,
-    } = domain;
-    let rest = Rest {
-        name,
-        types,
-        parents,
-        predicates,
-        functions,
-        actions,
-        increases,
-    };
-    (rest, objects)
+    let Domain { head, tables } = domain;
+    (head, tables)
 }
 
-/// The domain of its objects and the rest of it.
-fn join(rest: Rest, objects: NameTable<u16>) -> Domain
-    requires { IsDomain (domain_joined rest objects) }
-    ensures { result ≡ domain_joined rest objects }
-{
-    let Rest {
-        name,
-        types,
-        parents,
-        predicates,
-        functions,
-        actions,
-        increases,
-    } = rest;
-    Domain {
-        name,
-        types,
-        parents,
-        objects,
-        predicates,
-        functions,
-        actions,
-        increases,
-    }
-}
-
-/// The domain with the objects of a problem behind its constants.
+/// The domain with the objects of a problem after its constants.
 pub(crate) fn extended(
     alloc: Global,
     domain: Domain,
@@ -298,7 +216,19 @@ pub(crate) fn extended(
 ) -> Result<Domain, ReadFault>
     ensures { Gives (λ domain. domain) result (domain_extended domain (name_groups groups.now)) }
 {
-    let (rest, objects) = split(domain);
-    let objects = more_objects(alloc, &rest.types, objects, groups)?;
-    Ok(join(rest, objects))
+    let (head, tables) = split(domain);
+    let Head {
+        name,
+        types,
+        parents,
+        objects,
+    } = head;
+    let objects = more_objects(alloc, &types, objects, groups)?;
+    let head = Head {
+        name,
+        types,
+        parents,
+        objects,
+    };
+    Ok(assemble(head, tables))
 }

@@ -1,6 +1,7 @@
-//! Functions are declared as predicates are; effects increase `total-cost` by their values.
+//! Functions are declared like predicates; effects increase `total-cost` by their values.
 
 ghost use Rattle.std.specs.Prelude.{◌≡◌, ◌<◌, ◌≤◌, length, [], IfOk, IfSome};
+ghost use Rattle.strips_task.specs.WellFormed.{most_predicates, most_types, most_variables};
 ghost use Rattle.std.specs.Map.{keys_of};
 ghost use Rattle.pddl_syntax.specs.Forms.{amount_form, predicate_form, predicate_forms, variable_groups};
 ghost use Rattle.pddl_syntax.specs.Reading.{Allows, Gives, Puts};
@@ -56,9 +57,9 @@ fn declare_function(
     table: &mut Predicates,
     function: &PredicateSyntax<'_>,
 ) -> Result<(), ReadFault>
-    requires few { length types.now ≤ 1025 }
-    requires room { length table.old ≤ 4096 }
-    ensures within { length table.new ≤ 4096 }
+    requires few { length types.now ≤ most_types }
+    requires room { length table.old ≤ most_predicates }
+    ensures within { length table.new ≤ most_predicates }
     ensures given { Puts result (with_function (keys_of types.now) table.old (predicate_form function.now)) table.new }
 {
     let name = name(alloc, function.name)?;
@@ -77,8 +78,8 @@ pub(crate) fn functions(
     types: &NameTable<()>,
     declared: &[PredicateSyntax<'_>],
 ) -> Result<Predicates, ReadFault>
-    requires { length types.now ≤ 1025 }
-    ensures within { IfOk result (λ table. length table ≤ 4096) }
+    requires { length types.now ≤ most_types }
+    ensures within { IfOk result (λ table. length table ≤ most_predicates) }
     ensures given { Gives (λ table. table) result (functions_from (keys_of types.now) [] (predicate_forms declared.now)) }
 {
     let mut table = NameTable::new(alloc, types.seed());
@@ -96,7 +97,7 @@ fn amount(
     parameters: &ActionParameters<'_>,
     syntax: &AmountSyntax<'_>,
 ) -> Result<Amount, ReadFault>
-    requires { length parameters.now.names.items ≤ 32 }
+    requires { length parameters.now.names.items ≤ most_variables }
     ensures { Gives (λ amount. amount) result (amount_meant (known_form functions.now) (parameters_form parameters.now) (amount_form syntax.now)) }
 {
     match syntax {
@@ -111,7 +112,7 @@ fn amount(
     }
 }
 
-/// Puts one more increase behind the others of an action.
+/// Appends an increase to those of an action.
 #[tactic(auto, using(crate::proofs::FunctionSteps::increase_steps))]
 pub(crate) fn put_increase(
     alloc: Global,
@@ -120,7 +121,7 @@ pub(crate) fn put_increase(
     increases: &mut Increases,
     increase: &IncreaseSyntax<'_>,
 ) -> Result<(), ReadFault>
-    requires { length parameters.now.names.items ≤ 32 }
+    requires { length parameters.now.names.items ≤ most_variables }
     ensures { Puts result (with_increase (vocabulary_form vocabulary.now) (parameters_form parameters.now) increases.old (amount_form increase.now.amount)) increases.new }
 {
     if increases.len() >= MOST_INCREASES {
@@ -141,7 +142,7 @@ pub(crate) fn costs(
     increases: Seq<Increases>,
     values: FunctionValues,
 ) -> Option<Costs>
-    requires { length functions.now ≤ 4096 }
+    requires { length functions.now ≤ most_predicates }
     ensures { result ≡ costs_of functions.now increases values }
 {
     match total_cost(functions) {

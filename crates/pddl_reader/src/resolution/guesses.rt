@@ -1,10 +1,10 @@
 //! Guesses at what the names of initial literals stand for.
 //!
-//! A problem may have hundreds of thousands of initial literals, over more names than the caches hold. Were each name looked up where its
-//! literal is resolved, each would be waited for. So literals are taken in batches: first their names are looked up by hints, one directly
-//! behind the other, so that the processor waits for several at once. The places of all hints are computed before the first is looked at, since the
-//! fewer instructions are between two looks, the more of them it waits for. What is found is a guess. Whoever resolves a literal compares each
-//! name with the guess and looks it up where they differ, so no answer depends on a guess.
+//! A problem may have hundreds of thousands of initial literals, over more names than the caches hold. If each name were looked up when its
+//! literal is resolved, the processor would wait for each one. So literals are taken in batches: first their names are looked up by hints, one
+//! right after the other, so that the processor waits for several at once. The slots of all hints are computed before the first is read: the
+//! fewer instructions there are between two reads, the more of them overlap. What is found is a guess. Whoever resolves a literal compares each
+//! name with the guess and looks it up if they differ, so no answer depends on a guess.
 
 use crate::resolution::hints::Hints;
 use crate::resolution::names::is_named;
@@ -13,13 +13,13 @@ use pddl_syntax::{AtomSyntax, LiteralSyntax, Word};
 use std::alloc::{AllocError, Global};
 use strips_task::{Alternatives, Atom, NameTable, Seq, ShortSeq};
 
-/// The guess of one who knows nothing: no entry has this number.
+/// No guess: no entry has this number.
 pub(crate) const NO_GUESS: u16 = u16::MAX;
 
-/// A place at which no hint is.
+/// A slot without a hint.
 const NO_PLACE: usize = usize::MAX;
 
-/// For how many terms of a literal there is a guess.
+/// How many terms of a literal are guessed.
 const MOST_TERMS: usize = 4;
 
 /// The numbers that the names of a literal may have.
@@ -27,7 +27,7 @@ const MOST_TERMS: usize = 4;
 pub(crate) struct Guess {
     pub(crate) predicate: u16,
     pub(crate) objects: [u16; MOST_TERMS],
-    /// Where the hints at the objects are.
+    /// The slots of the hints at the objects.
     places: [usize; MOST_TERMS],
 }
 
@@ -50,7 +50,7 @@ pub(crate) fn guess_at(guesses: &[u16], term: usize) -> u16 {
     }
 }
 
-/// The guess at the names of a literal of a batch.
+/// The guess at the names of a literal, by its index in a batch.
 pub(crate) fn guess_of(guesses: &[Guess], place: usize) -> Guess {
     match guesses.get(place) {
         Some(guess) => *guess,
@@ -58,7 +58,7 @@ pub(crate) fn guess_of(guesses: &[Guess], place: usize) -> Guess {
     }
 }
 
-/// A guess at the predicate that a word names: mostly it is that of the literal before.
+/// A guess at the predicate that a word names: usually it is that of the literal before.
 fn predicate_guess(predicates: &NameTable<Seq<Alternatives>>, last: u16, word: &[u8]) -> u16 {
     if is_named(predicates, usize::from(last), word) {
         return last;
@@ -69,7 +69,7 @@ fn predicate_guess(predicates: &NameTable<Seq<Alternatives>>, last: u16, word: &
     }
 }
 
-/// The places of the hints at the objects that words name.
+/// The slots of the hints at the objects that words name.
 fn hint_places(hints: &Hints, words: &[Word<'_>]) -> [usize; MOST_TERMS] {
     let mut places = [NO_PLACE; MOST_TERMS];
     'terms: for (place, word) in places.iter_mut().zip(words) {
@@ -78,7 +78,8 @@ fn hint_places(hints: &Hints, words: &[Word<'_>]) -> [usize; MOST_TERMS] {
     places
 }
 
-/// A guess at the names of an atom, behind one with a predicate. Of its objects there are only the places of the hints.
+/// A guess at the names of an atom that follows one with the predicate `last`. Its objects are not guessed yet; only the slots of their hints
+/// are known.
 fn atom_guess(known: &Declared<'_>, hints: &Hints, last: u16, atom: &AtomSyntax<'_>) -> Guess {
     Guess {
         predicate: predicate_guess(known.predicates, last, atom.predicate.text),
@@ -87,7 +88,7 @@ fn atom_guess(known: &Declared<'_>, hints: &Hints, last: u16, atom: &AtomSyntax<
     }
 }
 
-/// A guess at the names of a literal, behind one with a predicate.
+/// A guess at the names of a literal that follows one with the predicate `last`.
 fn literal_guess(
     known: &Declared<'_>,
     hints: &Hints,
@@ -102,7 +103,7 @@ fn literal_guess(
     }
 }
 
-/// Guesses at the names of literals, one for each. Of their objects there are only the places of the hints.
+/// Guesses at the names of literals, one for each. Of their objects only the slots of the hints are known.
 fn placed(
     alloc: Global,
     known: &Declared<'_>,
@@ -119,7 +120,7 @@ fn placed(
     Ok(guesses)
 }
 
-/// Looks at all hints.
+/// Reads all hints.
 fn hint_all(hints: &Hints, guesses: &mut [Guess]) {
     'guesses: for guess in guesses {
         let [first, second, third, fourth] = guess.places;
@@ -132,7 +133,7 @@ fn hint_all(hints: &Hints, guesses: &mut [Guess]) {
     }
 }
 
-/// The length of an object's name and the number of its type, added up, or zero where no object has the number.
+/// The sum of the length of an object's name and the number of its type, or zero if no object has the number.
 fn object_bytes(objects: &NameTable<u16>, number: u16) -> usize {
     let number = usize::from(number);
     if number >= objects.len() {
@@ -149,8 +150,8 @@ fn guess_bytes(objects: &NameTable<u16>, guess: &Guess) -> usize {
     })
 }
 
-/// The same for the objects of all literals, one directly behind the other. Nothing waits for what is looked at, so that the processor waits for many
-/// objects at a time. Whoever compares their names afterwards finds them at hand.
+/// The same for the objects of all literals, one right after the other. No read waits for the one before, so the processor reads many objects
+/// at a time, and they are in the cache when their names are compared.
 fn hinted_bytes(objects: &NameTable<u16>, guesses: &[Guess]) -> usize {
     let mut total: usize = 0;
     'guesses: for guess in guesses {
@@ -159,7 +160,7 @@ fn hinted_bytes(objects: &NameTable<u16>, guesses: &[Guess]) -> usize {
     total
 }
 
-/// The number of the object that a word names as it is written, where the first hint is wrong, or no guess.
+/// The number of the object that a word names as it is written, if the first hint is wrong, or no guess.
 fn second_guess(objects: &NameTable<u16>, second: u16, word: &[u8]) -> u16 {
     if is_named(objects, usize::from(second), word) {
         return second;
@@ -170,7 +171,7 @@ fn second_guess(objects: &NameTable<u16>, second: u16, word: &[u8]) -> u16 {
     }
 }
 
-/// Compares the names of the objects that are hinted at, and finds the others.
+/// Compares the names of the hinted objects with the words, and looks up those that differ.
 fn mend(objects: &NameTable<u16>, hints: &Hints, guess: &mut Guess, words: &[Word<'_>]) {
     'terms: for (index, word) in words.iter().enumerate().take(MOST_TERMS) {
         if !is_named(objects, usize::from(guess.objects[index]), word.text) {
@@ -194,7 +195,7 @@ fn mend_all(
     }
 }
 
-/// Guesses at the names of literals, one for each. Where no object is hinted at, none is looked for.
+/// Guesses at the names of literals, one for each. If no hint names an object, none is looked up.
 pub(crate) fn guesses(
     alloc: Global,
     known: &Declared<'_>,
@@ -209,7 +210,7 @@ pub(crate) fn guesses(
     Ok(guesses)
 }
 
-/// The atom that a literal stands for where its guess is right. It has the first four terms at most.
+/// The atom that a literal stands for if its guess is right, with its first four terms at most.
 fn atom_guessed(
     alloc: Global,
     guess: &Guess,
@@ -225,7 +226,7 @@ fn atom_guessed(
     })
 }
 
-/// The atoms that literals stand for where their guesses are right, one for each.
+/// The atoms that literals stand for if their guesses are right, one for each.
 pub(crate) fn atoms_guessed(
     alloc: Global,
     guesses: &[Guess],

@@ -1,9 +1,8 @@
 //! Hints at which object has a name, by a hash of the name.
 //!
-//! The table of objects finds a name by two looks at memory, of which the second waits for the first, and compares it. A hint is one look at
-//! a table that is a tenth of that size, and compares nothing. So hints of many names can be taken at once, and then the objects be looked
-//! at, all at once too. Each word has two places side by side: where an object has the first already, another goes to the second, and of those
-//! that go there only the last has its hint.
+//! The table of objects finds a name with two reads, the second of which waits for the first, and then compares it. A hint takes one read from a
+//! table a tenth of that size, and no comparison. So the hints of many names can be read at once, and then their objects, all at once too.
+//! Each word has two slots side by side: if the first is taken, the hint goes to the second, and replaces the one that is there.
 
 use crate::resolution::guesses::NO_GUESS;
 use std::alloc::{AllocError, Global};
@@ -19,7 +18,7 @@ pub(crate) struct Hints {
     numbers: Vec<u16>,
 }
 
-/// How many hints there are for so many objects: several for each, so that few names share one.
+/// How many hints there are for `objects` objects: several for each, so that few names share one.
 fn hints_for(objects: usize) -> usize {
     if objects <= 1_000 {
         4_096
@@ -45,14 +44,14 @@ impl Hints {
         Ok(hints)
     }
 
-    /// The first place of the hint for a word.
+    /// The first slot for a word.
     pub(crate) fn place(&self, word: &[u8]) -> usize {
         let mut hasher = self.seed.build_hasher();
         hasher.write(word);
         hasher.finish() as usize & self.mask
     }
 
-    /// The hint at a place.
+    /// The hint in a slot.
     pub(crate) fn at(&self, place: usize) -> u16 {
         match self.numbers.as_slice().get(place) {
             Some(number) => *number,
@@ -60,12 +59,12 @@ impl Hints {
         }
     }
 
-    /// The hint at the second place for a word that has this one for its first.
+    /// The hint in the second slot of a word, of which this is the first.
     pub(crate) fn beside(&self, place: usize) -> u16 {
         self.at(place ^ 1)
     }
 
-    /// The place for a new hint: the second if the first is taken.
+    /// The slot for a new hint: the second if the first is taken.
     fn place_for(&self, word: &[u8]) -> usize {
         let place = self.place(word);
         if self.at(place) == NO_GUESS {

@@ -25,7 +25,7 @@ use strips_task::InitialAtoms;
 /// How many literals are read before their names are looked up.
 const BATCH: usize = 32;
 
-/// For how many bytes of a problem one initial atom is expected. Many problems have one for 20 to 40 bytes.
+/// One initial atom is expected for this many bytes of a problem. Many problems have one for every 20 to 40 bytes.
 const BYTES_FOR_AN_ATOM: usize = 32;
 
 /// The initial atoms, and the values of functions.
@@ -35,7 +35,7 @@ pub(crate) struct InitialState {
     pub(crate) values: FunctionValues,
 }
 
-/// Puts an initial atom behind the others. One that is negated is looked up and not kept.
+/// Appends an initial atom. A negated one is looked up but not kept.
 #[tactic(auto, using(crate::proofs::InitialSteps::atom_steps))]
 fn put_atom(
     alloc: Global,
@@ -72,7 +72,7 @@ fn put_value(
     }
 }
 
-/// Puts what an initial literal gives to the rest.
+/// Adds what an initial literal gives.
 #[tactic(auto, using(crate::proofs::InitialSteps::literal_steps))]
 fn put_initial(
     alloc: Global,
@@ -100,7 +100,7 @@ fn put_initial(
     }
 }
 
-/// Puts what initial literals give to the rest, in their order.
+/// Adds what initial literals give, in their order.
 #[tactic(auto, using(crate::proofs::Through::through_steps, crate::proofs::BatchSteps::form_steps))]
 fn put_guessed(
     alloc: Global,
@@ -118,7 +118,7 @@ fn put_guessed(
     Ok(())
 }
 
-/// Looks for the atoms that literals stand for where the guesses are right, and makes room for those that are new.
+/// Looks up the atoms that literals stand for if the guesses are right, and makes room for the new ones.
 fn make_ready(
     alloc: Global,
     atoms: &mut InitialAtoms,
@@ -133,7 +133,7 @@ fn make_ready(
     Ok(())
 }
 
-/// Puts what initial literals give to the rest, once their names are guessed.
+/// Guesses the names of initial literals, and adds what the literals give.
 fn put_batch(
     alloc: Global,
     vocabulary: &Vocabulary<'_>,
@@ -148,7 +148,7 @@ fn put_batch(
     put_guessed(alloc, vocabulary, state, guesses.as_slice(), literals)
 }
 
-/// A literal with those that come behind it, up to a batch.
+/// A literal with those that follow it, up to a batch.
 #[tactic(auto, using(crate::proofs::BatchSteps::batch_steps))]
 fn batch_from<'a>(
     alloc: Global,
@@ -169,7 +169,7 @@ fn batch_from<'a>(
     Ok(batch)
 }
 
-/// What the initial literals of a problem of so many bytes give. No answer depends on the size.
+/// What the initial literals of a problem of `size` bytes give. No answer depends on the size.
 #[tactic(auto, using(crate::proofs::Through::through_steps, crate::proofs::InitialSteps::initial_steps, crate::proofs::BatchSteps::through_append))]
 pub(crate) fn initial(
     alloc: Global,

@@ -1,4 +1,4 @@
-//! The fault of a literal that may not stand at its place.
+//! The fault of a literal that may not appear where it is.
 
 ghost use Rattle.std.specs.Prelude.{◌≢◌};
 ghost use Rattle.pddl_syntax.specs.declared.fault.FaultKind.TheVariants.{OutOfMemory};
@@ -6,7 +6,7 @@ ghost use Rattle.pddl_syntax.specs.declared.fault.FaultKind.TheVariants.{OutOfMe
 use pddl_syntax::{FaultKind, ReadFault};
 use pddl_tokens::Span;
 
-/// The fault of a literal that may not stand at its place. The grammar has none there.
+/// The fault of a literal that may not appear where it is. The grammar lets none through.
 pub(crate) fn unsupported(span: Span) -> ReadFault
     ensures { result.kind ≢ OutOfMemory }
 {

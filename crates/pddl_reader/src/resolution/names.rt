@@ -1,6 +1,7 @@
 //! Names are declared in tables, and found there.
 
 ghost use Rattle.std.specs.Prelude.{◌≡◌, ◌<◌, ◌≤◌, length, IsTrue, IfOk, IfSome, Some};
+ghost use Rattle.strips_task.specs.WellFormed.{most_predicates};
 ghost use Rattle.std.specs.Str.{bytes_eq};
 ghost use Rattle.pddl_words.specs.Words.{folded};
 ghost use Rattle.strips_task.specs.Names.{number_named};
@@ -10,10 +11,7 @@ ghost use Rattle.pddl_syntax.specs.Reading.{Allows, Gives, GivesOption, ReadsNam
 
 use pddl_syntax::{AtomSyntax, FaultKind, NameWord, ReadFault};
 use std::alloc::Global;
-use strips_task::{Alternatives, Name, NameTable, Seq};
-
-/// How many predicates there may be, and how many actions.
-pub(crate) const MOST_DECLARED: usize = 4096;
+use strips_task::{Alternatives, MOST_PREDICATES, Name, NameTable, Seq};
 
 /// The name that a word stands for.
 pub(crate) fn name(alloc: Global, word: NameWord<'_>) -> Result<Name, ReadFault>
@@ -22,7 +20,7 @@ pub(crate) fn name(alloc: Global, word: NameWord<'_>) -> Result<Name, ReadFault>
     Ok(Name::from_word(alloc, word.text)?)
 }
 
-/// The number of the entry that a word names. A word that stands as the entry does, in lower case, takes one hash and no memory.
+/// The number of the entry that a word names. A word that is written like the entry, in lower case, takes one hash and no memory.
 #[tactic(auto, using(crate::proofs::TableSteps::named_as_written))]
 pub(crate) fn number_of<V>(
     alloc: Global,
@@ -41,7 +39,7 @@ pub(crate) fn number_of<V>(
     Ok(table.number_of(folded.as_slice()))
 }
 
-/// Whether the entry with a number, if there is one, has a word for its name, which stands in lower case.
+/// Whether there is an entry with a number whose name is exactly this word, which is then in lower case.
 #[tactic(auto, using(crate::proofs::NamedEntries::named_steps))]
 pub(crate) fn is_named<V>(table: &NameTable<V>, number: usize, word: &[u8]) -> bool
     ensures named { IsTrue result → number_named table.now (folded word.now) ≡ Some number }
@@ -53,7 +51,7 @@ pub(crate) fn is_named<V>(table: &NameTable<V>, number: usize, word: &[u8]) -> b
     table.get(number).0.as_bytes() == word
 }
 
-/// The number of the entry that a word names, as by `number_of`. Where the guess is right it takes one comparison and no hash.
+/// The number of the entry that a word names, as by `number_of`. If the guess is right, it takes one comparison and no hash.
 pub(crate) fn number_near<V>(
     alloc: Global,
     table: &NameTable<V>,
@@ -76,25 +74,26 @@ pub(crate) fn is_same_name(one: &Name, other: &Name) -> bool
     one == other
 }
 
-/// Tests that one more name may be declared in the table.
+/// Tests that one more predicate, function or action may be declared under a name. There may be as many functions, and as many actions, as
+/// predicates.
 #[tactic(auto, using(crate::proofs::TableSteps::may_steps))]
 pub(crate) fn check_new<V>(
     table: &NameTable<V>,
     name: &Name,
     word: NameWord<'_>,
 ) -> Result<(), ReadFault>
-    ensures { Allows result (may_declare 4096 table.now name.now) }
+    ensures { Allows result (may_declare most_predicates table.now name.now) }
 {
     if table.number_of(name.as_bytes()).is_some() {
         return Err(ReadFault::new(FaultKind::Repeated, word.span));
     }
-    if table.len() >= MOST_DECLARED {
+    if table.len() >= MOST_PREDICATES {
         return Err(ReadFault::new(FaultKind::TooMany, word.span));
     }
     Ok(())
 }
 
-/// Whether the predicate with a number takes so many terms.
+/// Whether the predicate with a number takes `count` terms.
 #[tactic(auto, using(crate::proofs::TableSteps::places_counted))]
 fn takes_terms(predicates: &NameTable<Seq<Alternatives>>, number: usize, count: usize) -> bool
     requires { number < length predicates.now }
@@ -111,7 +110,7 @@ pub(crate) fn predicate_number(
     guess: u16,
     atom: &AtomSyntax<'_>,
 ) -> Result<u16, ReadFault>
-    requires { length predicates.now ≤ 4096 }
+    requires { length predicates.now ≤ most_predicates }
     ensures { Gives (λ number. number) result (predicate_number predicates.now (atom_form atom.now)) }
 {
     let word = atom.predicate;

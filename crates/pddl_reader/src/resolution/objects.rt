@@ -1,6 +1,7 @@
 //! Constants and objects are declared with their types.
 
 ghost use Rattle.std.specs.Prelude.{◌≡◌, ◌<◌, ◌≤◌, length, None, IfSome};
+ghost use Rattle.strips_task.specs.WellFormed.{most_types};
 ghost use Rattle.std.specs.Map.{keys_of};
 ghost use Rattle.pddl_syntax.specs.Forms.{name_forms, name_group_form, name_groups};
 ghost use Rattle.pddl_reader.specs.Objects.{object_declared, objects_from, objects_grouped, type_number};
@@ -10,12 +11,9 @@ ghost use Rattle.pddl_syntax.specs.Reading.{Gives, GivesOption, Puts};
 use crate::resolution::names::{name, number_of};
 use pddl_syntax::{FaultKind, NameGroup, NameWord, ReadFault};
 use std::alloc::Global;
-use strips_task::NameTable;
+use strips_task::{MOST_OBJECTS, NameTable};
 
-/// How many objects there may be.
-const MOST_OBJECTS: usize = 65535;
-
-/// A number that no type has. Objects of an unknown type are looked at under it, since a fault of theirs stands before that of the
+/// A number that no type has. Objects of an unknown type are declared with it first, since a fault of theirs is reported before that of the
 /// type's name.
 const NO_TYPE: u16 = u16::MAX;
 
@@ -26,7 +24,7 @@ pub(crate) fn type_number(
     types: &NameTable<()>,
     word: NameWord<'_>,
 ) -> Result<Option<u16>, ReadFault>
-    requires { length types.now ≤ 1025 }
+    requires { length types.now ≤ most_types }
     ensures { GivesOption result (type_number (keys_of types.now) word.entry.text.now) }
 {
     match number_of(alloc, types, word.text)? {
@@ -83,7 +81,7 @@ fn declare_group(
     objects: &mut NameTable<u16>,
     group: &NameGroup<'_>,
 ) -> Result<(), ReadFault>
-    requires { length types.now ≤ 1025 }
+    requires { length types.now ≤ most_types }
     ensures { Puts result (objects_grouped (keys_of types.now) objects.old (name_group_form group.now)) objects.new }
 {
     match type_number(alloc, types, group.kind)? {
@@ -95,7 +93,7 @@ fn declare_group(
     }
 }
 
-/// Declares the objects of all groups, behind those that are declared already.
+/// Declares the objects of all groups, after those that are declared already.
 #[tactic(auto, using(crate::proofs::Through::through_steps, crate::proofs::ObjectSteps::groups_steps))]
 fn declare_groups(
     alloc: Global,
@@ -103,7 +101,7 @@ fn declare_groups(
     objects: &mut NameTable<u16>,
     groups: &[NameGroup<'_>],
 ) -> Result<(), ReadFault>
-    requires { length types.now ≤ 1025 }
+    requires { length types.now ≤ most_types }
     ensures { Puts result (objects_from (keys_of types.now) objects.old (name_groups groups.now)) objects.new }
 {
     'groups: for group in groups {
@@ -112,14 +110,14 @@ fn declare_groups(
     Ok(())
 }
 
-/// The objects with those of all groups behind them. Where one is refused, all are dropped.
+/// The objects, followed by those of all groups. If one is refused, all are dropped.
 pub(crate) fn more_objects(
     alloc: Global,
     types: &NameTable<()>,
     objects: NameTable<u16>,
     groups: &[NameGroup<'_>],
 ) -> Result<NameTable<u16>, ReadFault>
-    requires { length types.now ≤ 1025 }
+    requires { length types.now ≤ most_types }
     ensures { Gives (λ objects. objects) result (objects_from (keys_of types.now) objects (name_groups groups.now)) }
 {
     let mut objects = objects;

@@ -1,4 +1,4 @@
-//! Objects are declared behind the constants of a domain; then initial literals and the goal are looked up in its tables.
+//! Objects are declared after the constants of a domain; then initial literals and the goal are looked up in its tables.
 
 ghost use Rattle.std.specs.Prelude.{◌≡◌, ◌≤◌, length, IfOk, Some};
 ghost use Rattle.pddl_reader.specs.Resolved.{known_form};
@@ -6,11 +6,12 @@ ghost use Rattle.pddl_syntax.specs.Forms.{literal_form, problem_syntax_form};
 ghost use Rattle.pddl_reader.specs.Declarations.{object_number};
 ghost use Rattle.pddl_reader.specs.Problem.{ground_equality_by, ground_condition_of, ground_conditions_of, problem_of, problem_within};
 ghost use Rattle.pddl_syntax.specs.Reading.{Gives};
-ghost use Rattle.strips_task.specs.WellFormed.{IsWellFormed};
+ghost use Rattle.strips_task.specs.WellFormed.{IsWellFormed, most_predicates};
 ghost use Rattle.pddl_reader.specs.Assembled.{costed_assembled, task_assembled};
 
+use crate::resolution::actions::ActionTables;
 use crate::resolution::atoms::ground_atom;
-use crate::resolution::domain::{Domain, extended};
+use crate::resolution::domain::{Domain, Head, Tables, extended};
 use crate::resolution::functions::costs;
 use crate::resolution::initial::{InitialState, initial};
 use crate::resolution::literals::unsupported;
@@ -80,7 +81,7 @@ fn ground_conditions(
     Ok(conditions)
 }
 
-/// What a problem gives of a task.
+/// What a problem gives besides its objects: its name, the initial state and the goal.
 #[derive(Drop)]
 struct Given {
     problem: Name,
@@ -91,19 +92,22 @@ struct Given {
 /// The task of these parts, with what it says about costs.
 fn assemble(domain: Domain, given: Given) -> CostedTask
     requires well_formed { IsWellFormed (task_assembled domain given) }
-    requires few_functions { length domain.functions ≤ 4096 }
+    requires few_functions { length domain.functions ≤ most_predicates }
     ensures { result ≡ costed_assembled domain given }
 {
-    let Domain {
+    let Domain { head, tables } = domain;
+    let Head {
         name,
         types: _,
         parents,
         objects,
+    } = head;
+    let Tables {
         predicates,
         functions,
         actions,
-        increases,
-    } = domain;
+    } = tables;
+    let ActionTables { actions, increases } = actions;
     let Given {
         problem,
         init,
@@ -126,7 +130,7 @@ fn assemble(domain: Domain, given: Given) -> CostedTask
     }
 }
 
-/// What the syntax of a problem of so many bytes stands for beside a domain.
+/// What the syntax of a problem of `size` bytes stands for, given its domain.
 #[tactic(auto, using(crate::proofs::ProblemMeaning::problem_steps))]
 fn resolve_given(
     alloc: Global,
@@ -136,7 +140,7 @@ fn resolve_given(
 ) -> Result<Given, ReadFault>
     ensures meaning { Gives (costed_assembled domain.now) result (problem_within (problem_syntax_form syntax.now) (Some domain.now)) }
     ensures well_formed { IfOk result (λ given. IsWellFormed (task_assembled domain.now given)) }
-    ensures few_functions { length domain.now.functions ≤ 4096 }
+    ensures few_functions { length domain.now.functions ≤ most_predicates }
 {
     let vocabulary = domain.vocabulary();
     let init = initial(alloc, &vocabulary, part_literals(&syntax.init), size)?;
@@ -149,7 +153,7 @@ fn resolve_given(
     })
 }
 
-/// The task that a domain and the syntax of a problem of so many bytes stand for. Where it refuses, the domain is dropped.
+/// The task that a domain and the syntax of a problem of `size` bytes stand for. If the problem is refused, the domain is dropped.
 #[tactic(auto, using(crate::proofs::ProblemMeaning::extended_steps))]
 pub(crate) fn resolve_problem(
     alloc: Global,

@@ -1,17 +1,18 @@
 //! The tables in which the names of atoms are looked up.
 
 ghost use Rattle.std.specs.Prelude.{◌≡◌, ◌≤◌, length};
+ghost use Rattle.strips_task.specs.WellFormed.{most_objects, most_predicates};
 
 use strips_task::{Alternatives, NameTable, Seq, TypeList};
 
-/// What atoms may speak of: types with their order, objects and predicates.
+/// What atoms may name: types with their order, objects and predicates.
 #[derive(Clone, Copy)]
 pub(crate) struct Declared<'d> {
     pub(crate) parents: &'d TypeList,
     pub(crate) objects: &'d NameTable<u16>,
     pub(crate) predicates: &'d NameTable<Seq<Alternatives>>,
-    ghost few_objects: { length objects.now ≤ 65535 },
-    ghost few_predicates: { length predicates.now ≤ 4096 },
+    ghost few_objects: { length objects.now ≤ most_objects },
+    ghost few_predicates: { length predicates.now ≤ most_predicates },
 }
 
 impl<'d> Declared<'d> {
@@ -21,8 +22,8 @@ impl<'d> Declared<'d> {
         objects: &'d NameTable<u16>,
         predicates: &'d NameTable<Seq<Alternatives>>,
     ) -> Self
-        requires few_objects { length objects.now ≤ 65535 }
-        requires few_predicates { length predicates.now ≤ 4096 }
+        requires few_objects { length objects.now ≤ most_objects }
+        requires few_predicates { length predicates.now ≤ most_predicates }
         ensures parents { result.parents.now ≡ parents.now }
         ensures objects { result.objects.now ≡ objects.now }
         ensures predicates { result.predicates.now ≡ predicates.now }

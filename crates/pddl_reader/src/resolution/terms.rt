@@ -1,8 +1,8 @@
-//! Terms are looked up, and tested against the places where they stand.
+//! Terms are looked up, and checked against the types of a predicate's arguments.
 
 ghost use Rattle.std.specs.Prelude.{◌≡◌, ◌<◌, ◌≤◌, length, IfOk, IfSome};
-ghost use Rattle.strips_task.specs.WellFormed.{is_fitting};
-ghost use Rattle.pddl_reader.specs.Declarations.{fitted_all, object_in_place, object_number, term_in_place, term_named, types_of_term};
+ghost use Rattle.strips_task.specs.WellFormed.{most_objects, most_variables};
+ghost use Rattle.pddl_reader.specs.Declarations.{fitted_all, object_in_place, object_number, term_in_place, term_named};
 ghost use Rattle.pddl_syntax.specs.Forms.{word_forms};
 ghost use Rattle.pddl_syntax.specs.Reading.{Gives, GivesOption};
 ghost use Rattle.pddl_reader.specs.Resolved.{known_form, parameters_form};
@@ -13,24 +13,7 @@ use crate::resolution::tables::Declared;
 use crate::resolution::variables::{ActionParameters, parameter_number};
 use pddl_syntax::{FaultKind, ReadFault, Word, is_variable};
 use std::alloc::Global;
-use strips_task::{Alternatives, NameTable, ShortSeq, Term};
-
-/// Whether a term is a parameter or an object that fits a place for these types.
-#[tactic(auto, using(crate::proofs::TermSteps::fitting_steps))]
-fn term_fits(known: &Declared<'_>, params: &[Alternatives], term: Term, place: &[u16]) -> bool
-    ensures { result ≡ is_fitting known.now.parents.now (types_of_term (known_form known.now) params.now term) place.now }
-{
-    match term {
-        Term::Param(number) => match params.get(usize::from(number)) {
-            Some(types) => known.parents.are_below(types.as_slice(), place),
-            None => false,
-        },
-        Term::Object(number) => match known.objects.value(usize::from(number)) {
-            Some(kind) => known.parents.are_below(&[*kind], place),
-            None => false,
-        },
-    }
-}
+use strips_task::{Alternatives, NameTable, ShortSeq, Term, object_fits, term_fits};
 
 /// The number of the object that a word names, which may be guessed.
 #[tactic(auto, using(crate::proofs::TermSteps::object_steps))]
@@ -40,7 +23,7 @@ fn object_number(
     guess: u16,
     word: Word<'_>,
 ) -> Result<Option<u16>, ReadFault>
-    requires { length objects.now ≤ 65535 }
+    requires { length objects.now ≤ most_objects }
     ensures { GivesOption result (object_number objects.now word.entry.text.now) }
 {
     match number_near(alloc, objects, usize::from(guess), word.text)? {
@@ -72,7 +55,7 @@ pub(crate) fn object(alloc: Global, known: &Declared<'_>, word: Word<'_>) -> Res
     object_near(alloc, known, NO_GUESS, word)
 }
 
-/// The object that a word names, where it fits its place. It may be guessed.
+/// The object that a word names, if it fits its argument. It may be guessed.
 #[tactic(auto, using(crate::proofs::TermSteps::object_place_steps))]
 fn object_in_place(
     alloc: Global,
@@ -84,13 +67,13 @@ fn object_in_place(
     ensures { Gives (λ number. number) result (object_in_place (known_form known.now) place.now word.entry.text.now) }
 {
     let number = object_near(alloc, known, guess, word)?;
-    if !term_fits(known, &[], Term::Object(number), place) {
+    if !object_fits(known.parents, known.objects, number, place) {
         return Err(ReadFault::new(FaultKind::WrongType, word.span));
     }
     Ok(number)
 }
 
-/// The objects that words name, where each fits its place. The first of them may be guessed.
+/// The objects that words name, if each fits its argument. The first of them may be guessed.
 #[tactic(auto, using(crate::proofs::TermSteps::fitted_steps))]
 pub(crate) fn objects_in_places(
     alloc: Global,
@@ -119,7 +102,7 @@ pub(crate) fn term(
     parameters: &ActionParameters<'_>,
     word: Word<'_>,
 ) -> Result<Term, ReadFault>
-    requires { length parameters.now.names.items ≤ 32 }
+    requires { length parameters.now.names.items ≤ most_variables }
     ensures { Gives (λ term. term) result (term_named (known_form known.now) (parameters_form parameters.now) word.entry.text.now) }
 {
     if !is_variable(word.text) {
@@ -131,7 +114,7 @@ pub(crate) fn term(
     }
 }
 
-/// The term that a word stands for in an action, where it fits its place.
+/// The term that a word stands for in an action, if it fits its argument.
 #[tactic(auto, using(crate::proofs::TermSteps::term_place_steps))]
 fn term_in_place(
     alloc: Global,
@@ -140,17 +123,23 @@ fn term_in_place(
     place: &[u16],
     word: Word<'_>,
 ) -> Result<Term, ReadFault>
-    requires { length parameters.now.names.items ≤ 32 }
+    requires { length parameters.now.names.items ≤ most_variables }
     ensures { Gives (λ term. term) result (term_in_place (known_form known.now) (parameters_form parameters.now) place.now word.entry.text.now) }
 {
     let found = term(alloc, known, parameters, word)?;
-    if !term_fits(known, parameters.types.as_slice(), found, place) {
+    if !term_fits(
+        known.parents,
+        known.objects,
+        parameters.types.as_slice(),
+        found,
+        place,
+    ) {
         return Err(ReadFault::new(FaultKind::WrongType, word.span));
     }
     Ok(found)
 }
 
-/// The terms that words stand for in an action, where each fits its place.
+/// The terms that words stand for in an action, if each fits its argument.
 #[tactic(auto, using(crate::proofs::TermSteps::fitted_steps))]
 pub(crate) fn terms_in_places(
     alloc: Global,
@@ -159,7 +148,7 @@ pub(crate) fn terms_in_places(
     places: &[Alternatives],
     words: &[Word<'_>],
 ) -> Result<ShortSeq<Term>, ReadFault>
-    requires few { length parameters.now.names.items ≤ 32 }
+    requires few { length parameters.now.names.items ≤ most_variables }
     requires as_many { length places.now ≡ length words.now }
     ensures { Gives (λ terms. terms) result (fitted_all (term_in_place (known_form known.now) (parameters_form parameters.now)) places.now (word_forms words.now)) }
 {

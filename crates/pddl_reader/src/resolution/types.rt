@@ -1,6 +1,7 @@
 //! Types are numbered in text order, declared under their parents, and ordered as a tree below `object`.
 
 ghost use Rattle.std.specs.Prelude.{◌≡◌, ◌≢◌, ◌<◌, ◌≤◌, length, IfOk, Some};
+ghost use Rattle.strips_task.specs.WellFormed.{most_types};
 ghost use Rattle.std.specs.List.{list_any};
 ghost use Rattle.pddl_words.specs.Words.{folded};
 ghost use Rattle.pddl_syntax.specs.Forms.{name_forms, name_group_form, name_groups};
@@ -13,10 +14,7 @@ ghost use Rattle.pddl_reader.specs.TypeCycles.{declares_cycle, is_under_itself, 
 use crate::resolution::names::{is_same_name, name, number_of};
 use pddl_syntax::{Dialect, FaultKind, NameGroup, NameWord, ReadFault};
 use std::alloc::{AllocError, Global};
-use strips_task::{Name, NameTable, Seed, TypeList};
-
-/// How many types there may be, `object` among them.
-const MOST_TYPES: usize = 1025;
+use strips_task::{MOST_TYPES, Name, NameTable, Seed, TypeList};
 
 /// The names of the types by their numbers, and the name of the parent of each that is declared.
 #[derive(Drop)]
@@ -25,7 +23,7 @@ pub(crate) struct TypeTables {
     pub(crate) parents: NameTable<Name>,
 }
 
-/// Numbers a type where its name stands first.
+/// Numbers a type where its name first appears.
 #[tactic(auto, using(crate::proofs::TypeSteps::number_steps))]
 fn number(alloc: Global, names: &mut NameTable<()>, word: NameWord<'_>) -> Result<(), ReadFault>
     ensures { Puts result (numbered names.old (folded word.entry.text.now)) names.new }
@@ -41,7 +39,7 @@ fn number(alloc: Global, names: &mut NameTable<()>, word: NameWord<'_>) -> Resul
     Ok(())
 }
 
-/// The fault of a type that is declared under a second parent: `object` stands under no type but itself.
+/// The fault of a type that is declared under a second parent. For `object`, which is its own parent, it is a cycle.
 fn parent_fault(name: &Name, word: NameWord<'_>) -> ReadFault
     ensures { result.kind ≢ FaultKind.OutOfMemory }
 {
@@ -164,7 +162,7 @@ fn declare_groups(
     Ok(())
 }
 
-/// The name of the parent of a type: `object` where the type is not declared.
+/// The name of the parent of a type: `object` if the type is not declared.
 #[tactic(auto, using(crate::proofs::TypeSteps::parent_steps))]
 fn parent_name<'t>(parents: &'t NameTable<Name>, name: &Name) -> &'t [u8]
     ensures { result.now ≡ parent_name parents.now name.now }
@@ -178,7 +176,7 @@ fn parent_name<'t>(parents: &'t NameTable<Name>, name: &Name) -> &'t [u8]
 /// The number of the parent of a type.
 #[tactic(auto, using(crate::proofs::TypeSteps::parent_number_steps))]
 fn parent_number(tables: &TypeTables, name: &Name) -> u16
-    requires { length tables.now.names ≤ 1025 }
+    requires { length tables.now.names ≤ most_types }
     ensures { result ≡ parent_number tables.now name.now }
 {
     match tables.names.number_of(parent_name(&tables.parents, name)) {
@@ -190,7 +188,7 @@ fn parent_number(tables: &TypeTables, name: &Name) -> u16
 /// For each type the number of its parent.
 #[tactic(auto, using(crate::proofs::TypeSteps::parents_steps))]
 fn parents(alloc: Global, tables: &TypeTables) -> Result<TypeList, AllocError>
-    requires { length tables.now.names ≤ 1025 }
+    requires { length tables.now.names ≤ most_types }
     ensures { IfOk result (λ parents. parents ≡ parents_of tables.now) }
 {
     let mut parents = TypeList::new(alloc);
@@ -200,11 +198,11 @@ fn parents(alloc: Global, tables: &TypeTables) -> Result<TypeList, AllocError>
     Ok(parents)
 }
 
-/// Whether a type but `object` stands above its own parent, so that a chain of parents returns to it.
+/// Whether a type other than `object` is above its own parent, so that a chain of parents returns to it.
 #[tactic(auto, unfolding(crate::specs::TypeCycles::is_under_itself))]
 fn is_under_itself(parents: &TypeList, number: usize) -> bool
     requires known { number < length parents.now }
-    requires few { length parents.now ≤ 1025 }
+    requires few { length parents.now ≤ most_types }
     ensures { result ≡ is_under_itself parents.now number }
 {
     0 < number && parents.is_below(parents.get(number), number as u16)
@@ -219,7 +217,7 @@ fn names_cycle(
     word: NameWord<'_>,
 ) -> Result<bool, ReadFault>
     requires as_many { length parents.now ≡ length names.now }
-    requires few { length names.now ≤ 1025 }
+    requires few { length names.now ≤ most_types }
     ensures { GivesTest result (names_cycle names.now parents.now word.entry.text.now) }
 {
     match number_of(alloc, names, word.text)? {
@@ -237,7 +235,7 @@ fn first_in_group<'a>(
     words: &[NameWord<'a>],
 ) -> Result<Option<NameWord<'a>>, ReadFault>
     requires as_many { length parents.now ≡ length names.now }
-    requires few { length names.now ≤ 1025 }
+    requires few { length names.now ≤ most_types }
     ensures { FindsAny result (list_any (names_cycle names.now parents.now) (name_forms words.now)) }
 {
     'words: for word in words {
@@ -258,7 +256,7 @@ fn first_in_cycle<'a>(
     group: &NameGroup<'a>,
 ) -> Result<Option<NameWord<'a>>, ReadFault>
     requires as_many { length parents.now ≡ length names.now }
-    requires few { length names.now ≤ 1025 }
+    requires few { length names.now ≤ most_types }
     ensures { FindsAny result (declares_cycle dialect names.now parents.now (name_group_form group.now)) }
 {
     let parent = name(alloc, group.kind)?;
@@ -268,7 +266,7 @@ fn first_in_cycle<'a>(
     first_in_group(alloc, names, parents, group.names.as_slice())
 }
 
-/// The first declared type, in text order, that stands under itself.
+/// The first declared type, in text order, that is under itself.
 #[tactic(auto, using(crate::proofs::TypeSteps::cycle_group_steps))]
 fn first_under_itself<'a>(
     alloc: Global,
@@ -278,7 +276,7 @@ fn first_under_itself<'a>(
     groups: &[NameGroup<'a>],
 ) -> Result<Option<NameWord<'a>>, ReadFault>
     requires as_many { length parents.now ≡ length names.now }
-    requires few { length names.now ≤ 1025 }
+    requires few { length names.now ≤ most_types }
     ensures { FindsAny result (list_any (declares_cycle dialect names.now parents.now) (name_groups groups.now)) }
 {
     'groups: for group in groups {
@@ -289,7 +287,7 @@ fn first_under_itself<'a>(
     Ok(None)
 }
 
-/// The order of the types. Where their parents form no tree, the fault is at the first declared type that stands under itself.
+/// The order of the types. If their parents form no tree, the fault is at the first declared type that is under itself.
 #[tactic(auto, using(crate::proofs::CycleSteps::order_steps))]
 fn order(
     alloc: Global,
@@ -297,7 +295,7 @@ fn order(
     tables: &TypeTables,
     groups: &[NameGroup<'_>],
 ) -> Result<TypeList, ReadFault>
-    requires few { length tables.now.names ≤ 1025 }
+    requires few { length tables.now.names ≤ most_types }
     requires declared { types_declared dialect (name_groups groups.now) ≡ Some tables.now }
     ensures { Gives (λ parents. parents) result (guard (is_tree (parents_of tables.now)) (Some (parents_of tables.now))) }
 {
@@ -318,7 +316,7 @@ fn tables(
     groups: &[NameGroup<'_>],
 ) -> Result<TypeTables, ReadFault>
     ensures given { Gives (λ tables. tables) result (types_declared dialect (name_groups groups.now)) }
-    ensures few { IfOk result (λ tables. length tables.names ≤ 1025) }
+    ensures few { IfOk result (λ tables. length tables.names ≤ most_types) }
 {
     let mut tables = object_alone(alloc, seed)?;
     declare_groups(alloc, dialect, &mut tables, groups)?;
@@ -341,7 +339,7 @@ pub(crate) fn types(
     groups: &[NameGroup<'_>],
 ) -> Result<KnownTypes, ReadFault>
     ensures given { Gives (λ types. types) result (types_of dialect (name_groups groups.now)) }
-    ensures few { IfOk result (λ types. length types.names ≤ 1025) }
+    ensures few { IfOk result (λ types. length types.names ≤ most_types) }
 {
     let tables = tables(alloc, seed, dialect, groups)?;
     let parents = order(alloc, dialect, &tables, groups)?;

@@ -1,6 +1,7 @@
-//! The types of which variables may be, and the parameters of actions.
+//! The types that variables may have, and the parameters of actions.
 
 ghost use Rattle.std.specs.Prelude.{◌≡◌, ◌<◌, ◌≤◌, ◌+◌, nat_le, length, IfOk, IfSome, OnOk};
+ghost use Rattle.strips_task.specs.WellFormed.{most_types, most_variables};
 ghost use Rattle.std.specs.Map.{keys_of};
 ghost use Rattle.pddl_syntax.specs.Forms.{name_forms, variable_group_form, variable_groups, word_forms};
 ghost use Rattle.pddl_syntax.specs.Optional.{through};
@@ -12,13 +13,7 @@ use crate::resolution::objects::type_number;
 use pddl_syntax::{FaultKind, NameWord, ReadFault, VariableGroup, Word};
 use pddl_tokens::same_folded;
 use std::alloc::{AllocError, Global};
-use strips_task::{Alternatives, NameTable, Seq};
-
-/// How many variables a predicate or an action may have.
-const MOST_VARIABLES: usize = 32;
-
-/// Of how many types a variable may be.
-const MOST_ALTERNATIVES: usize = 32;
+use strips_task::{Alternatives, MOST_ALTERNATIVES, MOST_VARIABLES, NameTable, Seq};
 
 /// The types that words name.
 #[tactic(auto, using(crate::proofs::VariableMeaning::alternative_steps))]
@@ -27,7 +22,7 @@ fn alternatives(
     types: &NameTable<()>,
     words: &[NameWord<'_>],
 ) -> Result<Alternatives, ReadFault>
-    requires { length types.now ≤ 1025 }
+    requires { length types.now ≤ most_types }
     ensures { Gives (λ numbers. numbers) result (alternatives_of (keys_of types.now) (name_forms words.now)) }
 {
     let mut numbers = Seq::new(alloc);
@@ -52,7 +47,7 @@ fn copy(alloc: Global, types: &Alternatives) -> Result<Alternatives, AllocError>
     Ok(Seq::from_vec(numbers))
 }
 
-/// Puts places of these types behind others, one for each variable.
+/// Appends these types for each variable to the types of arguments.
 #[tactic(auto, using(crate::proofs::VariableMeaning::place_steps))]
 fn put_places(
     alloc: Global,
@@ -68,10 +63,10 @@ fn put_places(
     Ok(())
 }
 
-/// Tests that so many variables may stand behind others.
+/// Tests that these variables may follow `count` others.
 fn check_room(count: usize, variables: &[Word<'_>]) -> Result<(), ReadFault>
-    requires { count ≤ 32 }
-    ensures { Allows result (nat_le (count + length variables.now) 32) }
+    requires { count ≤ most_variables }
+    ensures { Allows result (nat_le (count + length variables.now) most_variables) }
 {
     if variables.len() > MOST_VARIABLES - count {
         let first = variables[MOST_VARIABLES - count];
@@ -80,7 +75,7 @@ fn check_room(count: usize, variables: &[Word<'_>]) -> Result<(), ReadFault>
     Ok(())
 }
 
-/// Puts the places of a group behind others.
+/// Appends the types of a group's arguments.
 #[tactic(auto, using(crate::proofs::VariableMeaning::group_steps))]
 fn put_group(
     alloc: Global,
@@ -88,8 +83,8 @@ fn put_group(
     places: &mut Seq<Alternatives>,
     group: &VariableGroup<'_>,
 ) -> Result<(), ReadFault>
-    requires few { length types.now ≤ 1025 }
-    requires room { length places.old ≤ 32 }
+    requires few { length types.now ≤ most_types }
+    requires room { length places.old ≤ most_variables }
     ensures { Puts result (group_placed (keys_of types.now) places.old (variable_group_form group.now)) places.new }
 {
     check_room(places.len(), group.variables.as_slice())?;
@@ -98,14 +93,14 @@ fn put_group(
     Ok(())
 }
 
-/// The places of a predicate: for each of its variables the types of which it may be.
+/// The types of a predicate's arguments: for each of its variables those that it may have.
 #[tactic(auto, using(crate::proofs::VariableMeaning::places_steps))]
 pub(crate) fn places(
     alloc: Global,
     types: &NameTable<()>,
     groups: &[VariableGroup<'_>],
 ) -> Result<Seq<Alternatives>, ReadFault>
-    requires { length types.now ≤ 1025 }
+    requires { length types.now ≤ most_types }
     ensures { Gives (λ places. places) result (places_of (keys_of types.now) (variable_groups groups.now)) }
 {
     let mut places = Seq::new(alloc);
@@ -115,7 +110,7 @@ pub(crate) fn places(
     Ok(places)
 }
 
-/// The parameters of an action: their names, and for each the types of which it may be.
+/// The parameters of an action: their names, and for each the types that it may have.
 #[derive(Drop)]
 pub(crate) struct ActionParameters<'a> {
     pub(crate) names: Vec<Word<'a>>,
@@ -170,7 +165,7 @@ fn declare_group<'a>(
     parameters: &mut ActionParameters<'a>,
     group: &VariableGroup<'a>,
 ) -> Result<(), ReadFault>
-    requires { length types.now ≤ 1025 }
+    requires { length types.now ≤ most_types }
     ensures { Puts result (group_named (keys_of types.now) (parameters_form parameters.old) (variable_group_form group.now))
         (parameters_form parameters.new) }
 {
@@ -193,7 +188,7 @@ fn declare_groups<'a>(
     parameters: &mut ActionParameters<'a>,
     groups: &[VariableGroup<'a>],
 ) -> Result<(), ReadFault>
-    requires { length types.now ≤ 1025 }
+    requires { length types.now ≤ most_types }
     ensures { Puts result (through (group_named (keys_of types.now)) (parameters_form parameters.old) (variable_groups groups.now))
         (parameters_form parameters.new) }
 {
@@ -210,7 +205,7 @@ pub(crate) fn parameters<'a>(
     types: &NameTable<()>,
     groups: &[VariableGroup<'a>],
 ) -> Result<ActionParameters<'a>, ReadFault>
-    requires { length types.now ≤ 1025 }
+    requires { length types.now ≤ most_types }
     ensures { Gives parameters_form result (parameters_of (keys_of types.now) (variable_groups groups.now)) }
 {
     let mut parameters = ActionParameters {

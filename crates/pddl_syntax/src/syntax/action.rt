@@ -87,7 +87,7 @@ fn parts<'a>(
     }
 }
 
-/// Reads an action behind its keyword.
+/// Reads an action after its keyword.
 #[tactic(auto, using(crate::proofs::ActionSteps::action_steps))]
 pub(crate) fn action<'a>(
     alloc: Global,

@@ -1,4 +1,4 @@
-//! Domains: a name, and sections in any order, each at most once but actions.
+//! Domains: a name, and sections in any order, each at most once except actions.
 
 ghost use Rattle.std.specs.Prelude.{◌≡◌, None, false};
 ghost use Rattle.pddl_syntax.specs.Levels.{here, trees};
@@ -110,7 +110,7 @@ fn functions<'a>(alloc: Global, walk: &mut Walk<'a>) -> Result<Vec<PredicateSynt
     }
 }
 
-/// Whether the section is given already, where it may stand once.
+/// Whether the section is given already, if it may be given only once.
 #[tactic(auto, unfolding(crate::specs::Syntax::is_domain_section_given, crate::specs::Forms::domain_sections_form), using(crate::proofs::ActionSteps::given_steps))]
 fn is_given(sections: &DomainSections<'_>, section: DomainSection) -> bool
     ensures { result ≡ is_domain_section_given section (domain_sections_form sections.now) }
@@ -151,7 +151,7 @@ fn section_body<'a>(
     Ok(())
 }
 
-/// Reads a section behind its `(`.
+/// Reads a section after its `(`.
 #[tactic(auto, using(crate::proofs::DomainSteps::section_steps))]
 fn section<'a>(
     alloc: Global,
@@ -204,7 +204,7 @@ fn sections<'a>(
     }
 }
 
-/// Reads a domain behind the first `(` of its text.
+/// Reads a domain after the first `(` of its text.
 #[tactic(auto, using(crate::proofs::DomainSteps::domain_steps))]
 pub(crate) fn domain<'a>(
     alloc: Global,

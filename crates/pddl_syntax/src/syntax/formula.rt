@@ -1,4 +1,4 @@
-//! Literals, formulas and effects, which are stepped over and tested. That takes no memory.
+//! Steps over literals, formulas and effects, and tests them. That takes no memory.
 
 ghost use Rattle.std.specs.Prelude.{◌≡◌};
 ghost use Rattle.pddl_syntax.specs.Levels.{here};
@@ -70,7 +70,7 @@ fn side<'a>(walk: &mut Walk<'a>, place: Place, equals: Span) -> Result<Word<'a>,
     }
 }
 
-/// Steps over the two terms behind the `=` at these bytes.
+/// Steps over the two terms after the `=` at these bytes.
 #[tactic(auto, using(crate::proofs::FormulaSteps::equality_steps))]
 fn equality(walk: &mut Walk<'_>, place: Place, equals: Span) -> Result<(), ReadFault>
     ensures { PassesList result (is_equality (is_term place)) (here walk.old.cursor) (here walk.new.cursor) }
@@ -135,7 +135,7 @@ fn amount(walk: &mut Walk<'_>, place: Place) -> Result<(), ReadFault>
     }
 }
 
-/// Steps over what stands behind `increase`.
+/// Steps over what follows `increase`.
 #[tactic(auto, using(crate::proofs::FormulaSteps::increase_steps))]
 fn increase(walk: &mut Walk<'_>, place: Place) -> Result<(), ReadFault>
     ensures { PassesList result (is_increase (is_term place)) (here walk.old.cursor) (here walk.new.cursor) }
@@ -145,7 +145,7 @@ fn increase(walk: &mut Walk<'_>, place: Place) -> Result<(), ReadFault>
     amount(walk, place)
 }
 
-/// Steps over a function and its value, behind `=`.
+/// Steps over a function and its value, after `=`.
 #[tactic(auto, using(crate::proofs::FormulaSteps::value_steps))]
 fn value(walk: &mut Walk<'_>, place: Place) -> Result<(), ReadFault>
     ensures { PassesList result (is_value (is_term place)) (here walk.old.cursor) (here walk.new.cursor) }
@@ -156,7 +156,7 @@ fn value(walk: &mut Walk<'_>, place: Place) -> Result<(), ReadFault>
     Ok(())
 }
 
-/// Steps over what stands in the parentheses behind `not`.
+/// Steps over what is in the parentheses after `not`.
 #[tactic(auto, using(crate::proofs::FormulaSteps::negated_in_steps))]
 fn negated_in(walk: &mut Walk<'_>, scope: Scope) -> Result<(), ReadFault>
     ensures { PassesList result (is_negated_in scope) (here walk.old.cursor) (here walk.new.cursor) }
@@ -186,7 +186,7 @@ fn negated(walk: &mut Walk<'_>, scope: Scope) -> Result<(), ReadFault>
     leave_list(walk)
 }
 
-/// Steps over a literal behind its first word.
+/// Steps over a literal after its first word.
 #[tactic(auto, using(crate::proofs::FormulaSteps::literal_steps))]
 pub(crate) fn literal(walk: &mut Walk<'_>, scope: Scope, head: Word<'_>) -> Result<(), ReadFault>
     ensures { PassesList result (is_literal scope head.entry.text.now) (here walk.old.cursor) (here walk.new.cursor) }
@@ -202,7 +202,7 @@ pub(crate) fn literal(walk: &mut Walk<'_>, scope: Scope, head: Word<'_>) -> Resu
     }
 }
 
-/// Steps over what stands in the parentheses of a formula or an effect.
+/// Steps over what is in the parentheses of a formula or an effect.
 #[cycle(formulas)]
 #[tactic(auto, using(crate::proofs::FormulaSteps::formula_steps))]
 pub(crate) fn formula(walk: &mut Walk<'_>, scope: Scope) -> Result<(), ReadFault>
@@ -220,7 +220,7 @@ pub(crate) fn formula(walk: &mut Walk<'_>, scope: Scope) -> Result<(), ReadFault
     }
 }
 
-/// Steps over the formulas behind `and`.
+/// Steps over the formulas after `and`.
 #[cycle(formulas)]
 #[tactic(auto, using(crate::proofs::FormulaSteps::conjunct_steps))]
 fn conjuncts(walk: &mut Walk<'_>, scope: Scope) -> Result<(), ReadFault>

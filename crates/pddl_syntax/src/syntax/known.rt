@@ -1,4 +1,4 @@
-//! Literals that were stepped over and tested before, read from their place once more. Nothing here is a fault but want of memory.
+//! Literals that were stepped over and tested before, read once more. The only fault here is running out of memory.
 
 ghost use Rattle.std.specs.Prelude.{◌≡◌, IsSome, IsTrue, Some, true, false};
 ghost use Rattle.pddl_syntax.specs.Levels.{here};
@@ -81,7 +81,7 @@ fn terms<'a>(alloc: Global, walk: &mut Walk<'a>) -> Result<Terms<'a>, ReadFault>
     }
 }
 
-/// Reads an atom behind its predicate.
+/// Reads an atom after its predicate.
 #[tactic(auto, using(crate::proofs::KnownSteps::atom_steps))]
 fn atom<'a>(
     alloc: Global,
@@ -105,7 +105,7 @@ fn function<'a>(alloc: Global, walk: &mut Walk<'a>) -> Result<AtomSyntax<'a>, Re
     atom(alloc, walk, name)
 }
 
-/// Reads the two terms behind `=`.
+/// Reads the two terms after `=`.
 #[tactic(auto, using(crate::proofs::KnownSteps::side_steps))]
 fn equality<'a>(walk: &mut Walk<'a>) -> EqualitySyntax<'a>
     requires { IsSome (equality_of is_any (here walk.old.cursor).top) }
@@ -117,7 +117,7 @@ fn equality<'a>(walk: &mut Walk<'a>) -> EqualitySyntax<'a>
     EqualitySyntax { left, right }
 }
 
-/// Reads the number, in billionths, that is all that is left of a list, and gives its place.
+/// Reads the number, in billionths, that is all that is left of a list, and its span.
 #[tactic(auto, using(crate::proofs::KnownSteps::number_steps))]
 fn number(walk: &mut Walk<'_>) -> (u64, Span)
     requires { IsSome (number_of (here walk.old.cursor).top) }
@@ -158,7 +158,7 @@ fn target<'a>(walk: &mut Walk<'a>) -> Word<'a>
     target
 }
 
-/// Reads what stands behind the word `increase` at these bytes.
+/// Reads what follows the word `increase` at these bytes.
 #[tactic(auto, using(crate::proofs::KnownSteps::increase_steps))]
 fn increase<'a>(
     alloc: Global,
@@ -178,7 +178,7 @@ fn increase<'a>(
     })
 }
 
-/// Reads a function and its value, behind `=`.
+/// Reads a function and its value, after `=`.
 #[tactic(auto, using(crate::proofs::KnownSteps::value_steps))]
 fn value<'a>(alloc: Global, walk: &mut Walk<'a>) -> Result<ValueSyntax<'a>, ReadFault>
     requires { IsSome (value_of is_any (here walk.old.cursor).top) }
@@ -194,7 +194,7 @@ fn value<'a>(alloc: Global, walk: &mut Walk<'a>) -> Result<ValueSyntax<'a>, Read
     })
 }
 
-/// Reads what stands in the parentheses behind `not`.
+/// Reads what is in the parentheses after `not`.
 #[tactic(auto, using(crate::proofs::KnownSteps::negated_in_steps))]
 fn negated_in<'a>(
     alloc: Global,
@@ -238,7 +238,7 @@ fn negated<'a>(
     Ok(literal)
 }
 
-/// Reads a literal behind its first word.
+/// Reads a literal after its first word.
 #[tactic(auto, using(crate::proofs::KnownSteps::literal_steps))]
 pub(crate) fn literal<'a>(
     alloc: Global,

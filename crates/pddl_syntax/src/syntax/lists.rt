@@ -1,4 +1,4 @@
-//! Steps into lists and out of them, and the words that must stand in them.
+//! Steps into lists and out of them, and the words that must be in them.
 
 ghost use Rattle.std.specs.Prelude.{◌≡◌};
 ghost use Rattle.pddl_syntax.specs.Levels.{here};
@@ -35,7 +35,7 @@ pub(crate) fn leave_list(walk: &mut Walk<'_>) -> Result<(), ReadFault>
     }
 }
 
-/// Steps over the word that must stand here.
+/// Steps over the word that must be here.
 #[tactic(auto, using(crate::proofs::ListSteps::word_steps))]
 pub(crate) fn expect_word(walk: &mut Walk<'_>, expected: &[u8]) -> Result<(), ReadFault>
     ensures { ReadsFront result (behind_word expected.now) (here walk.old.cursor) (here walk.new.cursor) }
@@ -70,7 +70,7 @@ pub(crate) fn lone_name<'a>(walk: &mut Walk<'a>) -> Result<NameWord<'a>, ReadFau
     }
 }
 
-/// Reads the first list of a definition, which says of what kind it is and gives its name.
+/// Reads the first list of a definition, which gives its kind and its name.
 #[tactic(auto, using(crate::proofs::ListSteps::header_steps))]
 pub(crate) fn header<'a>(walk: &mut Walk<'a>, kind: &[u8]) -> Result<NameWord<'a>, ReadFault>
     ensures { ReadsList name_form result (header_of kind.now) (here walk.old.cursor) (here walk.new.cursor) }

@@ -1,4 +1,4 @@
-//! The literals of formulas, effects and initial atoms, which are kept as the place where they begin and read again one by one.
+//! The literals of formulas, effects and initial atoms. Only where they begin is kept, and they are read again one by one.
 
 ghost use Rattle.std.specs.Prelude.{◌≡◌, ◌+◌, ◌<◌, ◌^◌, [], IsSome, Some};
 ghost use Rattle.pddl_syntax.specs.Levels.{here};
@@ -17,7 +17,7 @@ use crate::walk::{Item, Walk};
 use std::alloc::Global;
 use std::marker::Model;
 
-/// The literals that are still to come of a formula, an effect or the initial atoms, in text order. It takes no memory of its own.
+/// The literals that are left of a formula, an effect or the initial atoms, in text order. It takes no memory of its own.
 #[derive(Drop)]
 pub struct Literals<'a> {
     walk: Walk<'a>,
@@ -57,7 +57,7 @@ impl<'a> Literals<'a> {
         }
     }
 
-    /// The literals in what is left of the list in which the walk stands.
+    /// The literals in what is left of the list that the walk is in.
     #[tactic(auto, using(crate::proofs::LiteralSteps::start_steps))]
     pub(crate) fn within(walk: Walk<'a>, scope: Scope) -> Self
         requires { IsSome (literals_in scope (here walk.cursor).top) }
@@ -81,7 +81,7 @@ impl<'a> Literals<'a> {
         }
     }
 
-    /// The next literal, or `None` where none follows. Only want of memory is a fault, and no literal follows it.
+    /// The next literal, or `None` if none follows. The only fault is running out of memory, and no literal follows it.
     #[tactic(auto, using(crate::proofs::LiteralSteps::next_steps))]
     pub fn next(&mut self, alloc: Global) -> Result<Option<LiteralSyntax<'a>>, ReadFault>
         ensures { TakesNext result self.old self.new }
@@ -90,7 +90,7 @@ impl<'a> Literals<'a> {
     }
 }
 
-/// Reads the next literal, of which `depth` lists are around the walk.
+/// Reads the next literal. `depth` of the lists around the walk belong to what is read.
 #[tactic(auto, using(crate::proofs::LiteralSteps::reading_steps))]
 fn next_literal<'a>(
     alloc: Global,

@@ -1,4 +1,4 @@
-//! Problems: a name, and sections in any order, each at most once; `:domain` and `:goal` must stand.
+//! Problems: a name, and sections in any order, each at most once; `:domain` and `:goal` must be given.
 
 ghost use Rattle.std.specs.Prelude.{◌≡◌, None};
 ghost use Rattle.pddl_syntax.specs.Levels.{here, trees};
@@ -120,7 +120,7 @@ fn section_body<'a>(
     Ok(())
 }
 
-/// Reads a section behind its `(`.
+/// Reads a section after its `(`.
 #[tactic(auto, using(crate::proofs::ProblemSteps::section_steps))]
 fn section<'a>(
     alloc: Global,
@@ -146,7 +146,7 @@ fn section<'a>(
     }
 }
 
-/// Reads the sections of a problem, and the place of the `)` behind them.
+/// Reads the sections of a problem, and the span of the `)` after them.
 #[tactic(auto, using(crate::proofs::ProblemSteps::sections_steps))]
 fn sections<'a>(
     alloc: Global,
@@ -174,7 +174,7 @@ fn sections<'a>(
     }
 }
 
-/// Reads a problem behind the first `(` of its text.
+/// Reads a problem after the first `(` of its text.
 #[tactic(auto, using(crate::proofs::ProblemSteps::problem_steps))]
 pub(crate) fn problem<'a>(
     alloc: Global,

@@ -1,4 +1,4 @@
-//! Which fault a word is that may not stand at its place.
+//! The faults of words that may not appear where they are.
 
 ghost use Rattle.std.specs.Prelude.{◌≢◌};
 
@@ -17,7 +17,7 @@ pub(crate) fn keyword_fault(word: Word<'_>) -> ReadFault
     }
 }
 
-/// The fault of a word where one name alone is read: PDDL has others there.
+/// The fault of a word that may not appear here, where only one name is read and PDDL has others.
 pub(crate) fn name_fault(word: Word<'_>) -> ReadFault
     ensures { result.kind ≢ FaultKind.OutOfMemory }
 {
@@ -28,7 +28,7 @@ pub(crate) fn name_fault(word: Word<'_>) -> ReadFault
     }
 }
 
-/// The fault of a word that is no name where that of a function is due. In amounts PDDL has the signs of sums and products there.
+/// The fault of a word that is no name where the name of a function is due. In amounts PDDL has the signs of sums and products there.
 pub(crate) fn function_fault(place: Place, word: Word<'_>) -> ReadFault
     ensures { result.kind ≢ FaultKind.OutOfMemory }
 {
@@ -40,7 +40,7 @@ pub(crate) fn function_fault(place: Place, word: Word<'_>) -> ReadFault
     }
 }
 
-/// The fault of a list where the type of names is due, when the walk has entered it. A choice of types is refused as such.
+/// The fault of a list where the type of names is due. The walk has entered it. A choice of types is refused as such.
 pub(crate) fn list_fault(walk: &mut Walk<'_>, opening: Span) -> ReadFault
     ensures { result.kind ≢ FaultKind.OutOfMemory }
 {

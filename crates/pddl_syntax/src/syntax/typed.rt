@@ -1,4 +1,4 @@
-//! Lists of typed names, and what stands in a text without a meaning for plans.
+//! Lists of typed names, and what a text may have that means nothing for plans.
 
 ghost use Rattle.std.specs.Prelude.{◌≡◌, [], true, Some};
 ghost use Rattle.pddl_words.specs.Words.{is_name};
@@ -17,7 +17,7 @@ use crate::walk::{Item, NameWord, Walk, Word};
 use pddl_tokens::Span;
 use std::alloc::Global;
 
-/// Reads the keywords of `:requirements`, of which none is kept.
+/// Reads the keywords of `:requirements`, and keeps none of them.
 #[tactic(auto, using(crate::proofs::TypedSteps::keyword_steps))]
 pub(crate) fn keywords(walk: &mut Walk<'_>) -> Result<(), ReadFault>
     ensures { ReadsList (λ _. tt) result keywords_of (here walk.old.cursor) (here walk.new.cursor) }
@@ -105,7 +105,7 @@ pub(crate) fn typed_names<'a>(
     }
 }
 
-/// Steps out of the list in which the walk stands, over whatever it holds.
+/// Steps out of the list that the walk is in, over whatever is left in it.
 #[cycle(skipping)]
 pub(crate) fn skip(walk: &mut Walk<'_>)
     ensures { here walk.new.cursor ≡ behind (here walk.old.cursor).below }

@@ -15,7 +15,7 @@ use crate::walk::{Item, NameWord, Walk};
 use std::alloc::Global;
 use std::marker::Model;
 
-/// Reads the names of a choice of types, one at least.
+/// Reads the names of a choice of types, at least one.
 #[tactic(auto, using(crate::proofs::WordSteps::names_steps))]
 fn names<'a>(alloc: Global, walk: &mut Walk<'a>) -> Result<Names<'a>, ReadFault>
     ensures { ReadsList (λ v. name_forms v.items) result names_of (here walk.old.cursor) (here walk.new.cursor) }
@@ -40,7 +40,7 @@ fn names<'a>(alloc: Global, walk: &mut Walk<'a>) -> Result<Names<'a>, ReadFault>
     }
 }
 
-/// Reads a choice of types behind its `(`.
+/// Reads a choice of types after its `(`.
 #[tactic(auto, using(crate::proofs::WordSteps::either_steps))]
 fn either<'a>(alloc: Global, walk: &mut Walk<'a>) -> Result<Names<'a>, ReadFault>
     ensures { ReadsList (λ v. name_forms v.items) result either_in (here walk.old.cursor) (here walk.new.cursor) }
@@ -49,7 +49,7 @@ fn either<'a>(alloc: Global, walk: &mut Walk<'a>) -> Result<Names<'a>, ReadFault
     names(alloc, walk)
 }
 
-/// Steps over the types of variables that are due.
+/// Steps over the types of variables, which are due.
 #[tactic(auto, using(crate::proofs::VariableSteps::typing_steps))]
 fn alternatives<'a>(alloc: Global, walk: &mut Walk<'a>) -> Result<Names<'a>, ReadFault>
     ensures { TakesTypes result (here walk.old.cursor) (here walk.new.cursor) }
@@ -78,7 +78,7 @@ fn object_alone<'a>(alloc: Global) -> Result<Names<'a>, ReadFault>
     Ok(kinds)
 }
 
-/// A list of typed variables, which is kept as the place where it begins and takes no memory of its own.
+/// A list of typed variables. Only where it begins is kept, so it takes no memory of its own.
 #[derive(Drop)]
 pub struct VariableList<'a> {
     walk: Walk<'a>,
@@ -98,7 +98,7 @@ impl<'a> Model for VariableList<'a> {
 }
 
 impl<'a> VariableList<'a> {
-    /// The list that is left before the walk.
+    /// The list that the walk has before it.
     #[tactic(auto, using(crate::proofs::VariableSteps::list_steps))]
     fn within(walk: Walk<'a>) -> Self
         requires { IsSome (typed_variables [] (here walk.cursor).top) }
@@ -107,7 +107,7 @@ impl<'a> VariableList<'a> {
         VariableList { walk }
     }
 
-    /// Its groups, which are read again. Only want of memory is a fault.
+    /// Its groups, which are read again. The only fault is running out of memory.
     #[tactic(auto, using(crate::proofs::VariableSteps::list_steps))]
     pub fn groups(&self, alloc: Global) -> Result<Vec<VariableGroup<'a>>, ReadFault>
         ensures { GivesAgain (λ v. variable_groups v.items) result self.now }

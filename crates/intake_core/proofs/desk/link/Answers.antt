@@ -12,4 +12,4 @@ returns-in-Some-clause-stages c = stages-unwritten _ _ c.index_mut.result.now _ 
 
 pub returns-in-Some-clause-links : goal.returns-in-Some-clause-links
 returns-in-Some-clause-links c =
-    map-set (λ row. row.behind) c.args.table.now.items c.in-Some.job _ ∙ ap (λ last. linked (links_in c.args.table.now.items) last c.args.number) (sym c.in-Some.is)
+    map-set (λ row. row.following) c.args.table.now.items c.in-Some.job _ ∙ ap (λ last. linked (links_in c.args.table.now.items) last c.args.number) (sym c.in-Some.is)

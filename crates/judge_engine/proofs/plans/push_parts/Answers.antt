@@ -1,4 +1,4 @@
-use Rattle.std.proofs.Common.{◌≡◌, ◌∷◌, arith, sym, ap, ◌∙◌, subst, List, ℕ}
+use Rattle.std.proofs.Common.{◌≡◌, ◌∷◌, arith, subst, List, ℕ}
 use Rattle.std.specs.Prelude.{slice_range}
 use Rattle.plan_text.specs.Bundle.{parts_from, parts_behind}
 use Rattle.judge_engine.proofs.Cutting.{from_start, parts_past}

@@ -9,4 +9,4 @@ returns-in-Some-clause-planners c = map-set_same (λ row. row.planner) c.args.jo
 
 pub returns-in-Some-clause-links : goal.returns-in-Some-clause-links
 returns-in-Some-clause-links c =
-    map-set (λ row. row.behind) c.args.jobs.now.items c.in-Some.job _ ∙ ap (λ last. linked (links_in c.args.jobs.now.items) last c.args.number) (sym c.in-Some.is)
+    map-set (λ row. row.following) c.args.jobs.now.items c.in-Some.job _ ∙ ap (λ last. linked (links_in c.args.jobs.now.items) last c.args.number) (sym c.in-Some.is)

@@ -1,4 +1,4 @@
-use Rattle.std.proofs.Common.{◌≡◌, ◌++◌, List, ℕ, codes, decimal, ap, sym, ◌∙◌}
+use Rattle.std.proofs.Common.{◌≡◌, ◌++◌, codes, decimal}
 use Rattle.report_text.specs.Format.{json_best, json_cost, json_string}
 use Rattle.report_text.proofs.Rendering.{on_ok_more, then}
 use Rattle.report_text.proofs.json.push_planner_record.Goals as goal

@@ -1,4 +1,4 @@
-use Rattle.std.proofs.Common.{◌≡◌, ◌++◌, ◌-◌, List, ℕ, codes, decimal, ap, sym, ◌∙◌}
+use Rattle.std.proofs.Common.{◌≡◌, ◌++◌, ◌-◌, codes, decimal, ap, sym, ◌∙◌}
 use Rattle.plan_text.specs.StepAt.{step_at}
 use Rattle.report_text.specs.Format.{json_conditions, json_failure, json_verdict}
 use Rattle.report_text.proofs.Rendering.{on_ok_more, then}

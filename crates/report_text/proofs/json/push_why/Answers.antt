@@ -1,4 +1,4 @@
-use Rattle.std.proofs.Common.{◌≡◌, ◌++◌, List, ℕ, codes, decimal, ap, sym, ◌∙◌}
+use Rattle.std.proofs.Common.{◌≡◌, ◌++◌, codes, ap, sym, ◌∙◌}
 use Rattle.report_text.specs.Format.{json_conditions, json_why}
 use Rattle.report_text.proofs.Rendering.{on_ok_more, then}
 use Rattle.report_text.proofs.json.push_why.Goals as goal

@@ -1,4 +1,4 @@
-use Rattle.std.proofs.Common.{◌≡◌, ◌++◌, List, ℕ, codes, decimal, ap, sym, ◌∙◌}
+use Rattle.std.proofs.Common.{◌≡◌, ◌++◌, codes, decimal, ap, ◌∙◌}
 use Rattle.report_text.specs.Format.{field, found_fields}
 use Rattle.report_text.specs.Report.{as_judged}
 use Rattle.report_text.proofs.Rendering.{on_ok_more, then}

@@ -1,4 +1,4 @@
-use Rattle.std.proofs.Common.{◌≡◌, ◌++◌, ◌-◌, List, ℕ, codes, ap, sym, ◌∙◌}
+use Rattle.std.proofs.Common.{◌≡◌, ◌++◌, ◌-◌, codes, ap, sym, ◌∙◌}
 use Rattle.strips_task.specs.StepView.{step_shown}
 use Rattle.report_text.specs.Format.{why_fields}
 use Rattle.report_text.specs.Report.{name_at}

@@ -1,4 +1,4 @@
-use Rattle.std.proofs.Common.{◌≡◌, List, Some, All, refl, subst, sym}
+use Rattle.std.proofs.Common.{List, All, refl, subst, sym}
 use Rattle.strips_task.specs.Spelled.{step_spelled}
 use Rattle.strips_task.specs.declared.atoms.Atom.{Atom}
 use Rattle.strips_judge.specs.Codes.{Code, IsCode, code_shown}

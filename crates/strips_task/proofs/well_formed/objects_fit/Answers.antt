@@ -11,7 +11,7 @@ pub returns-then-objects-places : goal.returns-then-objects-places
 unfolding are_fitting
 returns-then-objects-places c =
     let parents : List ℕ = c.args.parts.now.parents in
-    let types : ℕ → Option (List ℕ) = (λ object. term_types c.args.parts.now [] (Object object)) in
+    let types : ℕ → Option (List ℕ) = (λ object. term_types c.args.parts.now.objects [] (Object object)) in
     c.objects_fit_places.ensures
     ∙ sym (all_zip-map types (is_fitting parents) c.args.objects.now c.args.places.now)
     ∙ ap (λ b. b && list_all (λ p. is_fitting parents p.0 p.1) (zip (map types c.args.objects.now) c.args.places.now))

@@ -11,7 +11,7 @@ pub returns-then-terms-places : goal.returns-then-terms-places
 unfolding are_fitting
 returns-then-terms-places c =
     let parents : List ℕ = c.args.parts.now.parents in
-    let types : Term → Option (List ℕ) = term_types c.args.parts.now c.args.params.now in
+    let types : Term → Option (List ℕ) = term_types c.args.parts.now.objects c.args.params.now in
     c.terms_fit_places.ensures
     ∙ sym (all_zip-map types (is_fitting parents) c.args.terms.now c.args.places.now)
     ∙ ap (λ b. b && list_all (λ p. is_fitting parents p.0 p.1) (zip (map types c.args.terms.now) c.args.places.now))

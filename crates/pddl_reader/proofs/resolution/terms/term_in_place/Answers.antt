@@ -1,8 +1,7 @@
 use Rattle.std.proofs.Common.{◌≡◌, ◌∙◌, ap, sym, true, false}
-use Rattle.strips_task.specs.WellFormed.{is_fitting}
+use Rattle.strips_task.specs.WellFormed.{is_fitting, term_types}
 use Rattle.pddl_syntax.specs.declared.fault.FaultKind.TheVariants.{WrongType, OutOfMemory}
 use Rattle.pddl_syntax.specs.declared.fault.ReadFault.{ReadFault}
-use Rattle.pddl_reader.specs.Declarations.{types_of_term}
 use Rattle.pddl_reader.specs.Resolved.{known_form, parameters_form}
 use Rattle.pddl_reader.proofs.TermSteps.{term_misplaced, term_placed}
 use Rattle.pddl_reader.proofs.resolution.terms.term_in_place.Goals as goal
@@ -11,7 +10,7 @@ pub returns-then-not-term_fits : goal.returns-then-not-term_fits
 returns-then-not-term_fits c =
     let known = known_form c.args.known.now in
     let p = parameters_form c.args.parameters.now in
-    let misfit : is_fitting known.parents (types_of_term known p.types c.in_ok-found.found) c.args.place.now ≡ false =
+    let misfit : is_fitting known.parents (term_types known.objects p.types c.in_ok-found.found) c.args.place.now ≡ false =
     rw (← c.as_slice.ensures) (sym c.term_fits.ensures ∙ c.if-not-term_fits.true) in (
       λ k. let z : WrongType ≡ OutOfMemory = sym (ap (λ (f : ReadFault). f.kind) c.new.ensures) ∙ k in cc,
       λ _. term_misplaced known p c.args.place.now c.args.word.text.now c.in_ok-found.found c.in_ok-found.ensures misfit,
@@ -21,6 +20,6 @@ pub returns : goal.returns
 returns c =
     let known = known_form c.args.known.now in
     let p = parameters_form c.args.parameters.now in
-    let fit : is_fitting known.parents (types_of_term known p.types c.in_ok-found.found) c.args.place.now ≡ true =
+    let fit : is_fitting known.parents (term_types known.objects p.types c.in_ok-found.found) c.args.place.now ≡ true =
     rw (← c.as_slice.ensures) (sym c.term_fits.ensures ∙ c.if-not-term_fits.false) in
     term_placed known p c.args.place.now c.args.word.text.now c.in_ok-found.found c.in_ok-found.ensures fit
