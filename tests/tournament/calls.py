@@ -100,12 +100,18 @@ class Example(Calls):
         self.assertEqual(read(self.site, "results.tsv"), read(EXAMPLE, "results.tsv"))
 
 
+def take_interrupts():
+    """Lets a process be interrupted even if the tests run in the background, where a shell has interrupts ignored."""
+    signal.signal(signal.SIGINT, signal.SIG_DFL)
+
+
 class Going(Calls):
     def test_an_interrupted_call_goes_on(self):
         program = self.counting('[ ! -e "%s/block" ] || [ $(wc -l < "%s/calls") -le 5 ] || exec sleep 100' % (self.folder, self.folder))
         block = self.write("block")
         environment = dict(os.environ, PLAN_JUDGE=program)
-        process = subprocess.Popen(self.words(OUTPUTS, "-j", "1"), env=environment, stdout=subprocess.DEVNULL, stderr=subprocess.PIPE, text=True)
+        process = subprocess.Popen(self.words(OUTPUTS, "-j", "1"), env=environment, stdout=subprocess.DEVNULL, stderr=subprocess.PIPE, text=True,
+                                   preexec_fn=take_interrupts)
         until = time.time() + SECONDS
         while self.calls() < 6 and time.time() < until:
             time.sleep(0.02)
