@@ -10,7 +10,6 @@ use intake_rules::{Finding, Refusal};
 use judge_bench::{Bench, Ended, Gate, Open, Owner, Ticket, WorkFault, WorkerSeat, work};
 use plan_cost::CostedTask;
 use std::alloc::{AllocError, Global};
-use std::process::Abort;
 use std::sync::atomic::{AtomicBool, Ordering};
 use std::test::Fail;
 use std::thread;
@@ -112,45 +111,159 @@ fn two_seats(bench: &Bench, owner: &mut Owner) -> Option<(WorkerSeat, WorkerSeat
     Some((one, other))
 }
 
-/// Submits three plans to a bench with two slots.
+/// Submits three plans. The answers, in order.
 fn submit_three(
-    rt: &(impl AllocGlobal + Abort),
+    alloc: Global,
     bench: &Bench,
     owner: &mut Owner,
-) -> Result<(), AllocError>
+) -> Result<[Result<u32, Refusal>; 3], AllocError>
     requires { SitsAt bench.now owner.old }
     ensures { SitsAt bench.now owner.new }
 {
-    assert_eq!(rt; submit(rt.alloc(), bench, owner)?, Ok(0));
-    assert_eq!(rt; submit(rt.alloc(), bench, owner)?, Ok(1));
-    assert_eq!(rt; submit(rt.alloc(), bench, owner)?, Err(Refusal::Full));
-    Ok(())
+    let first = submit(alloc, bench, owner)?;
+    let second = submit(alloc, bench, owner)?;
+    let third = submit(alloc, bench, owner)?;
+    Ok([first, second, third])
 }
 
-/// One seat takes the first job and hands it back once another seat has finished the second. The other seat then finishes the first one, too.
+/// What two seats did in turn, while one of them held a job for a time.
+#[derive(Clone, Copy, Debug, PartialEq, Eq)]
+struct InTurn {
+    /// The job that the one took.
+    taken: u32,
+    /// How many jobs it then held.
+    held: u32,
+    /// The job that the other finished meanwhile.
+    second: Option<u32>,
+    /// What was emitted before the one handed its job back.
+    early: Result<Emitted, Refusal>,
+    /// The job that the other finished after that.
+    again: Option<u32>,
+}
+
+/// One seat takes a job and hands it back once another seat has finished the next; the other seat then finishes one more. What happened, if there
+/// was a job to take.
 fn judge_in_turn(
-    rt: &(impl AllocGlobal + Abort),
+    alloc: Global,
     bench: &Bench,
     owner: &mut Owner,
     one: &mut WorkerSeat,
     other: &mut WorkerSeat,
     task: &CostedTask,
-) -> Result<(), AllocError>
+) -> Result<Option<InTurn>, AllocError>
     requires seats { SitsAt bench.now owner.old × SitsAt bench.now one.old × SitsAt bench.now other.old }
     requires task { bench.now.setting.task.value ≡ task.now }
     ensures { SitsAt bench.now owner.new × SitsAt bench.now one.new × SitsAt bench.now other.new }
 {
     let Some(first) = one.take(bench) else {
-        assert!(rt; false, "no job waits");
-        return Ok(());
+        return Ok(None);
     };
-    assert_eq!(rt; first.job().number, 0);
-    assert_eq!(rt; one.holds(), 1);
-    assert_eq!(rt; judge_next(rt.alloc(), bench, other, task)?, Some(1));
-    assert_eq!(rt; emit(bench, owner, 0), Err(Refusal::NotReady(0)));
+    let taken = first.job().number;
+    let held = one.holds();
+    let second = judge_next(alloc, bench, other, task)?;
+    let early = emit(bench, owner, 0);
     one.hand_back(bench, first);
-    assert_eq!(rt; judge_next(rt.alloc(), bench, other, task)?, Some(0));
-    Ok(())
+    let again = judge_next(alloc, bench, other, task)?;
+    Ok(Some(InTurn {
+        taken,
+        held,
+        second,
+        early,
+        again,
+    }))
+}
+
+/// What an owner answered at the end of its only planner.
+#[derive(Clone, Copy, Debug, PartialEq, Eq)]
+struct Answers {
+    /// The two findings that were emitted.
+    both: [Result<Emitted, Refusal>; 2],
+    /// One more emission, before the planner was closed.
+    nothing: Result<Emitted, Refusal>,
+    /// The closing of the planner.
+    closed: Result<(), Refusal>,
+    /// A plan that was submitted after that.
+    late: Result<u32, Refusal>,
+    /// An emission after that.
+    complete: Result<Emitted, Refusal>,
+    /// An emission for a planner that does not exist.
+    nobody: Result<Emitted, Refusal>,
+}
+
+/// Emits the findings of two jobs, closes the planner, and asks for more than the owner grants. All its answers.
+fn answers_at_the_end(
+    alloc: Global,
+    bench: &Bench,
+    owner: &mut Owner,
+) -> Result<Answers, AllocError>
+    requires { SitsAt bench.now owner.old }
+    ensures { SitsAt bench.now owner.new }
+{
+    let first = emit(bench, owner, 0);
+    let second = emit(bench, owner, 0);
+    let nothing = emit(bench, owner, 0);
+    let closed = owner.close(bench, 0);
+    let late = submit(alloc, bench, owner)?;
+    let complete = emit(bench, owner, 0);
+    let nobody = emit(bench, owner, 1);
+    Ok(Answers {
+        both: [first, second],
+        nothing,
+        closed,
+        late,
+        complete,
+        nobody,
+    })
+}
+
+/// What one thread with all seats saw at a bench with two slots.
+#[derive(Clone, Copy, Debug, PartialEq, Eq)]
+struct OneThread {
+    /// The answers to three plans.
+    submitted: [Result<u32, Refusal>; 3],
+    /// How many seats were out while jobs were judged.
+    out: u32,
+    in_turn: Option<InTurn>,
+    answers: Answers,
+    /// How many seats were out after all were handed in.
+    left_out: u32,
+    /// The job that then still waited.
+    waiting: Option<u32>,
+}
+
+/// Takes a job as the owner. Its number, if one waits.
+fn take_last(bench: &Bench, owner: &mut Owner) -> Option<u32>
+    requires { SitsAt bench.now owner.old }
+    ensures { SitsAt bench.now owner.new }
+{
+    match owner.take_own(bench) {
+        Some(ticket) => Some(ticket.job().number),
+        None => None,
+    }
+}
+
+/// What one thread with all seats sees at a bench with two slots; nothing if seats are out at the start.
+fn one_thread_judges(alloc: Global, task: &CostedTask) -> Result<Option<OneThread>, AllocError> {
+    let (bench, mut owner) = Bench::make(alloc, task, 1, 2)?;
+    let submitted = submit_three(alloc, &bench, &mut owner)?;
+    let Some((mut one, mut other)) = two_seats(&bench, &mut owner) else {
+        return Ok(None);
+    };
+    let out = owner.seats_out();
+    let in_turn = judge_in_turn(alloc, &bench, &mut owner, &mut one, &mut other, task)?;
+    let answers = answers_at_the_end(alloc, &bench, &mut owner)?;
+    hand_in(&bench, &mut owner, one);
+    hand_in(&bench, &mut owner, other);
+    let left_out = owner.seats_out();
+    let waiting = take_last(&bench, &mut owner);
+    Ok(Some(OneThread {
+        submitted,
+        out,
+        in_turn,
+        answers,
+        left_out,
+        waiting,
+    }))
 }
 
 /// The finding of a job whose plan is valid and has one step.
@@ -161,41 +274,32 @@ fn one_step(job: u32) -> Result<Emitted, Refusal> {
     })
 }
 
-/// Emits the findings of two jobs, closes the planner, and asks for more than the owner grants.
-fn ask_for_more(
-    rt: &(impl AllocGlobal + Abort),
-    bench: &Bench,
-    owner: &mut Owner,
-) -> Result<(), AllocError>
-    requires { SitsAt bench.now owner.old }
-    ensures { SitsAt bench.now owner.new }
-{
-    assert_eq!(rt; emit(bench, owner, 0), one_step(0));
-    assert_eq!(rt; emit(bench, owner, 0), one_step(1));
-    assert_eq!(rt; emit(bench, owner, 0), Err(Refusal::NothingYet));
-    assert_eq!(rt; owner.close(bench, 0), Ok(()));
-    assert_eq!(rt; submit(rt.alloc(), bench, owner)?, Err(Refusal::Closed));
-    assert_eq!(rt; emit(bench, owner, 0), Err(Refusal::Complete));
-    assert_eq!(rt; emit(bench, owner, 1), Err(Refusal::NoPlanner));
-    Ok(())
-}
-
 #[test]
 fn one_thread_has_every_seat(rt: HostRuntime) -> Result<(), Fail> {
     let task = lamp_1(rt.alloc())?;
-    let (bench, mut owner) = Bench::make(rt.alloc(), &task, 1, 2)?;
-    submit_three(&rt, &bench, &mut owner)?;
-    let Some((mut one, mut other)) = two_seats(&bench, &mut owner) else {
-        assert!(rt; false, "seats are out");
-        return Ok(());
+    let seen = one_thread_judges(rt.alloc(), &task)?;
+    let expected = OneThread {
+        submitted: [Ok(0), Ok(1), Err(Refusal::Full)],
+        out: 2,
+        in_turn: Some(InTurn {
+            taken: 0,
+            held: 1,
+            second: Some(1),
+            early: Err(Refusal::NotReady(0)),
+            again: Some(0),
+        }),
+        answers: Answers {
+            both: [one_step(0), one_step(1)],
+            nothing: Err(Refusal::NothingYet),
+            closed: Ok(()),
+            late: Err(Refusal::Closed),
+            complete: Err(Refusal::Complete),
+            nobody: Err(Refusal::NoPlanner),
+        },
+        left_out: 0,
+        waiting: None,
     };
-    assert_eq!(rt; owner.seats_out(), 2);
-    judge_in_turn(&rt, &bench, &mut owner, &mut one, &mut other, &task)?;
-    ask_for_more(&rt, &bench, &mut owner)?;
-    hand_in(&bench, &mut owner, one);
-    hand_in(&bench, &mut owner, other);
-    assert_eq!(rt; owner.seats_out(), 0);
-    assert!(rt; owner.take_own(&bench).is_none(), "a job waits");
+    assert_eq!(rt; seen, Some(expected));
     Ok(())
 }
 
@@ -231,55 +335,88 @@ fn work_by_two<G: Gate + Sync>(
     faults
 }
 
-/// Submits `plans` plans, which get the numbers from 0 on.
+/// Submits `plans` plans. The first answer that is not the next number from 0 on, with that number; `None` if each plan got its number.
 fn submit_all(
-    rt: &(impl AllocGlobal + Abort),
+    alloc: Global,
     bench: &Bench,
     owner: &mut Owner,
     plans: u32,
-) -> Result<(), AllocError>
+) -> Result<Option<(u32, Result<u32, Refusal>)>, AllocError>
     requires { SitsAt bench.now owner.old }
     ensures { SitsAt bench.now owner.new }
 {
     for number in 0..plans {
-        assert_eq!(rt; submit(rt.alloc(), bench, owner)?, Ok(number));
+        let answer = submit(alloc, bench, owner)?;
+        if answer != Ok(number) {
+            return Ok(Some((number, answer)));
+        }
     }
-    Ok(())
+    Ok(None)
 }
 
-/// Emits `plans` findings, which are those of the jobs from 0 on, in order, and of valid plans of one step.
-fn emit_all(rt: &impl Abort, bench: &Bench, owner: &mut Owner, plans: u32)
+/// Emits `plans` findings. The first answer that is not about the next job from 0 on, or not of a valid plan of one step, with the number of that
+/// job; `None` if there is no such answer.
+fn emit_all(bench: &Bench, owner: &mut Owner, plans: u32) -> Option<(u32, Result<Emitted, Refusal>)>
     requires { SitsAt bench.now owner.old }
     ensures { SitsAt bench.now owner.new }
 {
     for number in 0..plans {
-        assert_eq!(rt; emit(bench, owner, 0), one_step(number));
+        let answer = emit(bench, owner, 0);
+        if answer != one_step(number) {
+            return Some((number, answer));
+        }
     }
+    None
 }
 
-/// Submits `plans` plans to a bench that is then shut, lets two threads work and emits all findings.
-fn judge_all<G: Gate + Sync>(
-    rt: &(impl AllocGlobal + Threads + Abort + Sync),
+/// What was wrong when two threads judged the plans of a bench.
+#[derive(Clone, Copy, Debug, PartialEq, Eq)]
+struct Faults {
+    /// The first wrong answer to a plan.
+    submitted: Option<(u32, Result<u32, Refusal>)>,
+    /// Why each of the two workers ended too early.
+    worked: [Option<WorkFault>; 2],
+    /// The first wrong finding.
+    emitted: Option<(u32, Result<Emitted, Refusal>)>,
+}
+
+/// A run in which nothing was wrong.
+const NO_FAULTS: Faults = Faults {
+    submitted: None,
+    worked: [None, None],
+    emitted: None,
+};
+
+/// Submits `plans` plans to a bench that is then shut, lets two threads work and emits all findings. What was wrong; nothing is answered if seats are
+/// out before the threads begin.
+fn judges_all<G: Gate + Sync>(
+    rt: &(impl AllocGlobal + Threads + Sync),
     task: &CostedTask,
     plans: u32,
     gate: &G,
-) -> Result<(), AllocError>
+) -> Result<Option<Faults>, AllocError>
     requires { plans ≤ 100 }
 {
     let (bench, mut owner) = Bench::make(rt.alloc(), task, 1, plans)?;
-    submit_all(rt, &bench, &mut owner, plans)?;
+    let submitted = submit_all(rt.alloc(), &bench, &mut owner, plans)?;
     owner.shut(&bench);
-    assert_eq!(rt; owner.seats_out(), 0);
-    let faults = work_by_two(rt, &bench, &mut owner, task, gate);
-    assert_eq!(rt; faults, [None, None]);
-    emit_all(rt, &bench, &mut owner, plans);
-    Ok(())
+    if owner.seats_out() != 0 {
+        return Ok(None);
+    }
+    let worked = work_by_two(rt, &bench, &mut owner, task, gate);
+    let emitted = emit_all(&bench, &mut owner, plans);
+    Ok(Some(Faults {
+        submitted,
+        worked,
+        emitted,
+    }))
 }
 
 #[test]
 fn two_threads_judge_a_hundred_plans(rt: HostRuntime) -> Result<(), Fail> {
     let task = lamp_1(rt.alloc())?;
-    judge_all(&rt, &task, 100, &Open)?;
+    let faults = judges_all(&rt, &task, 100, &Open)?;
+    assert_eq!(rt; faults, Some(NO_FAULTS));
     Ok(())
 }
 
@@ -321,7 +458,12 @@ fn who_is_free_takes_the_next_job(rt: HostRuntime) -> Result<(), Fail> {
                 AtomicBool::new(false),
             ],
         };
-        judge_all(&rt, &task, 3, &gate)?;
+        let faults = judges_all(&rt, &task, 3, &gate)?;
+        assert_eq!(rt;
+            faults,
+            Some(NO_FAULTS),
+            "job {waits_for_both} waits for both others"
+        );
     }
     Ok(())
 }

@@ -1,31 +1,56 @@
 //! Outlets that stop after any number of bytes.
 
 use crate::fixtures::{JUDGE, Narrow, REPORT, run};
-use std::process::Abort;
+use std::alloc::{AllocError, Global};
 use std::sync::Wait;
+use std::test::Fail;
 use std::thread::Threads;
 
-/// Judges with an outlet that takes one byte at a time, and `room` bytes in all. What it takes is the front of the report.
-fn write_front(rt: &(impl AllocGlobal + Threads + Wait + Abort + Sync), room: usize, fails: bool) {
+/// How a run ended, and what it wrote.
+#[derive(Debug, Drop, PartialEq)]
+struct Written {
+    status: u8,
+    report: Vec<u8>,
+    errors: Vec<u8>,
+}
+
+/// What a run writes to an outlet that takes one byte at a time, and `room` bytes in all.
+fn write_to(rt: &(impl AllocGlobal + Threads + Wait + Sync), room: usize, fails: bool) -> Written {
     let mut out = Narrow::new(rt.alloc(), 1, room, fails);
     let mut err = Narrow::wide(rt.alloc());
     let status = run(rt, JUDGE, &mut out, &mut err);
-    let (expected, told): (u8, &[u8]) = if room < REPORT.len() {
+    Written {
+        status,
+        report: out.taken,
+        errors: err.taken,
+    }
+}
+
+/// What a run has to write if its outlet takes no more than this front of the report.
+fn written_of(alloc: Global, front: &[u8]) -> Result<Written, AllocError> {
+    let (status, errors): (u8, &[u8]) = if front.len() < REPORT.len() {
         (4, b"cannot write the report\n")
     } else {
         (0, b"")
     };
-    assert_eq!(rt; status, expected, "{room} bytes");
-    assert_eq!(rt; out.taken.as_slice(), &REPORT[..room.min(REPORT.len())]);
-    assert_eq!(rt; err.taken.as_slice(), told, "{room} bytes");
+    Ok(Written {
+        status,
+        report: front.to_vec(alloc)?,
+        errors: errors.to_vec(alloc)?,
+    })
 }
 
 #[test]
-fn reports_are_written_from_the_front(rt: HostRuntime) {
-    for room in 0..=REPORT.len() {
-        write_front(&rt, room, true);
-        write_front(&rt, room, false);
+fn reports_are_written_from_the_front(rt: HostRuntime) -> Result<(), Fail> {
+    let report: &[u8] = REPORT;
+    for room in 0..=report.len() {
+        let expected = written_of(rt.alloc(), &report[..room])?;
+        let failing = write_to(&rt, room, true);
+        assert_eq!(rt; failing, expected, "failing after {room} bytes");
+        let full = write_to(&rt, room, false);
+        assert_eq!(rt; full, expected, "taking none after {room} bytes");
     }
+    Ok(())
 }
 
 /// The status of a run whose outlets take `room` bytes of the report and `told` bytes of the error messages.
