@@ -8,8 +8,8 @@ ghost use Rattle.explanations.specs.AllValid.{task_in, is_valid, is_valid_plan, 
 use crate::faults::push_refusal;
 use crate::library::Library;
 use crate::page::Page;
-use crate::places::{LineCount, Range};
 use crate::plans::{PlanAt, push_assessment, push_name};
+use crate::positions::{LineCount, Range};
 use crate::remarks::{push_empty_end, push_end, push_header, push_other_domain};
 use crate::scene::{Refusal, Scene};
 use crate::steps::Part;
@@ -40,7 +40,7 @@ pub fn explain(
     let mut page = Page::new(alloc, options.colors);
     let all_valid = push_answer(&mut page, seed, options, domain, problem, plans)?;
     Ok(Explanation {
-        text: page.into_text(),
+        text: page.into_text()?,
         all_valid,
     })
 }
@@ -73,7 +73,7 @@ fn push_answer<'a>(
 }
 
 /// Which text is refused, and why.
-#[derive(Clone, Copy, Debug)]
+#[derive(Clone, Copy)]
 enum Refused {
     Domain(ReadFault),
     Problem(ReadFault),
@@ -168,11 +168,12 @@ fn push_text<'a>(
 ) -> Result<(), AllocError> {
     let library = Library::new(page.alloc(), domain, problem)?;
     let mut scene = Scene::new(page.alloc(), refusal, library)?;
-    push_refusal(page, &mut scene)
+    push_refusal(page, &mut scene);
+    Ok(())
 }
 
 /// What was found about the plans so far.
-#[derive(Clone, Copy, Debug)]
+#[derive(Clone, Copy)]
 struct Tally {
     plans: usize,
     valid: usize,
@@ -190,7 +191,7 @@ fn push_plans<'a>(
 ) -> Result<bool, AllocError>
     ensures { IfOk result (λ all_valid. all_valid ≡ are_all_valid task.now plans.now) }
 {
-    push_start(page, task, problem, plans.is_empty())?;
+    push_start(page, task, problem, plans.is_empty());
     let mut library = Library::new(page.alloc(), domain, problem)?;
     push_judged(page, task, &mut library, options.trace, plans)
 }
@@ -211,17 +212,11 @@ fn push_judged<'a>(
 }
 
 /// Adds what can be said before a plan is judged.
-fn push_start(
-    page: &mut Page,
-    task: &CostedTask,
-    problem: SourceText<'_>,
-    is_all: bool,
-) -> Result<(), AllocError> {
-    push_other_domain(page, &task.task, problem)?;
+fn push_start(page: &mut Page, task: &CostedTask, problem: SourceText<'_>, is_all: bool) {
+    push_other_domain(page, &task.task, problem);
     if is_all {
-        return push_header(page, &task.task);
+        push_header(page, &task.task);
     }
-    Ok(())
 }
 
 /// Adds what is found about the plans of all files, and how many there are. Answers whether all of them are valid.
@@ -242,7 +237,7 @@ fn push_files<'a>(
     for file in plans {
         tally = push_file(page, judge, library, trace, *file, tally)?;
     }
-    push_end(page, tally.plans, tally.valid)?;
+    push_end(page, tally.plans, tally.valid);
     Ok(tally.all_valid)
 }
 
@@ -278,7 +273,7 @@ fn push_file<'a>(
         match next {
             Some(behind) => start = behind,
             None => {
-                push_empty_end(page, file, range, number)?;
+                push_empty_end(page, file, range, number);
                 return Ok(tally);
             }
         }
@@ -343,9 +338,9 @@ fn push_steps(
         Verdict::Goal { missing: _ } => usize::MAX,
         Verdict::Unreadable { line: _ } => return Ok(()),
     };
-    push_name(page, plan)?;
-    page.say("the steps of plan ")?;
-    page.number(plan.number)?;
-    page.say("\n")?;
+    push_name(page, plan);
+    page.say("the steps of plan ");
+    page.number(plan.number);
+    page.say("\n");
     push_trace(page, task, plan.part.text(), most)
 }

@@ -1,12 +1,12 @@
 //! Where a text stops being a plan: the first word, parenthesis or byte that is not allowed.
 
-use crate::places::Range;
+use crate::positions::Range;
 use pddl_tokens::{Cursor, Token, TokenKind};
 use pddl_words::{WordKind, billionths, word_kind};
 use strips_task::MOST_STEPS;
 
 /// What may come next in a plan.
-#[derive(Clone, Copy, Debug, PartialEq, Eq)]
+#[derive(Clone, Copy, PartialEq, Eq)]
 pub(crate) enum Want {
     /// A step, or a stamp before it.
     Step,
@@ -21,7 +21,7 @@ pub(crate) enum Want {
 }
 
 /// Why a text stops being a plan.
-#[derive(Clone, Copy, Debug, PartialEq, Eq)]
+#[derive(Clone, Copy, PartialEq, Eq)]
 pub(crate) enum Cause {
     /// A word or a parenthesis that is not allowed here.
     Token,
@@ -34,7 +34,7 @@ pub(crate) enum Cause {
 }
 
 /// Where a text stops being a plan.
-#[derive(Clone, Copy, Debug)]
+#[derive(Clone, Copy)]
 pub(crate) struct Break {
     pub(crate) range: Range,
     pub(crate) cause: Cause,
@@ -43,7 +43,7 @@ pub(crate) struct Break {
 }
 
 /// How far a plan was read.
-#[derive(Clone, Copy, Debug)]
+#[derive(Clone, Copy)]
 struct Reading {
     want: Want,
     /// The least value of the next stamp, in billionths.

@@ -4,8 +4,8 @@ ghost use Rattle.std.specs.Prelude.{◌≡◌};
 
 use crate::SourceText;
 use crate::page::Page;
-use crate::places::bytes_at;
-use crate::steps::{Part, StepPlaces, push_step};
+use crate::positions::bytes_at;
+use crate::steps::{Part, StepPositions, push_step};
 use plan_cost::CostedTask;
 use std::alloc::{AllocError, Global};
 use strips_task::{Atom, GroundCond, GroundFormula, ShortSeq};
@@ -20,7 +20,7 @@ pub(crate) fn push_causes(
     judge: &mut TextJudge<'_>,
     file: SourceText<'_>,
     part: Part<'_>,
-    places: &StepPlaces,
+    positions: &StepPositions,
     missing: &[GroundCond],
 ) -> Result<(), AllocError>
     ensures { judge.new ≡ judge.old }
@@ -33,10 +33,11 @@ pub(crate) fn push_causes(
         page,
         judge.task(),
         file,
-        places,
+        positions,
         missing,
         changes.as_slice(),
-    )
+    );
+    Ok(())
 }
 
 /// The last changes of the atoms of conditions, by the steps of a plan up to the one that cannot be taken.
@@ -80,16 +81,16 @@ fn push_lines(
     page: &mut Page,
     task: &CostedTask,
     file: SourceText<'_>,
-    places: &StepPlaces,
+    positions: &StepPositions,
     missing: &[GroundCond],
     changes: &[Option<usize>],
-) -> Result<(), AllocError> {
+) {
     for (cond, change) in missing.iter().zip(changes.iter()) {
-        page.say("  ")?;
-        page.condition(&task.task, cond)?;
-        page.say(": ")?;
-        push_cause(page, file, places, cond, *change)?;
-        page.say("\n")?;
+        page.say("  ");
+        page.condition(&task.task, cond);
+        page.say(": ");
+        push_cause(page, file, positions, cond, *change);
+        page.say("\n");
     }
     push_others(page, missing.len())
 }
@@ -98,19 +99,20 @@ fn push_lines(
 fn push_cause(
     page: &mut Page,
     file: SourceText<'_>,
-    places: &StepPlaces,
+    positions: &StepPositions,
     cond: &GroundCond,
     change: Option<usize>,
-) -> Result<(), AllocError> {
+) {
     if let GroundFormula::Equal(_, _) = cond.formula {
-        return page.say(if cond.positive {
+        page.say(if cond.positive {
             "these are two objects"
         } else {
             "both are the same object"
         });
+        return;
     }
     match change {
-        Some(step) => push_change(page, file, places, cond.positive, step),
+        Some(step) => push_change(page, file, positions, cond.positive, step),
         None if cond.positive => page.say("it was never true"),
         None => page.say("it was true from the start"),
     }
@@ -120,34 +122,35 @@ fn push_cause(
 fn push_change(
     page: &mut Page,
     file: SourceText<'_>,
-    places: &StepPlaces,
+    positions: &StepPositions,
     positive: bool,
     step: usize,
-) -> Result<(), AllocError> {
-    page.say("step ")?;
-    page.number(step)?;
-    page.say(", ")?;
-    let Some(place) = places.get(step) else {
-        return page.say("changed it");
+) {
+    page.say("step ");
+    page.number(step);
+    page.say(", ");
+    let Some(position) = positions.get(step) else {
+        page.say("changed it");
+        return;
     };
-    push_step(page, bytes_at(file.bytes, place.range))?;
+    push_step(page, bytes_at(file.bytes, position.range));
     page.say(if positive {
         ", deleted it ("
     } else {
         ", added it ("
-    })?;
-    page.file_name(file.name)?;
-    page.say(":")?;
-    page.number(place.line.number)?;
-    page.say(")")
+    });
+    page.file_name(file.name);
+    page.say(":");
+    page.number(position.line.number);
+    page.say(")");
 }
 
 /// Adds how many conditions are not shown.
-fn push_others(page: &mut Page, count: usize) -> Result<(), AllocError> {
+fn push_others(page: &mut Page, count: usize) {
     if count <= MOST_SHOWN {
-        return Ok(());
+        return;
     }
-    page.say("  and ")?;
-    page.number(count - MOST_SHOWN)?;
-    page.say(" more\n")
+    page.say("  and ");
+    page.number(count - MOST_SHOWN);
+    page.say(" more\n");
 }

@@ -1,18 +1,17 @@
 //! What a planner's comments say about the cost of its plan.
 
 use crate::page::Page;
-use crate::places::{Range, bytes_at};
 use crate::plans::PlanAt;
+use crate::positions::{Range, bytes_at};
 use memchr::{memchr, memchr_iter};
 use pddl_words::billionths;
 use plan_cost::Cost;
-use std::alloc::AllocError;
 
 /// How many bytes of a comment are read.
 const LONGEST: usize = 100;
 
 /// The cost of a plan as a comment has it.
-#[derive(Clone, Copy, Debug)]
+#[derive(Clone, Copy)]
 struct Claim {
     /// The cost in billionths.
     billionths: u64,
@@ -23,35 +22,30 @@ struct Claim {
 }
 
 /// Adds that a comment of a valid plan has another cost than the plan, if one does.
-pub(crate) fn push_cost_remark(
-    page: &mut Page,
-    plan: PlanAt<'_>,
-    steps: usize,
-    cost: Cost,
-) -> Result<(), AllocError> {
+pub(crate) fn push_cost_remark(page: &mut Page, plan: PlanAt<'_>, steps: usize, cost: Cost) {
     let Some(claim) = claim_in(plan.part.text()) else {
-        return Ok(());
+        return;
     };
     if is_right(claim, steps, cost) {
-        return Ok(());
+        return;
     }
-    page.note()?;
-    page.say("the comment at ")?;
-    page.file_name(plan.file.name)?;
-    page.say(":")?;
+    page.note();
+    page.say("the comment at ");
+    page.file_name(plan.file.name);
+    page.say(":");
     let at = plan.part.range.start.saturating_add(claim.offset);
     let mut lines = plan.part.lines;
-    page.number(lines.line_of(plan.file.bytes, at).number)?;
-    page.say(" says")?;
-    page.cost(Cost::Billionths(u128::from(claim.billionths)))?;
-    page.say(", but the plan has")?;
+    page.number(lines.line_of(plan.file.bytes, at).number);
+    page.say(" says");
+    page.cost(Cost::Billionths(u128::from(claim.billionths)));
+    page.say(", but the plan has");
     if cost == Cost::NotCounted {
-        page.say(" ")?;
-        page.count(steps, "step", "steps")?;
+        page.say(" ");
+        page.count(steps, "step", "steps");
     } else {
-        page.cost(cost)?;
+        page.cost(cost);
     }
-    page.say("\n")
+    page.say("\n");
 }
 
 /// Whether what a comment says is true, or can't be checked.

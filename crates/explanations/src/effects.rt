@@ -50,8 +50,8 @@ pub(crate) fn objects_of(
     step: StepView<'_>,
 ) -> Result<Vec<u16>, AllocError> {
     let mut objects = Vec::new(alloc);
-    for place in 0..step.arg_count() {
-        objects.push(task.object_named(step.arg(place)).unwrap_or(u16::MAX))?;
+    for index in 0..step.arg_count() {
+        objects.push(task.object_named(step.arg(index)).unwrap_or(u16::MAX))?;
     }
     Ok(objects)
 }
@@ -75,7 +75,10 @@ pub(crate) fn ground(
 /// The object that a term stands for.
 fn object_of(term: Term, objects: &[u16]) -> u16 {
     match term {
-        Term::Param(place) => objects.get(usize::from(place)).copied().unwrap_or(u16::MAX),
+        Term::Param(number) => objects
+            .get(usize::from(number))
+            .copied()
+            .unwrap_or(u16::MAX),
         Term::Object(object) => object,
     }
 }

@@ -2,20 +2,22 @@
 
 use crate::page::Page;
 use crate::scene::Scene;
-use std::alloc::AllocError;
 
 /// Adds what may appear where the fault is.
-pub(crate) fn push_expected_hints(page: &mut Page, scene: &Scene<'_>) -> Result<(), AllocError> {
+pub(crate) fn push_expected_hints(page: &mut Page, scene: &Scene<'_>) {
     if scene.is_swapped() {
-        return page.help_line("are the files of --domain and --problem swapped?");
+        page.help_line("are the files of --domain and --problem swapped?");
+        return;
     }
     if scene.depth() == 0 {
-        return page.help_line(outside_hint(scene));
+        page.help_line(outside_hint(scene));
+        return;
     }
     if scene.depth() == 1 {
-        return page.help_line(section_hint(scene));
+        page.help_line(section_hint(scene));
+        return;
     }
-    page.help_line(inside_hint(scene))
+    page.help_line(inside_hint(scene));
 }
 
 /// What may be outside all lists.

@@ -3,19 +3,18 @@
 use crate::hints::push_hints;
 use crate::outline::Sort;
 use crate::page::Page;
-use crate::places::{Range, place_of, push_excerpt, push_place};
+use crate::positions::{Range, position_of, push_excerpt, push_position};
 use crate::scene::Scene;
 use pddl_reader::FaultKind;
-use std::alloc::AllocError;
 
 /// Adds why a text is refused: the position, what is wrong there, the line, and hints.
-pub(crate) fn push_refusal(page: &mut Page, scene: &mut Scene<'_>) -> Result<(), AllocError> {
+pub(crate) fn push_refusal(page: &mut Page, scene: &mut Scene<'_>) {
     let bytes = scene.bytes();
-    let place = place_of(bytes, shown_range(scene));
-    push_place(page, scene.refusal.file.name, place)?;
-    push_message(page, scene)?;
-    page.say("\n")?;
-    push_excerpt(page, bytes, place)?;
+    let position = position_of(bytes, shown_range(scene));
+    push_position(page, scene.refusal.file.name, position);
+    push_message(page, scene);
+    page.say("\n");
+    push_excerpt(page, bytes, position);
     push_hints(page, scene)
 }
 
@@ -35,7 +34,7 @@ fn shown_range(scene: &Scene<'_>) -> Range {
 }
 
 /// Adds what is wrong.
-fn push_message(page: &mut Page, scene: &mut Scene<'_>) -> Result<(), AllocError> {
+fn push_message(page: &mut Page, scene: &mut Scene<'_>) {
     match scene.kind() {
         FaultKind::BadText => push_bad_text(page, scene),
         FaultKind::Unbalanced => push_unbalanced(page, scene),
@@ -52,32 +51,33 @@ fn push_message(page: &mut Page, scene: &mut Scene<'_>) -> Result<(), AllocError
     }
 }
 
-fn push_bad_text(page: &mut Page, scene: &Scene<'_>) -> Result<(), AllocError> {
+fn push_bad_text(page: &mut Page, scene: &Scene<'_>) {
     match scene.faulty().first() {
         Some(byte) => {
-            page.say("bad byte: the byte ")?;
-            page.hex(*byte)?;
-            page.say(" (hex) may be in comments only")
+            page.say("bad byte: the byte ");
+            page.hex(*byte);
+            page.say(" (hex) may be in comments only");
         }
         None => page.say("bad text: the file is too large"),
     }
 }
 
-fn push_unbalanced(page: &mut Page, scene: &Scene<'_>) -> Result<(), AllocError> {
+fn push_unbalanced(page: &mut Page, scene: &Scene<'_>) {
     if scene.faulty().is_empty() {
-        page.say("unbalanced: this `(` is never closed")
+        page.say("unbalanced: this `(` is never closed");
     } else {
-        page.say("unbalanced: this `)` closes no list")
+        page.say("unbalanced: this `)` closes no list");
     }
 }
 
-fn push_expected(page: &mut Page, scene: &Scene<'_>) -> Result<(), AllocError> {
+fn push_expected(page: &mut Page, scene: &Scene<'_>) {
     if scene.is_swapped() {
-        return page.say(if scene.refusal.is_problem {
+        page.say(if scene.refusal.is_problem {
             "unexpected: this is a domain, not a problem"
         } else {
             "unexpected: this is a problem, not a domain"
         });
+        return;
     }
     let faulty = scene.faulty();
     match faulty.first() {
@@ -85,28 +85,30 @@ fn push_expected(page: &mut Page, scene: &Scene<'_>) -> Result<(), AllocError> {
         Some(b')') => push_missing(page, scene),
         Some(b'(') => page.say("unexpected: a list may not be here"),
         Some(_) => {
-            page.say("unexpected: ")?;
-            page.quoted(faulty)?;
-            page.say(" may not be here")
+            page.say("unexpected: ");
+            page.quoted(faulty);
+            page.say(" may not be here");
         }
     }
 }
 
 /// Adds that something is missing before a `)`.
-fn push_missing(page: &mut Page, scene: &Scene<'_>) -> Result<(), AllocError> {
+fn push_missing(page: &mut Page, scene: &Scene<'_>) {
     if scene.depth() == 1 && scene.refusal.is_problem && scene.pieces.is_word(3, b"problem") {
         if !scene.has_list(b":domain") {
-            return page.say("unexpected: the problem ends without `(:domain ..)`");
+            page.say("unexpected: the problem ends without `(:domain ..)`");
+            return;
         }
         if !scene.has_list(b":goal") {
-            return page.say("unexpected: the problem ends without `(:goal ..)`");
+            page.say("unexpected: the problem ends without `(:goal ..)`");
+            return;
         }
     }
-    page.say("unexpected: something is missing before this `)`")
+    page.say("unexpected: something is missing before this `)`");
 }
 
-fn push_unsupported(page: &mut Page, scene: &Scene<'_>) -> Result<(), AllocError> {
-    page.say("unsupported: ")?;
+fn push_unsupported(page: &mut Page, scene: &Scene<'_>) {
+    page.say("unsupported: ");
     let is_list = scene.faulty() == b"(".as_slice();
     let word = if is_list {
         scene.head()
@@ -114,13 +116,14 @@ fn push_unsupported(page: &mut Page, scene: &Scene<'_>) -> Result<(), AllocError
         scene.faulty()
     };
     if is_list && !is_ipc_word(word) {
-        return page.say("a list may not be an argument");
+        page.say("a list may not be an argument");
+        return;
     }
-    page.quoted(word)?;
+    page.quoted(word);
     if is_ipc_word(word) && !scene.is_ipc() {
-        page.say(" is not part of the default language")
+        page.say(" is not part of the default language");
     } else {
-        page.say(" is not supported here")
+        page.say(" is not supported here");
     }
 }
 
@@ -143,16 +146,16 @@ pub(crate) fn sort_name(sort: Sort) -> &'static str {
     }
 }
 
-fn push_unknown(page: &mut Page, scene: &Scene<'_>) -> Result<(), AllocError> {
-    page.say("unknown name: no ")?;
-    page.say(sort_name(scene.wanted_sort()))?;
-    page.say(" is called ")?;
-    page.quoted(scene.faulty())
+fn push_unknown(page: &mut Page, scene: &Scene<'_>) {
+    page.say("unknown name: no ");
+    page.say(sort_name(scene.wanted_sort()));
+    page.say(" is called ");
+    page.quoted(scene.faulty());
 }
 
-fn push_repeated(page: &mut Page, scene: &Scene<'_>) -> Result<(), AllocError> {
-    page.say("repeated: ")?;
-    page.quoted(scene.faulty())?;
+fn push_repeated(page: &mut Page, scene: &Scene<'_>) {
+    page.say("repeated: ");
+    page.quoted(scene.faulty());
     match scene.faulty().first() {
         Some(b':') => page.say(" is here a second time"),
         Some(b'0'..=b'9') => page.say(" is another value for the same function"),
@@ -160,46 +163,47 @@ fn push_repeated(page: &mut Page, scene: &Scene<'_>) -> Result<(), AllocError> {
     }
 }
 
-fn push_type_cycle(page: &mut Page, scene: &Scene<'_>) -> Result<(), AllocError> {
-    page.say("type cycle: the type ")?;
-    page.quoted(scene.faulty())?;
+fn push_type_cycle(page: &mut Page, scene: &Scene<'_>) {
+    page.say("type cycle: the type ");
+    page.quoted(scene.faulty());
     if scene.is_faulty(b"object") {
-        page.say(" may not be below another type")
+        page.say(" may not be below another type");
     } else {
-        page.say(" is below itself")
+        page.say(" is below itself");
     }
 }
 
-fn push_wrong_count(page: &mut Page, scene: &mut Scene<'_>) -> Result<(), AllocError> {
-    page.say("wrong count: ")?;
-    page.quoted(scene.faulty())?;
+fn push_wrong_count(page: &mut Page, scene: &mut Scene<'_>) {
+    page.say("wrong count: ");
+    page.quoted(scene.faulty());
     let sort = scene.wanted_sort();
     let word = scene.faulty();
     if let Some(found) = scene.library.find(sort, word) {
-        page.say(" takes ")?;
+        page.say(" takes ");
         let wanted = scene.library.variable_count(&found);
-        page.count(wanted, "argument", "arguments")?;
-        page.say(", not ")?;
-        return page.number(scene.terms_in_list());
+        page.count(wanted, "argument", "arguments");
+        page.say(", not ");
+        page.number(scene.terms_in_list());
+        return;
     }
-    page.say(" has the wrong number of arguments")
+    page.say(" has the wrong number of arguments");
 }
 
-fn push_wrong_type(page: &mut Page, scene: &Scene<'_>) -> Result<(), AllocError> {
-    page.say("wrong type: ")?;
-    page.quoted(scene.faulty())?;
-    page.say(" may not be argument ")?;
-    page.number(scene.place_in_list())?;
-    page.say(" of ")?;
-    page.quoted(scene.head())
+fn push_wrong_type(page: &mut Page, scene: &Scene<'_>) {
+    page.say("wrong type: ");
+    page.quoted(scene.faulty());
+    page.say(" may not be argument ");
+    page.number(scene.index_in_list());
+    page.say(" of ");
+    page.quoted(scene.head());
 }
 
-fn push_too_many(page: &mut Page, scene: &Scene<'_>) -> Result<(), AllocError> {
-    page.say("too many: ")?;
-    page.quoted(scene.faulty())?;
-    page.say(" is one ")?;
-    page.say(excess(scene).0)?;
-    page.say(" too many")
+fn push_too_many(page: &mut Page, scene: &Scene<'_>) {
+    page.say("too many: ");
+    page.quoted(scene.faulty());
+    page.say(" is one ");
+    page.say(excess(scene).0);
+    page.say(" too many");
 }
 
 /// What there is too much of at the fault, and how many are allowed.

@@ -5,13 +5,13 @@ use crate::faults::{excess, is_ipc_word, sort_name};
 use crate::library::{Found, push_types};
 use crate::outline::Sort;
 use crate::page::Page;
-use crate::places::{Range, bytes_at, line_at, push_line};
+use crate::positions::{Range, bytes_at, line_at, push_line};
 use crate::scene::Scene;
 use pddl_reader::FaultKind;
-use std::alloc::AllocError;
+use std::alloc::{AllocError, Global};
 
 /// Adds the hints for a refused text, each on a line of its own.
-pub(crate) fn push_hints(page: &mut Page, scene: &mut Scene<'_>) -> Result<(), AllocError> {
+pub(crate) fn push_hints(page: &mut Page, scene: &mut Scene<'_>) {
     match scene.kind() {
         FaultKind::BadText => push_bad_text(page, scene),
         FaultKind::Unbalanced => push_unbalanced(page, scene),
@@ -25,20 +25,20 @@ pub(crate) fn push_hints(page: &mut Page, scene: &mut Scene<'_>) -> Result<(), A
         FaultKind::WrongCount => push_declaration(page, scene),
         FaultKind::WrongType => push_wrong_type(page, scene),
         FaultKind::TooDeep => {
-            page.help_line("`(and ..)` inside `(and ..)` may be written as one `(and ..)`")
+            page.help_line("`(and ..)` inside `(and ..)` may be written as one `(and ..)`");
         }
         FaultKind::TooMany => push_too_many(page, scene),
-        FaultKind::OutOfMemory => Ok(()),
+        FaultKind::OutOfMemory => {}
     }
 }
 
-fn push_bad_text(page: &mut Page, scene: &Scene<'_>) -> Result<(), AllocError> {
+fn push_bad_text(page: &mut Page, scene: &Scene<'_>) {
     let at = scene.range().start;
     push_bad_byte(page, scene.bytes(), at)
 }
 
 /// Adds what a bad byte at an offset may come from.
-pub(crate) fn push_bad_byte(page: &mut Page, bytes: &[u8], at: usize) -> Result<(), AllocError> {
+pub(crate) fn push_bad_byte(page: &mut Page, bytes: &[u8], at: usize) {
     let rest = bytes_at(
         bytes,
         Range {
@@ -46,7 +46,7 @@ pub(crate) fn push_bad_byte(page: &mut Page, bytes: &[u8], at: usize) -> Result<
             end: at.saturating_add(3),
         },
     );
-    page.help_line(bad_byte_hint(rest, at == 0))
+    page.help_line(bad_byte_hint(rest, at == 0));
 }
 
 /// What the bytes from a bad byte on may come from.
@@ -71,27 +71,29 @@ fn bad_byte_hint(rest: &[u8], is_start: bool) -> &'static str {
     }
 }
 
-fn push_unbalanced(page: &mut Page, scene: &Scene<'_>) -> Result<(), AllocError> {
+fn push_unbalanced(page: &mut Page, scene: &Scene<'_>) {
     if !scene.faulty().is_empty() {
-        return page.help_line("remove it, or add the `(` that is missing before it");
+        page.help_line("remove it, or add the `(` that is missing before it");
+        return;
     }
     if let Some(nested) = nested_section(scene) {
-        page.help()?;
-        page.quoted(scene.pieces.word(nested))?;
-        page.say(" in line ")?;
+        page.help();
+        page.quoted(scene.pieces.word(nested));
+        page.say(" in line ");
         let at = match scene.pieces.get(nested) {
             Some(piece) => piece.range().start,
             None => 0,
         };
-        page.number(line_at(scene.bytes(), at).number)?;
-        return page.say(" is inside another section: a `)` may be missing before it\n");
+        page.number(line_at(scene.bytes(), at).number);
+        page.say(" is inside another section: a `)` may be missing before it\n");
+        return;
     }
-    page.help()?;
-    page.say("the file ends in line ")?;
-    page.number(line_at(scene.bytes(), scene.bytes().len()).number)?;
-    page.say(" with ")?;
-    page.count(open_lists(scene), "list", "lists")?;
-    page.say(" open: add what is missing\n")
+    page.help();
+    page.say("the file ends in line ");
+    page.number(line_at(scene.bytes(), scene.bytes().len()).number);
+    page.say(" with ");
+    page.count(open_lists(scene), "list", "lists");
+    page.say(" open: add what is missing\n");
 }
 
 /// How many lists are open at the end.
@@ -126,7 +128,7 @@ fn nested_section(scene: &Scene<'_>) -> Option<usize> {
     None
 }
 
-fn push_unsupported(page: &mut Page, scene: &Scene<'_>) -> Result<(), AllocError> {
+fn push_unsupported(page: &mut Page, scene: &Scene<'_>) {
     let is_list = scene.faulty() == b"(".as_slice();
     let word = if is_list {
         scene.head()
@@ -134,14 +136,16 @@ fn push_unsupported(page: &mut Page, scene: &Scene<'_>) -> Result<(), AllocError
         scene.faulty()
     };
     if is_ipc_word(word) && !scene.is_ipc() {
-        return page.help_line(
+        page.help_line(
             "--dialect ipc reads action costs, equality and a second parent `object` of a type",
         );
+        return;
     }
     if is_list {
-        return page.help_line("arguments are names and variables");
+        page.help_line("arguments are names and variables");
+        return;
     }
-    page.help_line(unsupported_hint(word))
+    page.help_line(unsupported_hint(word));
 }
 
 /// What to do about a word that is not read.
@@ -180,11 +184,12 @@ fn is_one_of(word: &[u8], others: &[&[u8]]) -> bool {
     false
 }
 
-fn push_unknown(page: &mut Page, scene: &mut Scene<'_>) -> Result<(), AllocError> {
+fn push_unknown(page: &mut Page, scene: &mut Scene<'_>) {
     let sort = scene.wanted_sort();
-    let near = nearest(page, scene, sort)?;
-    if let Some(name) = near {
-        return push_did_you_mean(page, name);
+    let near = nearest(page.alloc(), scene, sort);
+    if let Some(name) = page.found(near) {
+        push_did_you_mean(page, name);
+        return;
     }
     page.help_line(match sort {
         Sort::Type => "declare it in `(:types ..)` of the domain",
@@ -199,39 +204,40 @@ fn push_unknown(page: &mut Page, scene: &mut Scene<'_>) -> Result<(), AllocError
 }
 
 /// Adds the name that may be meant.
-pub(crate) fn push_did_you_mean(page: &mut Page, name: &[u8]) -> Result<(), AllocError> {
-    page.help()?;
-    page.say("did you mean ")?;
-    page.quoted(name)?;
-    page.say("?\n")
+pub(crate) fn push_did_you_mean(page: &mut Page, name: &[u8]) {
+    page.help();
+    page.say("did you mean ");
+    page.quoted(name);
+    page.say("?\n");
 }
 
 /// The name that is nearest to the faulty one, if one is near.
 fn nearest<'a>(
-    page: &Page,
+    alloc: Global,
     scene: &mut Scene<'a>,
     sort: Sort,
 ) -> Result<Option<&'a [u8]>, AllocError> {
     let word = scene.faulty();
     if sort != Sort::Variable {
-        return scene.library.nearest(page.alloc(), sort, word);
+        return scene.library.nearest(alloc, sort, word);
     }
     match scene.library.action_at(scene.range().start) {
-        Some(action) => scene.library.nearest_variable(page.alloc(), &action, word),
+        Some(action) => scene.library.nearest_variable(alloc, &action, word),
         None => Ok(None),
     }
 }
 
-fn push_repeated(page: &mut Page, scene: &mut Scene<'_>) -> Result<(), AllocError> {
+fn push_repeated(page: &mut Page, scene: &mut Scene<'_>) {
     let word = scene.faulty();
-    if let Some(at) = first_place(scene, word) {
-        return push_first(page, scene.bytes(), at);
+    if let Some(at) = first_offset(scene, word) {
+        push_first(page, scene.bytes(), at);
+        return;
     }
     let sort = scene.declared_sort();
     match scene.library.find(sort, word) {
         Some(found) if is_typed(sort) => push_declared_at(page, &found),
         Some(found) => push_first(page, found.file.bytes, found.declared.name.start),
-        None => Ok(()),
+        None => {}
     }
 }
 
@@ -241,15 +247,15 @@ fn is_typed(sort: Sort) -> bool {
 }
 
 /// Adds the line of the first of two.
-fn push_first(page: &mut Page, bytes: &[u8], at: usize) -> Result<(), AllocError> {
-    page.help()?;
-    page.say("the first is in line ")?;
-    page.number(line_at(bytes, at).number)?;
-    page.say("; remove one of the two\n")
+fn push_first(page: &mut Page, bytes: &[u8], at: usize) {
+    page.help();
+    page.say("the first is in line ");
+    page.number(line_at(bytes, at).number);
+    page.say("; remove one of the two\n");
 }
 
 /// The offset of the first use of a keyword or a variable that may not be repeated.
-fn first_place(scene: &Scene<'_>, word: &[u8]) -> Option<usize> {
+fn first_offset(scene: &Scene<'_>, word: &[u8]) -> Option<usize> {
     let start = match word.first() {
         Some(b'?') => action_start(scene),
         Some(b':') if is_part(word) => action_start(scene),
@@ -282,48 +288,44 @@ fn action_start(scene: &Scene<'_>) -> usize {
 }
 
 /// Adds where a name is declared, and with which type.
-fn push_declared_at(page: &mut Page, found: &Found<'_>) -> Result<(), AllocError> {
-    page.help()?;
-    page.quoted(found.name())?;
-    page.say(" is declared at ")?;
-    push_line(page, found.file, found.declared.name.start)?;
+fn push_declared_at(page: &mut Page, found: &Found<'_>) {
+    page.help();
+    page.quoted(found.name());
+    page.say(" is declared at ");
+    push_line(page, found.file, found.declared.name.start);
     page.say(if found.declared.sort == Sort::Type {
         " below `"
     } else {
         " with the type `"
-    })?;
-    push_types(page, found.file.bytes, &found.declared)?;
-    page.say("`\n")
+    });
+    push_types(page, found.file.bytes, &found.declared);
+    page.say("`\n");
 }
 
 /// Adds the declaration of the faulty name, with its variables.
-fn push_declaration(page: &mut Page, scene: &mut Scene<'_>) -> Result<(), AllocError> {
+fn push_declaration(page: &mut Page, scene: &mut Scene<'_>) {
     let sort = scene.wanted_sort();
     let word = scene.faulty();
     match scene.library.find(sort, word) {
         Some(found) => push_signature_at(page, scene, &found),
-        None => Ok(()),
+        None => {}
     }
 }
 
 /// Adds a declaration with its variables and where it is.
-fn push_signature_at<'a>(
-    page: &mut Page,
-    scene: &Scene<'a>,
-    found: &Found<'a>,
-) -> Result<(), AllocError> {
-    page.help()?;
-    page.say("the ")?;
-    page.say(sort_name(found.declared.sort))?;
-    page.say(" is declared at ")?;
-    push_line(page, found.file, found.declared.name.start)?;
-    page.say(" as ")?;
-    scene.library.push_signature(page, found)?;
-    page.say("\n")
+fn push_signature_at<'a>(page: &mut Page, scene: &Scene<'a>, found: &Found<'a>) {
+    page.help();
+    page.say("the ");
+    page.say(sort_name(found.declared.sort));
+    page.say(" is declared at ");
+    push_line(page, found.file, found.declared.name.start);
+    page.say(" as ");
+    scene.library.push_signature(page, found);
+    page.say("\n");
 }
 
-fn push_wrong_type(page: &mut Page, scene: &mut Scene<'_>) -> Result<(), AllocError> {
-    push_type_of_term(page, scene)?;
+fn push_wrong_type(page: &mut Page, scene: &mut Scene<'_>) {
+    push_type_of_term(page, scene);
     let outer = scene.outer_head();
     let is_value = outer == b"=".as_slice() || outer.eq_ignore_ascii_case(b"increase");
     let sort = if is_value && scene.is_ipc() {
@@ -334,38 +336,38 @@ fn push_wrong_type(page: &mut Page, scene: &mut Scene<'_>) -> Result<(), AllocEr
     let head = scene.head();
     match scene.library.find(sort, head) {
         Some(found) => push_signature_at(page, scene, &found),
-        None => Ok(()),
+        None => {}
     }
 }
 
 /// Adds the type of the faulty term.
-fn push_type_of_term(page: &mut Page, scene: &mut Scene<'_>) -> Result<(), AllocError> {
+fn push_type_of_term(page: &mut Page, scene: &mut Scene<'_>) {
     let word = scene.faulty();
     if word.first() != Some(&b'?') {
         return match scene.library.find(Sort::Object, word) {
             Some(found) => push_declared_at(page, &found),
-            None => Ok(()),
+            None => {}
         };
     }
     let Some(action) = scene.library.action_at(scene.range().start) else {
-        return Ok(());
+        return;
     };
     let Some(variable) = scene.library.variable_named(&action, word) else {
-        return Ok(());
+        return;
     };
-    page.help()?;
-    page.quoted(word)?;
-    page.say(" is declared in line ")?;
-    page.number(line_at(scene.bytes(), variable.name.start).number)?;
-    page.say(" with the type `")?;
-    push_types(page, scene.bytes(), &variable)?;
-    page.say("`\n")
+    page.help();
+    page.quoted(word);
+    page.say(" is declared in line ");
+    page.number(line_at(scene.bytes(), variable.name.start).number);
+    page.say(" with the type `");
+    push_types(page, scene.bytes(), &variable);
+    page.say("`\n");
 }
 
-fn push_too_many(page: &mut Page, scene: &Scene<'_>) -> Result<(), AllocError> {
+fn push_too_many(page: &mut Page, scene: &Scene<'_>) {
     let (_, limit) = excess(scene);
-    page.help()?;
-    page.say("there may be at most ")?;
-    page.number(limit)?;
-    page.say("\n")
+    page.help();
+    page.say("there may be at most ");
+    page.number(limit);
+    page.say("\n");
 }

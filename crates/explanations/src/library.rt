@@ -4,11 +4,11 @@ use crate::SourceText;
 use crate::names::{Budget, Nearest};
 use crate::outline::{Declared, Outline, Sort};
 use crate::page::Page;
-use crate::places::bytes_at;
+use crate::positions::bytes_at;
 use std::alloc::{AllocError, Global};
 
 /// A file and the names that it declares.
-#[derive(Debug, Drop)]
+#[derive(Drop)]
 pub(crate) struct Known<'a> {
     file: SourceText<'a>,
     outline: Outline,
@@ -24,7 +24,7 @@ impl<'a> Known<'a> {
 }
 
 /// The domain and the problem with their names. If the domain is refused, the problem is empty.
-#[derive(Debug, Drop)]
+#[derive(Drop)]
 pub(crate) struct Library<'a> {
     domain: Known<'a>,
     problem: Known<'a>,
@@ -32,7 +32,7 @@ pub(crate) struct Library<'a> {
 }
 
 /// A name that was found.
-#[derive(Clone, Copy, Debug)]
+#[derive(Clone, Copy)]
 pub(crate) struct Found<'a> {
     /// The file that declares it.
     pub(crate) file: SourceText<'a>,
@@ -208,11 +208,11 @@ impl<'a> Library<'a> {
     }
 
     /// A variable of a predicate, a function or an action, counted from 0.
-    pub(crate) fn variable(&self, found: &Found<'a>, place: usize) -> Option<Declared> {
+    pub(crate) fn variable(&self, found: &Found<'a>, index: usize) -> Option<Declared> {
         let mut count: usize = 0;
         for declared in self.names(found.in_problem) {
             if declared.sort == Sort::Variable && declared.owner == found.number {
-                if count == place {
+                if count == index {
                     return Some(*declared);
                 }
                 count = count.saturating_add(1);
@@ -235,34 +235,27 @@ impl<'a> Library<'a> {
     }
 
     /// Adds `(NAME ?a - TYPE ..)`.
-    pub(crate) fn push_signature(
-        &self,
-        page: &mut Page,
-        found: &Found<'a>,
-    ) -> Result<(), AllocError> {
-        page.say("`(")?;
-        page.word(found.name())?;
+    pub(crate) fn push_signature(&self, page: &mut Page, found: &Found<'a>) {
+        page.say("`(");
+        page.word(found.name());
         for declared in self.names(found.in_problem) {
             if declared.sort == Sort::Variable && declared.owner == found.number {
-                page.say(" ")?;
-                page.word(bytes_at(found.file.bytes, declared.name))?;
-                page.say(" - ")?;
-                push_types(page, found.file.bytes, declared)?;
+                page.say(" ");
+                page.word(bytes_at(found.file.bytes, declared.name));
+                page.say(" - ");
+                push_types(page, found.file.bytes, declared);
             }
         }
-        page.say(")`")
+        page.say(")`");
     }
 }
 
 /// Adds the type of a declared name.
-pub(crate) fn push_types(
-    page: &mut Page,
-    bytes: &[u8],
-    declared: &Declared,
-) -> Result<(), AllocError> {
+pub(crate) fn push_types(page: &mut Page, bytes: &[u8], declared: &Declared) {
     let types = bytes_at(bytes, declared.types);
     if types.is_empty() {
-        return page.say("object");
+        page.say("object");
+        return;
     }
-    page.word(types)
+    page.word(types);
 }

@@ -14,7 +14,7 @@ const MOST_WORK: usize = 20_000_000;
 const COMPARING: usize = 30;
 
 /// What a search for a near name has found so far.
-#[derive(Clone, Copy, Debug)]
+#[derive(Clone, Copy)]
 pub(crate) struct Nearest<'a> {
     wanted: &'a [u8],
     /// The nearest name so far and its distance.
@@ -22,7 +22,7 @@ pub(crate) struct Nearest<'a> {
 }
 
 /// How much work may still be done for hints.
-#[derive(Debug, Drop)]
+#[derive(Drop)]
 pub(crate) struct Budget {
     left: usize,
 }

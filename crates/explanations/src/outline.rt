@@ -1,12 +1,12 @@
 //! The names that a domain or a problem declares, gathered from its words, whether the text is right or not.
 
-use crate::places::Range;
+use crate::positions::Range;
 use crate::tokens::range_of;
 use pddl_tokens::{Cursor, Token, TokenKind};
 use std::alloc::{AllocError, Global};
 
 /// What a name is declared as.
-#[derive(Clone, Copy, Debug, PartialEq, Eq)]
+#[derive(Clone, Copy, PartialEq, Eq)]
 pub(crate) enum Sort {
     Type,
     Object,
@@ -17,7 +17,7 @@ pub(crate) enum Sort {
 }
 
 /// A declared name.
-#[derive(Clone, Copy, Debug)]
+#[derive(Clone, Copy)]
 pub(crate) struct Declared {
     pub(crate) sort: Sort,
     pub(crate) name: Range,
@@ -31,7 +31,7 @@ pub(crate) struct Declared {
 const NOTHING: Range = Range { start: 0, end: 0 };
 
 /// A section of a definition.
-#[derive(Clone, Copy, Debug, PartialEq, Eq)]
+#[derive(Clone, Copy, PartialEq, Eq)]
 enum Section {
     Types,
     Objects,
@@ -59,7 +59,7 @@ fn section_of(word: &[u8]) -> Section {
 }
 
 /// The declared names of a text, in its order.
-#[derive(Debug, Drop)]
+#[derive(Drop)]
 pub(crate) struct Outline {
     names: Vec<Declared>,
 }
@@ -84,7 +84,7 @@ impl Outline {
 }
 
 /// How far a walk over the tokens has come.
-#[derive(Debug, Drop)]
+#[derive(Drop)]
 struct Walk {
     names: Vec<Declared>,
     /// How many lists are open.
@@ -103,7 +103,7 @@ struct Walk {
 }
 
 /// A dash that was read, and what was read of its type.
-#[derive(Clone, Copy, Debug)]
+#[derive(Clone, Copy)]
 struct Dash {
     /// Where a list of types begins, if one does.
     start: Option<usize>,

@@ -9,8 +9,8 @@ use crate::hints::push_did_you_mean;
 use crate::library::{Found, Library, push_types};
 use crate::outline::Sort;
 use crate::page::{Page, Style};
-use crate::places::{Place, Range, bytes_at, push_excerpt, push_place};
-use crate::steps::{Part, StepPlaces, push_step, word_count, word_of, word_range};
+use crate::positions::{Position, Range, bytes_at, push_excerpt, push_position};
+use crate::steps::{Part, StepPositions, push_step, word_count, word_of, word_range};
 use crate::unreadable::push_unreadable;
 use plan_cost::{Assessment, Cost};
 use std::alloc::AllocError;
@@ -18,7 +18,7 @@ use strips_judge::{GroundCond, Verdict, Why};
 use text_judge::TextJudge;
 
 /// A plan of a file.
-#[derive(Clone, Copy, Debug)]
+#[derive(Clone, Copy)]
 pub(crate) struct PlanAt<'a> {
     pub(crate) file: SourceText<'a>,
     pub(crate) part: Part<'a>,
@@ -37,8 +37,14 @@ pub(crate) fn push_assessment<'a>(
     ensures { judge.new ≡ judge.old }
 {
     match &assessment.verdict {
-        Verdict::Valid { steps } => push_valid(page, plan, *steps as usize, assessment.cost),
-        Verdict::Unreadable { line: _ } => push_unreadable(page, library, plan),
+        Verdict::Valid { steps } => {
+            push_valid(page, plan, *steps as usize, assessment.cost);
+            Ok(())
+        }
+        Verdict::Unreadable { line: _ } => {
+            push_unreadable(page, library, plan);
+            Ok(())
+        }
         Verdict::Goal { missing } => push_missed(page, judge, plan, missing.as_slice()),
         Verdict::Fails { step, why } => {
             push_failed(page, judge, library, plan, *step as usize, why)
@@ -55,10 +61,10 @@ fn push_missed(
 ) -> Result<(), AllocError>
     ensures { judge.new ≡ judge.old }
 {
-    push_name(page, plan)?;
-    push_goal(page, plan.number, missing.len())?;
-    let places = StepPlaces::new(page.alloc(), plan.part)?;
-    push_causes(page, judge, plan.file, plan.part, &places, missing)
+    push_name(page, plan);
+    push_goal(page, plan.number, missing.len());
+    let positions = StepPositions::new(page.alloc(), plan.part)?;
+    push_causes(page, judge, plan.file, plan.part, &positions, missing)
 }
 
 /// Adds which step of a plan fails, and which steps made its conditions false.
@@ -72,10 +78,10 @@ fn push_failed<'a>(
 ) -> Result<(), AllocError>
     ensures { judge.new ≡ judge.old }
 {
-    let places = StepPlaces::new(page.alloc(), plan.part)?;
-    push_failure(page, library, plan, places.get(step), step, why)?;
+    let positions = StepPositions::new(page.alloc(), plan.part)?;
+    push_failure(page, library, plan, positions.get(step), step, why);
     let missing = missing_of(why);
-    push_causes(page, judge, plan.file, plan.part, &places, missing)
+    push_causes(page, judge, plan.file, plan.part, &positions, missing)
 }
 
 /// The conditions that do not hold before a step.
@@ -87,46 +93,41 @@ fn missing_of(why: &Why) -> &[GroundCond] {
 }
 
 /// Adds `FILE: `.
-pub(crate) fn push_name(page: &mut Page, plan: PlanAt<'_>) -> Result<(), AllocError> {
-    page.style(Style::Place)?;
-    page.file_name(plan.file.name)?;
-    page.say(":")?;
-    page.style(Style::Plain)?;
-    page.say(" ")
+pub(crate) fn push_name(page: &mut Page, plan: PlanAt<'_>) {
+    page.style(Style::Position);
+    page.file_name(plan.file.name);
+    page.say(":");
+    page.style(Style::Plain);
+    page.say(" ");
 }
 
 /// Adds that a plan is valid, and what it costs.
-fn push_valid(
-    page: &mut Page,
-    plan: PlanAt<'_>,
-    steps: usize,
-    cost: Cost,
-) -> Result<(), AllocError> {
-    push_name(page, plan)?;
-    page.say("plan ")?;
-    page.number(plan.number)?;
-    page.say(" is valid: ")?;
-    page.count(steps, "step", "steps")?;
+fn push_valid(page: &mut Page, plan: PlanAt<'_>, steps: usize, cost: Cost) {
+    push_name(page, plan);
+    page.say("plan ");
+    page.number(plan.number);
+    page.say(" is valid: ");
+    page.count(steps, "step", "steps");
     if cost != Cost::NotCounted {
-        page.say(",")?;
+        page.say(",");
     }
-    page.cost(cost)?;
-    page.say("\n")?;
+    page.cost(cost);
+    page.say("\n");
     push_cost_remark(page, plan, steps, cost)
 }
 
 /// Adds that a plan misses the goal.
-fn push_goal(page: &mut Page, number: usize, missing: usize) -> Result<(), AllocError> {
-    page.say("plan ")?;
-    page.number(number)?;
-    page.say(" misses the goal: ")?;
-    push_conditions(page, missing)?;
-    page.say(" at the end\n")
+fn push_goal(page: &mut Page, number: usize, missing: usize) {
+    page.say("plan ");
+    page.number(number);
+    page.say(" misses the goal: ");
+    push_conditions(page, missing);
+    page.say(" at the end\n");
 }
 
 /// Adds how many conditions do not hold.
-fn push_conditions(page: &mut Page, count: usize) -> Result<(), AllocError> {
-    page.count(count, "condition does not hold", "conditions do not hold")
+fn push_conditions(page: &mut Page, count: usize) {
+    page.count(count, "condition does not hold", "conditions do not hold");
 }
 
 /// Adds which step fails and why, the line of the step, and a hint.
@@ -134,37 +135,32 @@ fn push_failure<'a>(
     page: &mut Page,
     library: &mut Library<'a>,
     plan: PlanAt<'a>,
-    place: Option<Place>,
+    position: Option<Position>,
     number: usize,
     why: &Why,
-) -> Result<(), AllocError> {
-    let Some(place) = place else {
-        return Ok(());
+) {
+    let Some(position) = position else {
+        return;
     };
-    let step = bytes_at(plan.file.bytes, place.range);
-    let faulty = faulty_place(plan.file.bytes, place, why);
-    push_place(page, plan.file.name, faulty)?;
-    push_failing_step(page, plan.number, number, step)?;
-    push_why(page, library, step, why)?;
-    page.say("\n")?;
-    push_excerpt(page, plan.file.bytes, faulty)?;
+    let step = bytes_at(plan.file.bytes, position.range);
+    let faulty = faulty_position(plan.file.bytes, position, why);
+    push_position(page, plan.file.name, faulty);
+    push_failing_step(page, plan.number, number, step);
+    push_why(page, library, step, why);
+    page.say("\n");
+    push_excerpt(page, plan.file.bytes, faulty);
     push_hint(page, library, step, why)
 }
 
 /// Adds which step of which plan fails.
-fn push_failing_step(
-    page: &mut Page,
-    plan: usize,
-    number: usize,
-    step: &[u8],
-) -> Result<(), AllocError> {
-    page.say("plan ")?;
-    page.number(plan)?;
-    page.say(" fails at step ")?;
-    page.number(number)?;
-    page.say(", ")?;
-    push_step(page, step)?;
-    page.say(": ")
+fn push_failing_step(page: &mut Page, plan: usize, number: usize, step: &[u8]) {
+    page.say("plan ");
+    page.number(plan);
+    page.say(" fails at step ");
+    page.number(number);
+    page.say(", ");
+    push_step(page, step);
+    page.say(": ");
 }
 
 /// The number of the word of a step that is wrong, if one is: 0 for the action.
@@ -179,7 +175,7 @@ fn faulty_word(why: &Why) -> Option<usize> {
 }
 
 /// The position of the word of a step that is wrong, or of the whole step.
-fn faulty_place(file: &[u8], step: Place, why: &Why) -> Place {
+fn faulty_position(file: &[u8], step: Position, why: &Why) -> Position {
     let Some(number) = faulty_word(why) else {
         return step;
     };
@@ -196,56 +192,42 @@ fn faulty_place(file: &[u8], step: Place, why: &Why) -> Place {
 }
 
 /// Adds what is wrong with a step.
-fn push_why<'a>(
-    page: &mut Page,
-    library: &mut Library<'a>,
-    step: &'a [u8],
-    why: &Why,
-) -> Result<(), AllocError> {
+fn push_why<'a>(page: &mut Page, library: &mut Library<'a>, step: &'a [u8], why: &Why) {
     match why {
         Why::UnknownAction => {
-            page.say("no action is called ")?;
-            page.quoted(word_of(step, 0))
+            page.say("no action is called ");
+            page.quoted(word_of(step, 0));
         }
         Why::WrongCount => push_wrong_count(page, library, step),
         Why::UnknownObject { arg } => {
-            page.say("no object is called ")?;
-            page.quoted(word_of(step, *arg as usize))
+            page.say("no object is called ");
+            page.quoted(word_of(step, *arg as usize));
         }
         Why::WrongType { arg } => {
-            page.quoted(word_of(step, *arg as usize))?;
-            page.say(" has the wrong type")
+            page.quoted(word_of(step, *arg as usize));
+            page.say(" has the wrong type");
         }
         Why::Missing(missing) => push_conditions(page, missing.as_slice().len()),
     }
 }
 
 /// Adds how many arguments an action takes.
-fn push_wrong_count<'a>(
-    page: &mut Page,
-    library: &mut Library<'a>,
-    step: &'a [u8],
-) -> Result<(), AllocError> {
+fn push_wrong_count<'a>(page: &mut Page, library: &mut Library<'a>, step: &'a [u8]) {
     let action = word_of(step, 0);
-    page.quoted(action)?;
+    page.quoted(action);
     match library.find(Sort::Action, action) {
         Some(found) => {
-            page.say(" takes ")?;
-            page.count(library.variable_count(&found), "argument", "arguments")?;
-            page.say(", not ")?;
-            page.number(word_count(step).saturating_sub(1))
+            page.say(" takes ");
+            page.count(library.variable_count(&found), "argument", "arguments");
+            page.say(", not ");
+            page.number(word_count(step).saturating_sub(1));
         }
         None => page.say(" takes another number of arguments"),
     }
 }
 
 /// Adds what to do about a step.
-fn push_hint<'a>(
-    page: &mut Page,
-    library: &mut Library<'a>,
-    step: &'a [u8],
-    why: &Why,
-) -> Result<(), AllocError> {
+fn push_hint<'a>(page: &mut Page, library: &mut Library<'a>, step: &'a [u8], why: &Why) {
     match why {
         Why::UnknownAction => push_near(page, library, Sort::Action, word_of(step, 0)),
         Why::UnknownObject { arg } => {
@@ -253,63 +235,50 @@ fn push_hint<'a>(
         }
         Why::WrongCount => match library.find(Sort::Action, word_of(step, 0)) {
             Some(found) => push_action(page, library, &found),
-            None => Ok(()),
+            None => {}
         },
         Why::WrongType { arg } => push_types_of(page, library, step, *arg as usize),
-        Why::Missing(_) => Ok(()),
+        Why::Missing(_) => {}
     }
 }
 
 /// Adds the known name that is nearest to a word, if one is near.
-fn push_near<'a>(
-    page: &mut Page,
-    library: &mut Library<'a>,
-    sort: Sort,
-    word: &'a [u8],
-) -> Result<(), AllocError> {
-    match library.nearest(page.alloc(), sort, word)? {
+fn push_near<'a>(page: &mut Page, library: &mut Library<'a>, sort: Sort, word: &'a [u8]) {
+    let near = library.nearest(page.alloc(), sort, word);
+    match page.found(near) {
         Some(name) => push_did_you_mean(page, name),
-        None => Ok(()),
+        None => {}
     }
 }
 
 /// Adds an action with its parameters.
-fn push_action<'a>(
-    page: &mut Page,
-    library: &Library<'a>,
-    action: &Found<'a>,
-) -> Result<(), AllocError> {
-    page.help()?;
-    page.say("the action is ")?;
-    library.push_signature(page, action)?;
-    page.say("\n")
+fn push_action<'a>(page: &mut Page, library: &Library<'a>, action: &Found<'a>) {
+    page.help();
+    page.say("the action is ");
+    library.push_signature(page, action);
+    page.say("\n");
 }
 
 /// Adds the type that an argument has and the one that is wanted. Arguments count from 1.
-fn push_types_of<'a>(
-    page: &mut Page,
-    library: &mut Library<'a>,
-    step: &'a [u8],
-    arg: usize,
-) -> Result<(), AllocError> {
+fn push_types_of<'a>(page: &mut Page, library: &mut Library<'a>, step: &'a [u8], arg: usize) {
     let Some(object) = library.find(Sort::Object, word_of(step, arg)) else {
-        return Ok(());
+        return;
     };
     let Some(action) = library.find(Sort::Action, word_of(step, 0)) else {
-        return Ok(());
+        return;
     };
     let Some(variable) = library.variable(&action, arg.saturating_sub(1)) else {
-        return Ok(());
+        return;
     };
-    page.help()?;
-    page.quoted(object.name())?;
-    page.say(" is of type `")?;
-    push_types(page, object.file.bytes, &object.declared)?;
-    page.say("`, and ")?;
-    page.quoted(bytes_at(action.file.bytes, variable.name))?;
-    page.say(" of ")?;
-    page.quoted(action.name())?;
-    page.say(" is of type `")?;
-    push_types(page, action.file.bytes, &variable)?;
-    page.say("`\n")
+    page.help();
+    page.quoted(object.name());
+    page.say(" is of type `");
+    push_types(page, object.file.bytes, &object.declared);
+    page.say("`, and ");
+    page.quoted(bytes_at(action.file.bytes, variable.name));
+    page.say(" of ");
+    page.quoted(action.name());
+    page.say(" is of type `");
+    push_types(page, action.file.bytes, &variable);
+    page.say("`\n");
 }

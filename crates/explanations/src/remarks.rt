@@ -2,38 +2,33 @@
 
 use crate::SourceText;
 use crate::page::Page;
-use crate::places::{Range, bytes_at, line_at, push_line};
+use crate::positions::{Range, bytes_at, line_at, push_line};
 use crate::tokens::range_of;
 use pddl_tokens::{Cursor, TokenKind};
-use std::alloc::AllocError;
 use strips_task::Task;
 
 /// Adds a remark if the problem names a domain other than this one.
-pub(crate) fn push_other_domain(
-    page: &mut Page,
-    task: &Task,
-    problem: SourceText<'_>,
-) -> Result<(), AllocError> {
+pub(crate) fn push_other_domain(page: &mut Page, task: &Task, problem: SourceText<'_>) {
     let Some(range) = domain_named(problem.bytes) else {
-        return Ok(());
+        return;
     };
     let name = bytes_at(problem.bytes, range);
     let domain = task.domain_name().as_bytes();
     if name.eq_ignore_ascii_case(domain) {
-        return Ok(());
+        return;
     }
-    page.note()?;
-    page.say("the problem is for the domain ")?;
-    page.quoted(name)?;
-    page.say(" (")?;
-    push_line(page, problem, range.start)?;
-    page.say("), but the domain at hand is ")?;
-    page.quoted(domain)?;
-    page.say("; it is judged all the same\n")
+    page.note();
+    page.say("the problem is for the domain ");
+    page.quoted(name);
+    page.say(" (");
+    push_line(page, problem, range.start);
+    page.say("), but the domain at hand is ");
+    page.quoted(domain);
+    page.say("; it is judged all the same\n");
 }
 
 /// How far the search for the name of the domain has come.
-#[derive(Clone, Copy, Debug, PartialEq, Eq)]
+#[derive(Clone, Copy)]
 enum Seen {
     Nothing,
     Left,
@@ -60,32 +55,27 @@ fn domain_named(text: &[u8]) -> Option<Range> {
 }
 
 /// Adds what was read, if no plan is to be judged.
-pub(crate) fn push_header(page: &mut Page, task: &Task) -> Result<(), AllocError> {
-    page.say("the domain ")?;
-    page.quoted(task.domain_name().as_bytes())?;
-    page.say(" and the problem ")?;
-    page.quoted(task.problem_name().as_bytes())?;
-    page.say(" are read\n")
+pub(crate) fn push_header(page: &mut Page, task: &Task) {
+    page.say("the domain ");
+    page.quoted(task.domain_name().as_bytes());
+    page.say(" and the problem ");
+    page.quoted(task.problem_name().as_bytes());
+    page.say(" are read\n");
 }
 
 /// Adds a remark if the last plan of a file of several is empty, since the file ends with a separator.
-pub(crate) fn push_empty_end(
-    page: &mut Page,
-    file: SourceText<'_>,
-    last: Range,
-    number: usize,
-) -> Result<(), AllocError> {
+pub(crate) fn push_empty_end(page: &mut Page, file: SourceText<'_>, last: Range, number: usize) {
     if number < 2 || !is_blank(bytes_at(file.bytes, last)) {
-        return Ok(());
+        return;
     }
-    page.note()?;
-    page.say("the line `---` at ")?;
-    page.file_name(file.name)?;
-    page.say(":")?;
-    page.number(line_at(file.bytes, last.start.saturating_sub(1)).number)?;
-    page.say(" separates plans, so the file ends with an empty plan, ")?;
-    page.number(number)?;
-    page.say("\n")
+    page.note();
+    page.say("the line `---` at ");
+    page.file_name(file.name);
+    page.say(":");
+    page.number(line_at(file.bytes, last.start.saturating_sub(1)).number);
+    page.say(" separates plans, so the file ends with an empty plan, ");
+    page.number(number);
+    page.say("\n");
 }
 
 /// Whether there are only blanks.
@@ -94,12 +84,12 @@ fn is_blank(bytes: &[u8]) -> bool {
 }
 
 /// Adds how many plans there are and how many are valid, if there are several.
-pub(crate) fn push_end(page: &mut Page, plans: usize, valid: usize) -> Result<(), AllocError> {
+pub(crate) fn push_end(page: &mut Page, plans: usize, valid: usize) {
     if plans < 2 {
-        return Ok(());
+        return;
     }
-    page.number(plans)?;
-    page.say(" plans, ")?;
-    page.number(valid)?;
-    page.say(" valid\n")
+    page.number(plans);
+    page.say(" plans, ");
+    page.number(valid);
+    page.say(" valid\n");
 }

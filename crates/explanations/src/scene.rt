@@ -3,14 +3,14 @@
 use crate::SourceText;
 use crate::library::Library;
 use crate::outline::Sort;
-use crate::places::{Range, bytes_at};
+use crate::positions::{Range, bytes_at};
 use crate::tokens::Pieces;
 use pddl_reader::{Dialect, FaultKind, ReadFault};
 use pddl_tokens::TokenKind;
 use std::alloc::{AllocError, Global};
 
 /// A text that is refused, and why.
-#[derive(Clone, Copy, Debug)]
+#[derive(Clone, Copy)]
 pub(crate) struct Refusal<'a> {
     pub(crate) file: SourceText<'a>,
     /// Whether the text should be a problem.
@@ -20,7 +20,7 @@ pub(crate) struct Refusal<'a> {
 }
 
 /// A refusal, with the pieces of its text and the names that are known there.
-#[derive(Debug, Drop)]
+#[derive(Drop)]
 pub(crate) struct Scene<'a> {
     pub(crate) refusal: Refusal<'a>,
     pub(crate) pieces: Pieces<'a>,
@@ -187,7 +187,7 @@ impl<'a> Scene<'a> {
     }
 
     /// The index of the fault in its list, which is 0 for the head.
-    pub(crate) fn place_in_list(&self) -> usize {
+    pub(crate) fn index_in_list(&self) -> usize {
         match self.list() {
             Some(open) => self.number.saturating_sub(open).saturating_sub(1),
             None => 0,

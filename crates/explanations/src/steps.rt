@@ -1,7 +1,7 @@
 //! The steps of a plan that can be read: where each is in the file, and its words.
 
 use crate::page::Page;
-use crate::places::{LineCount, Place, Range, bytes_at};
+use crate::positions::{LineCount, Position, Range, bytes_at};
 use pddl_tokens::{Cursor, TokenKind};
 use std::alloc::{AllocError, Global};
 
@@ -9,7 +9,7 @@ use std::alloc::{AllocError, Global};
 const MOST_WORDS: usize = 34;
 
 /// One plan of a file.
-#[derive(Clone, Copy, Debug)]
+#[derive(Clone, Copy)]
 pub(crate) struct Part<'a> {
     /// The bytes of the file.
     pub(crate) file: &'a [u8],
@@ -35,15 +35,15 @@ impl<'a> Part<'a> {
 }
 
 /// The positions of a plan's steps, in their order.
-#[derive(Debug, Drop)]
-pub(crate) struct StepPlaces {
-    places: Vec<Place>,
+#[derive(Drop)]
+pub(crate) struct StepPositions {
+    positions: Vec<Position>,
 }
 
-impl StepPlaces {
+impl StepPositions {
     /// Finds the steps of a plan that can be read, in one pass.
     pub(crate) fn new(alloc: Global, part: Part<'_>) -> Result<Self, AllocError> {
-        let mut places = Vec::new(alloc);
+        let mut positions = Vec::new(alloc);
         let mut lines = part.lines;
         let mut start = 0;
         if let Ok(mut cursor) = Cursor::new(part.text()) {
@@ -55,26 +55,26 @@ impl StepPlaces {
                             start,
                             end: token.span.end as usize,
                         };
-                        places.push(lines.place_of(part.file, part.in_file(range)))?;
+                        positions.push(lines.position_of(part.file, part.in_file(range)))?;
                     }
                     TokenKind::Word => {}
                 }
             }
         }
-        Ok(StepPlaces { places })
+        Ok(StepPositions { positions })
     }
 
     /// How many steps there are.
     pub(crate) fn len(&self) -> usize {
-        self.places.len()
+        self.positions.len()
     }
 
     /// The position of a step, counted from 1.
-    pub(crate) fn get(&self, step: usize) -> Option<Place> {
+    pub(crate) fn get(&self, step: usize) -> Option<Position> {
         if step == 0 {
             return None;
         }
-        self.places.as_slice().get(step - 1).copied()
+        self.positions.as_slice().get(step - 1).copied()
     }
 }
 
@@ -119,30 +119,31 @@ pub(crate) fn word_count(step: &[u8]) -> usize {
 }
 
 /// Adds a step as `(act a b)`, in lower case.
-pub(crate) fn push_step(page: &mut Page, step: &[u8]) -> Result<(), AllocError> {
-    page.say("(")?;
+pub(crate) fn push_step(page: &mut Page, step: &[u8]) {
+    page.say("(");
     let mut count: usize = 0;
     if let Ok(mut cursor) = Cursor::new(step) {
         'tokens: while let Ok(Some(token)) = cursor.next() {
             if matches!(token.kind, TokenKind::Word) {
-                push_word(page, token.text, count)?;
+                push_word(page, token.text, count);
                 count = count.saturating_add(1);
             }
         }
     }
-    page.say(")")
+    page.say(")");
 }
 
 /// Adds a word of a step, unless there were too many.
-fn push_word(page: &mut Page, word: &[u8], number: usize) -> Result<(), AllocError> {
+fn push_word(page: &mut Page, word: &[u8], number: usize) {
     if number > MOST_WORDS {
-        return Ok(());
+        return;
     }
     if number > 0 {
-        page.say(" ")?;
+        page.say(" ");
     }
     if number == MOST_WORDS {
-        return page.say("..");
+        page.say("..");
+        return;
     }
-    page.folded(word)
+    page.folded(word);
 }

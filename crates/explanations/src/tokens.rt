@@ -1,11 +1,11 @@
 //! The words and parentheses of a text, up to its first bad byte, for finding what is around a position.
 
-use crate::places::{Range, bytes_at};
+use crate::positions::{Range, bytes_at};
 use pddl_tokens::{Cursor, Token, TokenKind};
 use std::alloc::{AllocError, Global};
 
 /// A word or a parenthesis of a text.
-#[derive(Clone, Copy, Debug)]
+#[derive(Clone, Copy)]
 pub(crate) struct Piece {
     pub(crate) kind: TokenKind,
     start: u32,
@@ -41,7 +41,7 @@ pub(crate) fn range_of(token: Token<'_>) -> Range {
 }
 
 /// The pieces of a text in order.
-#[derive(Debug, Drop)]
+#[derive(Drop)]
 pub(crate) struct Pieces<'a> {
     pub(crate) text: &'a [u8],
     pieces: Vec<Piece>,

@@ -73,17 +73,17 @@ impl<'t> Trace<'t> {
             return Ok(());
         }
         let step = self.step.get(0);
-        page.say("  ")?;
-        page.number(number)?;
-        page.say(" ")?;
-        page.step_view(&step)?;
-        page.say("\n")?;
+        page.say("  ");
+        page.number(number);
+        page.say(" ");
+        page.step_view(&step);
+        page.say("\n");
         push_changes(page, self.task, &mut self.world, step)?;
         self.cost = cost_with(self.task, self.cost, step, &mut self.scratch)?;
         if self.cost != Cost::NotCounted {
-            page.say("    ")?;
-            page.cost(self.cost)?;
-            page.say(" so far\n")?;
+            page.say("    ");
+            page.cost(self.cost);
+            page.say(" so far\n");
         }
         Ok(())
     }
@@ -132,13 +132,16 @@ fn push_deleted(
     for pattern in action.del.as_slice() {
         let atom = ground(page.alloc(), pattern, objects)?;
         if world.holds(&atom) && !is_among(page.alloc(), &atom, action.add.as_slice(), objects)? {
-            page.say(if shown { " " } else { "     deletes " })?;
-            page.atom(&task.task, &atom)?;
+            page.say(if shown { " " } else { "     deletes " });
+            page.atom(&task.task, &atom);
             world.set(atom, false)?;
             shown = true;
         }
     }
-    page.say(if shown { "\n" } else { "" })
+    if shown {
+        page.say("\n");
+    }
+    Ok(())
 }
 
 /// Adds atoms, and adds a line with those that were false.
@@ -153,11 +156,14 @@ fn push_added(
     for pattern in action.add.as_slice() {
         let atom = ground(page.alloc(), pattern, objects)?;
         if !world.holds(&atom) {
-            page.say(if shown { " " } else { "     adds " })?;
-            page.atom(&task.task, &atom)?;
+            page.say(if shown { " " } else { "     adds " });
+            page.atom(&task.task, &atom);
             world.set(atom, true)?;
             shown = true;
         }
     }
-    page.say(if shown { "\n" } else { "" })
+    if shown {
+        page.say("\n");
+    }
+    Ok(())
 }

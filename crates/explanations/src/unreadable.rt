@@ -5,42 +5,39 @@ use crate::hints::push_bad_byte;
 use crate::library::Library;
 use crate::outline::Sort;
 use crate::page::Page;
-use crate::places::{bytes_at, line_text, push_excerpt, push_place};
 use crate::plans::{PlanAt, push_name};
-use std::alloc::AllocError;
+use crate::positions::{bytes_at, line_text, push_excerpt, push_position};
 
 /// Adds where a plan breaks and why.
-pub(crate) fn push_unreadable(
-    page: &mut Page,
-    library: &mut Library<'_>,
-    plan: PlanAt<'_>,
-) -> Result<(), AllocError> {
+pub(crate) fn push_unreadable(page: &mut Page, library: &mut Library<'_>, plan: PlanAt<'_>) {
     let Some(found) = break_of(plan.part.text()) else {
-        push_name(page, plan)?;
-        page.say("plan ")?;
-        page.number(plan.number)?;
-        return page.say(" cannot be read\n");
+        push_name(page, plan);
+        page.say("plan ");
+        page.number(plan.number);
+        page.say(" cannot be read\n");
+        return;
     };
     let mut lines = plan.part.lines;
-    let place = lines.place_of(plan.file.bytes, plan.part.in_file(found.range));
-    push_place(page, plan.file.name, place)?;
-    page.say("plan ")?;
-    page.number(plan.number)?;
-    page.say(" cannot be read: ")?;
-    let word = bytes_at(plan.file.bytes, place.range);
-    push_message(page, found, word)?;
-    page.say("\n")?;
-    push_excerpt(page, plan.file.bytes, place)?;
+    let position = lines.position_of(plan.file.bytes, plan.part.in_file(found.range));
+    push_position(page, plan.file.name, position);
+    page.say("plan ");
+    page.number(plan.number);
+    page.say(" cannot be read: ");
+    let word = bytes_at(plan.file.bytes, position.range);
+    push_message(page, found, word);
+    page.say("\n");
+    push_excerpt(page, plan.file.bytes, position);
     if found.cause == Cause::Byte {
-        return push_bad_byte(page, plan.file.bytes, place.range.start);
+        push_bad_byte(page, plan.file.bytes, position.range.start);
+        return;
     }
-    let line = line_text(plan.file.bytes, place);
+    let line = line_text(plan.file.bytes, position);
     let is_action = library.find(Sort::Action, word).is_some();
-    page.help_line(hint(found, word, line, is_action))
+    page.help_line(hint(found, word, line, is_action));
 }
 
 /// Adds what is wrong.
-fn push_message(page: &mut Page, found: Break, word: &[u8]) -> Result<(), AllocError> {
+fn push_message(page: &mut Page, found: Break, word: &[u8]) {
     match found.cause {
         Cause::End => page.say(match found.want {
             Want::Opening => "the text ends behind a stamp",
@@ -49,7 +46,7 @@ fn push_message(page: &mut Page, found: Break, word: &[u8]) -> Result<(), AllocE
         Cause::TooMany => page.say("there are too many steps"),
         Cause::Byte => push_byte(page, word),
         Cause::Token => {
-            page.quoted(word)?;
+            page.quoted(word);
             page.say(match found.want {
                 Want::Step | Want::Number => " is no step",
                 Want::Opening => " may not follow a stamp",
@@ -61,13 +58,13 @@ fn push_message(page: &mut Page, found: Break, word: &[u8]) -> Result<(), AllocE
 }
 
 /// Adds which byte is bad.
-fn push_byte(page: &mut Page, bytes: &[u8]) -> Result<(), AllocError> {
-    page.say("the byte ")?;
+fn push_byte(page: &mut Page, bytes: &[u8]) {
+    page.say("the byte ");
     match bytes.first() {
-        Some(byte) => page.hex(*byte)?,
+        Some(byte) => page.hex(*byte),
         None => {}
     }
-    page.say(" (hex) may be in comments only")
+    page.say(" (hex) may be in comments only");
 }
 
 /// What to do about a plan that cannot be read.
@@ -150,7 +147,7 @@ fn is_log(word: &[u8]) -> bool {
 fn starts_with(bytes: &[u8], word: &[u8]) -> bool {
     let front = bytes_at(
         bytes,
-        crate::places::Range {
+        crate::positions::Range {
             start: 0,
             end: word.len(),
         },

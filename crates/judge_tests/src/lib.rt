@@ -1,5 +1,4 @@
-//! Tests of what no command line reaches: calls at a bench, gates that hold jobs, plans that come in while others are judged, outlets and
-//! inlets that fail, and runs without planners.
+//! Tests of what no command line reaches: gates that hold jobs, outlets and inlets that fail, runs without planners, and other seeds.
 //!
 //! ```text
 //! cd crates/judge_tests
@@ -7,19 +6,15 @@
 //! ```
 //!
 //! What a command line can show is a case of `tests/cases`. This crate has only tests, so that no other crate has to be proved a second time with
-//! its tests.
+//! its tests. Calls at a bench are tested in `bench_tests`.
 #![tactic(auto)]
 
-#[cfg(test)]
-mod benches;
 #[cfg(test)]
 mod fixtures;
 #[cfg(test)]
 mod gates;
 #[cfg(test)]
 mod inlets;
-#[cfg(test)]
-mod intakes;
 #[cfg(test)]
 mod outlets;
 #[cfg(test)]

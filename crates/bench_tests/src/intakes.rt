@@ -1,22 +1,17 @@
 //! Runs over intakes. That plans are judged while others still come in is shown by an intake that waits until the first plan is asked for.
 
 ghost use Rattle.std.specs.Option.{option_to_list};
-ghost use Rattle.std.specs.Prelude.{◌≡◌, ◌<◌, ◌≤◌, ◌++◌, All, IfOk, length};
-ghost use Rattle.judge_tests.specs.Plans.{AreOfFirstPlanner};
+ghost use Rattle.std.specs.Prelude.{◌++◌, IfOk};
+ghost use Rattle.bench_tests.specs.Plans.{AreOfFirstPlanner};
 
-use crate::fixtures::{LAMP, LAMP_1, is_raised_in_time};
-use crate::gates::Meeting;
-use judge_bench::{Findings, Gate, Intake, Listed, RunFault, Submission, run};
-use pddl_reader::{ReadFault, Seed, read_domain, read_problem};
+use crate::lamp::{is_raised_in_time, lamp_1, light, steps_if_valid};
+use judge_bench::{Findings, Gate, Intake, RunFault, Submission, run};
 use plan_cost::CostedTask;
-use plan_text::read_plan;
 use std::alloc::{AllocError, Global};
+use std::sync::Wait;
 use std::sync::atomic::{AtomicBool, Ordering};
-use std::sync::{Arc, Wait};
 use std::test::Fail;
 use std::thread::Threads;
-use strips_judge::Verdict;
-use submitted_plan::SubmittedPlan;
 
 /// The gate that holds no job, and raises a flag when it is asked of job 0.
 #[derive(Drop)]
@@ -59,41 +54,6 @@ impl Intake for Late<'_> {
             self.was_asked = is_raised_in_time(self.asked_of_0);
         }
         Ok(self.second.take())
-    }
-}
-
-/// The task of the lamp that is dark, which counts no costs.
-pub(crate) fn lamp_1(alloc: Global) -> Result<CostedTask, ReadFault> {
-    let task = read_problem(alloc, read_domain(alloc, Seed::fixed(), LAMP)?, LAMP_1)?;
-    Ok(CostedTask { task, costs: None })
-}
-
-/// The plan of the first planner that lights the lamp.
-pub(crate) fn light(alloc: Global) -> Result<Submission, AllocError>
-    ensures { IfOk result (λ plan. plan.planner ≡ 0) }
-{
-    let plan = read_plan(alloc, b"(light)\n")?;
-    Ok(Submission {
-        planner: 0,
-        plan: SubmittedPlan::from_plan(Arc::new(alloc, plan)?),
-    })
-}
-
-/// That plan twice.
-fn two_lights(alloc: Global) -> Result<Vec<Submission>, AllocError>
-    ensures { IfOk result (λ plans. (length plans.items ≡ 2) × All (λ plan. plan.planner < 1) plans.items) }
-{
-    let mut plans = Vec::new(alloc);
-    plans.push(light(alloc)?)?;
-    plans.push(light(alloc)?)?;
-    Ok(plans)
-}
-
-/// How many steps a plan has, if it is valid.
-pub(crate) fn steps_if_valid(verdict: &Verdict) -> Option<u32> {
-    match verdict {
-        Verdict::Valid { steps } => Some(*steps),
-        _ => None,
     }
 }
 
@@ -162,34 +122,6 @@ fn judges_while_the_intake_goes_on(rt: HostRuntime) -> Result<(), Fail> {
     assert!(rt;
         intake.was_asked,
         "job 0 was taken before the second plan came"
-    );
-    Ok(())
-}
-
-/// What comes of two plans of one planner, with a gate where the two jobs wait for each other.
-fn run_meeting(
-    rt: &(impl AllocGlobal + Threads + Wait + Sync),
-    task: &CostedTask,
-    plans: Vec<Submission>,
-    workers: u32,
-) -> Result<Findings, RunFault>
-    requires plans { (length plans.items ≡ 2) × All (λ plan. plan.planner < 1) plans.items }
-    requires workers { (1 ≤ workers) × (workers ≤ 32) }
-{
-    let mut intake = Listed::new(plans);
-    let gate = Meeting::new();
-    run(rt, rt.alloc(), task, 1, 2, &mut intake, workers, &gate)
-}
-
-#[test]
-fn two_workers_are_at_work_at_once(rt: HostRuntime) -> Result<(), Fail> {
-    let task = lamp_1(rt.alloc())?;
-    let met = run_meeting(&rt, &task, two_lights(rt.alloc())?, 2)?;
-    assert_eq!(rt; summary(&met), BOTH_VALID);
-    let alone = run_meeting(&rt, &task, two_lights(rt.alloc())?, 1).err();
-    assert!(rt;
-        matches!(alone, Some(RunFault::Held(0 | 1))),
-        "one worker: {alone:?}"
     );
     Ok(())
 }

@@ -4,8 +4,7 @@ ghost use Rattle.std.specs.Prelude.{◌≡◌, ◌<◌, ◌≤◌, IfSome};
 ghost use Rattle.bench_rule.specs.Views.{HoldsJob};
 ghost use Rattle.judge_bench.specs.Seats.{SitsAt};
 
-use crate::fixtures::is_raised_in_time;
-use crate::intakes::{lamp_1, light, steps_if_valid};
+use crate::lamp::{is_raised_in_time, lamp_1, light, steps_if_valid};
 use intake_rules::{Finding, Refusal};
 use judge_bench::{Bench, Ended, Gate, Open, Owner, Ticket, WorkFault, WorkerSeat, work};
 use plan_cost::CostedTask;

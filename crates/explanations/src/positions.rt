@@ -3,7 +3,6 @@
 use crate::SourceText;
 use crate::page::{Page, Style, width};
 use memchr::memchr;
-use std::alloc::AllocError;
 
 /// A line with at most this many bytes is shown whole.
 const WINDOW: usize = 100;
@@ -12,14 +11,14 @@ const WINDOW: usize = 100;
 const BEFORE: usize = 40;
 
 /// A range of bytes of a file.
-#[derive(Clone, Copy, Debug, PartialEq, Eq)]
+#[derive(Clone, Copy)]
 pub(crate) struct Range {
     pub(crate) start: usize,
     pub(crate) end: usize,
 }
 
 /// A line of a file: its number, from 1, and where it begins.
-#[derive(Clone, Copy, Debug, PartialEq, Eq)]
+#[derive(Clone, Copy)]
 pub(crate) struct Line {
     pub(crate) number: usize,
     pub(crate) start: usize,
@@ -32,20 +31,20 @@ const FIRST_LINE: Line = Line {
 };
 
 /// A position in a file: a range and the line in which it begins.
-#[derive(Clone, Copy, Debug, PartialEq, Eq)]
-pub(crate) struct Place {
+#[derive(Clone, Copy)]
+pub(crate) struct Position {
     pub(crate) range: Range,
     pub(crate) line: Line,
 }
 
-impl Place {
+impl Position {
     /// The position of a range that begins here or later.
-    pub(crate) fn later(self, bytes: &[u8], range: Range) -> Place {
+    pub(crate) fn later(self, bytes: &[u8], range: Range) -> Position {
         let mut lines = LineCount {
             line: self.line,
             at: self.range.start,
         };
-        lines.place_of(bytes, range)
+        lines.position_of(bytes, range)
     }
 }
 
@@ -62,15 +61,15 @@ pub(crate) fn line_at(bytes: &[u8], at: usize) -> Line {
 }
 
 /// The position of a range, with its line counted from the start of the file.
-pub(crate) fn place_of(bytes: &[u8], range: Range) -> Place {
-    Place {
+pub(crate) fn position_of(bytes: &[u8], range: Range) -> Position {
+    Position {
         range,
         line: line_at(bytes, range.start),
     }
 }
 
 /// A count of lines that goes on from offset to offset.
-#[derive(Clone, Copy, Debug)]
+#[derive(Clone, Copy)]
 pub(crate) struct LineCount {
     line: Line,
     at: usize,
@@ -102,8 +101,8 @@ impl LineCount {
     }
 
     /// The position of a range, which is not before that of the last call.
-    pub(crate) fn place_of(&mut self, bytes: &[u8], range: Range) -> Place {
-        Place {
+    pub(crate) fn position_of(&mut self, bytes: &[u8], range: Range) -> Position {
+        Position {
             range,
             line: self.line_of(bytes, range.start),
         }
@@ -119,53 +118,49 @@ fn next_line(line: Line, end: usize) -> Line {
 }
 
 /// The column of a position, from 1.
-fn column(place: Place) -> usize {
-    place
+fn column(position: Position) -> usize {
+    position
         .range
         .start
-        .saturating_sub(place.line.start)
+        .saturating_sub(position.line.start)
         .saturating_add(1)
 }
 
 /// Adds `FILE:LINE:COLUMN: `.
-pub(crate) fn push_place(page: &mut Page, name: &[u8], place: Place) -> Result<(), AllocError> {
-    page.style(Style::Place)?;
-    page.file_name(name)?;
-    page.say(":")?;
-    page.number(place.line.number)?;
-    page.say(":")?;
-    page.number(column(place))?;
-    page.say(":")?;
-    page.style(Style::Plain)?;
-    page.say(" ")
+pub(crate) fn push_position(page: &mut Page, name: &[u8], position: Position) {
+    page.style(Style::Position);
+    page.file_name(name);
+    page.say(":");
+    page.number(position.line.number);
+    page.say(":");
+    page.number(column(position));
+    page.say(":");
+    page.style(Style::Plain);
+    page.say(" ");
 }
 
 /// Adds `FILE:LINE`.
-pub(crate) fn push_line(
-    page: &mut Page,
-    file: SourceText<'_>,
-    at: usize,
-) -> Result<(), AllocError> {
-    page.file_name(file.name)?;
-    page.say(":")?;
-    page.number(line_at(file.bytes, at).number)
+pub(crate) fn push_line(page: &mut Page, file: SourceText<'_>, at: usize) {
+    page.file_name(file.name);
+    page.say(":");
+    page.number(line_at(file.bytes, at).number);
 }
 
 /// Adds the line of a position, and a line with carets below the bytes of its range that are in the line.
-pub(crate) fn push_excerpt(page: &mut Page, bytes: &[u8], place: Place) -> Result<(), AllocError> {
-    let line = line_range(bytes, place);
-    let faulty = within(place.range, line);
+pub(crate) fn push_excerpt(page: &mut Page, bytes: &[u8], position: Position) {
+    let line = line_range(bytes, position);
+    let faulty = within(position.range, line);
     let shown = window(line, faulty.start);
-    page.say("  ")?;
+    page.say("  ");
     let cut = shown.start > line.start;
     if cut {
-        page.say("..")?;
+        page.say("..");
     }
-    page.shown(bytes_at(bytes, shown))?;
+    page.shown(bytes_at(bytes, shown));
     if shown.end < line.end {
-        page.say("..")?;
+        page.say("..");
     }
-    page.say("\n")?;
+    page.say("\n");
     let before = Range {
         start: shown.start,
         end: faulty.start,
@@ -176,17 +171,17 @@ pub(crate) fn push_excerpt(page: &mut Page, bytes: &[u8], place: Place) -> Resul
 }
 
 /// Adds a line with carets.
-fn push_carets(page: &mut Page, indent: usize, carets: usize) -> Result<(), AllocError> {
-    page.repeated(b' ', indent)?;
-    page.style(Style::Carets)?;
-    page.repeated(b'^', carets)?;
-    page.style(Style::Plain)?;
-    page.say("\n")
+fn push_carets(page: &mut Page, indent: usize, carets: usize) {
+    page.repeated(b' ', indent);
+    page.style(Style::Carets);
+    page.repeated(b'^', carets);
+    page.style(Style::Plain);
+    page.say("\n");
 }
 
 /// The bytes of a position's line, without blanks at its start.
-pub(crate) fn line_text(bytes: &[u8], place: Place) -> &[u8] {
-    bytes_at(bytes, line_range(bytes, place))
+pub(crate) fn line_text(bytes: &[u8], position: Position) -> &[u8] {
+    bytes_at(bytes, line_range(bytes, position))
 }
 
 /// The part of a range that is in another.
@@ -199,11 +194,11 @@ fn within(range: Range, other: Range) -> Range {
 }
 
 /// The range of a position's line, without blanks before the position at its start, and without the end of the line.
-fn line_range(bytes: &[u8], place: Place) -> Range {
+fn line_range(bytes: &[u8], position: Position) -> Range {
     let rest = bytes_at(
         bytes,
         Range {
-            start: place.line.start,
+            start: position.line.start,
             end: bytes.len(),
         },
     );
@@ -212,11 +207,11 @@ fn line_range(bytes: &[u8], place: Place) -> Range {
         None => rest.len(),
     };
     let whole = Range {
-        start: place.line.start,
-        end: place.line.start.saturating_add(size),
+        start: position.line.start,
+        end: position.line.start.saturating_add(size),
     };
     let text = bytes_at(bytes, whole);
-    let blanks = blanks_at_start(text).min(place.range.start.saturating_sub(whole.start));
+    let blanks = blanks_at_start(text).min(position.range.start.saturating_sub(whole.start));
     Range {
         start: whole.start.saturating_add(blanks),
         end: whole.end.saturating_sub(carriage_return(text)),

@@ -1,5 +1,5 @@
 use Rattle.std.proofs.Common.{length}
-use Rattle.explanations.proofs.steps.StepPlaces.new.Given as goal
+use Rattle.explanations.proofs.steps.StepPositions.new.Given as goal
 
 abbrev pub decreases-tokens : goal.decreases-tokens
 decreases-tokens l = length l.cursor
