@@ -45,9 +45,9 @@ def panel(x0, y0, title, points):
         (start, y), (end, _) = at(10 ** left, 10 ** power), at(10 ** right, 10 ** power)
         made.append('<line x1="%.1f" y1="%.1f" x2="%.1f" y2="%.1f" stroke="#ddd"/>' % (start, y, end, y))
         made.append('<text x="%.1f" y="%.1f" text-anchor="end">%g</text>' % (start - 6, y + 4, 10 ** power))
-    places = [at(number, time) for number, time in zip(numbers, times)]
-    made.append('<polyline fill="none" stroke="#06c" stroke-width="2" points="%s"/>' % " ".join("%.1f,%.1f" % place for place in places))
-    for (x, y), time in zip(places, times):
+    marks = [at(number, time) for number, time in zip(numbers, times)]
+    made.append('<polyline fill="none" stroke="#06c" stroke-width="2" points="%s"/>' % " ".join("%.1f,%.1f" % mark for mark in marks))
+    for (x, y), time in zip(marks, times):
         made.append('<circle cx="%.1f" cy="%.1f" r="3" fill="#06c"/>' % (x, y))
         made.append('<text x="%.1f" y="%.1f" text-anchor="middle" font-size="10">%.0f</text>' % (x, y - 8, time))
     return made
@@ -57,6 +57,6 @@ def drawing(measured):
     """An SVG of all series: each is what grows, what the numbers count, and pairs of a number and seconds."""
     made = ['<svg xmlns="http://www.w3.org/2000/svg" width="%d" height="%d" font-family="sans-serif" font-size="12">' % (2 * WIDTH, 2 * HEIGHT),
             '<rect width="100%" height="100%" fill="#fff"/>']
-    for place, (_, counts, points) in enumerate(measured):
-        made += panel(place % 2 * WIDTH, place // 2 * HEIGHT, counts, points)
+    for index, (_, counts, points) in enumerate(measured):
+        made += panel(index % 2 * WIDTH, index // 2 * HEIGHT, counts, points)
     return "\n".join(made + ["</svg>", ""])

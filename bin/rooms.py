@@ -61,7 +61,7 @@ def below(crates, crate):
 
 
 def link(source, target):
-    """A second name for a file, or a copy of it where the two places do not share files."""
+    """A second name for a file, or a copy of it where they are on two file systems."""
     try:
         os.link(source, target)
     except OSError:

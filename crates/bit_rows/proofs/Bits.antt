@@ -10,8 +10,8 @@ use Rattle.std.proofs.lemmas.List.{get_or_past}
 use Rattle.bit_rows.specs.Rows.{row_has, ChangesBit}
 
 -- two numbers with the same quotient and the same remainder are the same
-same_place : (j k : ℕ) → j / 64 ≡ k / 64 → j % 64 ≡ k % 64 → j ≡ k
-same_place j k quotients remainders = omega arith
+same_bit : (j k : ℕ) → j / 64 ≡ k / 64 → j % 64 ≡ k % 64 → j ≡ k
+same_bit j k quotients remainders = omega arith
 
 -- a word that changes one bit of the row leaves the others
 pub row_has-set_other : (words : List ℕ) (bit word : ℕ) → bit / 64 < length words
@@ -21,7 +21,7 @@ row_has-set_other words bit word within others k apart =
     ⊎_elim
     (λ (same : k / 64 ≡ bit / 64).
     let below : k % 64 < 64 = omega arith in
-    let remainders : k % 64 ≢ bit % 64 = λ e. apart (same_place k bit same e) in
+    let remainders : k % 64 ≢ bit % 64 = λ e. apart (same_bit k bit same e) in
     let at : get_or (set words (bit / 64) word) (k / 64) 0 ≡ word = ap (λ i. get_or (set words (bit / 64) word) i 0) same ∙ get_or-set_same words (bit / 64) word 0 within in
     ap (λ w. nat_eq (bit_at w (k % 64)) 1) at
     ∙ ap (λ b. nat_eq b 1) (others (k % 64) below remainders ∙ ap (λ i. bit_at (slice_index words i) (k % 64)) (sym same)))
@@ -61,21 +61,21 @@ row_has-in words j i b within at =
     ∙ ap (λ v. nat_eq v 1) at
 
 -- a whole word of a row of which the first bits are set
-pub whole_word : (place count bit : ℕ) → place < count / 64 → bit < 64 → nat_eq (bit_at (2 ^ 64 - 1) bit) 1 ≡ ltb (place * 64 + bit) count
-whole_word place count bit before within =
-    ap (λ b. nat_eq b 1) (bit_at_ones 64 bit within) ∙ sym (lt-ltb (place * 64 + bit) count (omega arith))
+pub whole_word : (index count bit : ℕ) → index < count / 64 → bit < 64 → nat_eq (bit_at (2 ^ 64 - 1) bit) 1 ≡ ltb (index * 64 + bit) count
+whole_word index count bit before within =
+    ap (λ b. nat_eq b 1) (bit_at_ones 64 bit within) ∙ sym (lt-ltb (index * 64 + bit) count (omega arith))
 
 -- its last word that has a bit set
-pub last_word : (place count bit : ℕ) → place ≡ count / 64 → bit < 64
-    → nat_eq (bit_at (1 * 2 ^ (count % 64) % 2 ^ 64 - 1) bit) 1 ≡ ltb (place * 64 + bit) count
-last_word place count bit at within =
+pub last_word : (index count bit : ℕ) → index ≡ count / 64 → bit < 64
+    → nat_eq (bit_at (1 * 2 ^ (count % 64) % 2 ^ 64 - 1) bit) 1 ≡ ltb (index * 64 + bit) count
+last_word index count bit at within =
     let few : count % 64 < 64 = omega arith in
     let fits : 1 * 2 ^ (count % 64) % 2 ^ 64 ≡ 2 ^ (count % 64) =
     ap (λ n. n % 2 ^ 64) (one-mul (2 ^ (count % 64))) ∙ mod-eq_of_lt (pow-lt few) in
     ap (λ w. nat_eq (bit_at (w - 1) bit) 1) fits
     ∙ ⊎_elim
-    (λ (low : bit < count % 64). ap (λ b. nat_eq b 1) (bit_at_ones (count % 64) bit low) ∙ sym (lt-ltb (place * 64 + bit) count (omega arith)))
-    (λ (high : count % 64 ≤ bit). ap (λ b. nat_eq b 1) (bit_at_ones_above (count % 64) bit high) ∙ sym (le-ltb (place * 64 + bit) count (omega arith)))
+    (λ (low : bit < count % 64). ap (λ b. nat_eq b 1) (bit_at_ones (count % 64) bit low) ∙ sym (lt-ltb (index * 64 + bit) count (omega arith)))
+    (λ (high : count % 64 ≤ bit). ap (λ b. nat_eq b 1) (bit_at_ones_above (count % 64) bit high) ∙ sym (le-ltb (index * 64 + bit) count (omega arith)))
     (cases_lt bit (count % 64))
 
 -- a row whose words are those of a row of which the first bits are set is one

@@ -51,9 +51,9 @@ impl Row {
         ensures longer { length self.old ≤ length self.new }
         ensures same { (k : ℕ) → row_has self.new k ≡ row_has self.old k }
     {
-        let place = count / WORD_BITS;
-        if place >= self.words.len() {
-            self.words.resize(place + 1, 0)?;
+        let index = count / WORD_BITS;
+        if index >= self.words.len() {
+            self.words.resize(index + 1, 0)?;
         }
         Ok(())
     }
@@ -64,8 +64,8 @@ impl Row {
         ensures first { (k : ℕ) → row_has self.new k ≡ ltb k count }
         ensures long { length self.new ≡ length self.old }
     {
-        for place in 0..self.words.len() {
-            self.words[place] = first_in(place, count);
+        for index in 0..self.words.len() {
+            self.words[index] = first_in(index, count);
         }
     }
 
@@ -99,13 +99,13 @@ impl Row {
 }
 
 /// The word with this index in a row in which the first `count` bits are set and no others.
-fn first_in(place: usize, count: usize) -> u64
-    ensures { (bit : ℕ) → bit < 64 → nat_eq (bit_at result bit) 1 ≡ ltb (place * 64 + bit) count }
+fn first_in(index: usize, count: usize) -> u64
+    ensures { (bit : ℕ) → bit < 64 → nat_eq (bit_at result bit) 1 ≡ ltb (index * 64 + bit) count }
 {
     let whole = count / WORD_BITS;
-    if place < whole {
+    if index < whole {
         u64::MAX
-    } else if place == whole {
+    } else if index == whole {
         (1 << (count % WORD_BITS)) - 1
     } else {
         0

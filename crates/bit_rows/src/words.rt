@@ -50,14 +50,14 @@ pub fn clear_bit(words: &mut [u64], bit: usize) -> bool
 }
 
 /// The least bit that is set in the word with this index, by its number in the row.
-pub fn least_bit(words: &[u64], place: usize) -> usize
-    requires used { 0 < slice_index words.now place }
-    requires few { place < 2 ^ 32 }
+pub fn least_bit(words: &[u64], index: usize) -> usize
+    requires used { 0 < slice_index words.now index }
+    requires few { index < 2 ^ 32 }
     ensures set { row_has words.now result ≡ true }
-    ensures place { result / 64 ≡ place }
-    ensures least { (k : ℕ) → k / 64 ≡ place → k < result → row_has words.now k ≡ false }
+    ensures index { result / 64 ≡ index }
+    ensures least { (k : ℕ) → k / 64 ≡ index → k < result → row_has words.now k ≡ false }
 {
-    place * WORD_BITS + least_in(words[place])
+    index * WORD_BITS + least_in(words[index])
 }
 
 fn least_in(word: u64) -> usize

@@ -17,7 +17,7 @@ use crate::trace::push_trace;
 use crate::{Explanation, Options, SourceText};
 use pddl_reader::{Dialect, FaultKind, ReadFault, read_domain_in, read_problem_in};
 use plan_cost::CostedTask;
-use plan_text::{PartPlace, part_from};
+use plan_text::{PartEnd, part_from};
 use std::alloc::{AllocError, Global};
 use strips_judge::Verdict;
 use strips_task::Seed;
@@ -258,7 +258,7 @@ fn push_file<'a>(
     let mut lines = LineCount::new();
     let mut start = 0;
     'parts: loop {
-        let PartPlace { end, next } = part_from(file.bytes, start);
+        let PartEnd { end, next } = part_from(file.bytes, start);
         let range = Range { start, end };
         let _line = lines.line_of(file.bytes, start);
         number = number.saturating_add(1);

@@ -58,7 +58,7 @@ fn inside_hint(scene: &Scene<'_>) -> &'static str {
         return "a predicate is a name and variables: `(on ?x ?y - block)`";
     }
     if section.eq_ignore_ascii_case(b":functions") {
-        return "a function is a name and variables: `(distance ?from ?to - place) - number`";
+        return "a function is a name and variables: `(distance ?from ?to - index) - number`";
     }
     if section.eq_ignore_ascii_case(b":action") {
         return action_hint(scene);

@@ -15,28 +15,28 @@ use Rattle.intake_rules.specs.declared.stage.Stage.TheVariants.{Waiting, Out, Fi
 use Rattle.intake_rules.specs.Jobs.{AcceptedPlan}
 use Rattle.intake_rules.specs.Intake.{Intake, has_planner, is_closed_in, next_job, jobs_of, stage_of, is_of}
 use Rattle.intake_rules.specs.Rules.{emit_reply, emit_reply_of, finding_at, nothing_left}
-use Rattle.intake_core.specs.declared.place.Place.{Place}
-use Rattle.intake_core.specs.declared.place.Planner.{Planner}
+use Rattle.intake_core.specs.declared.slot.Slot.{Slot}
+use Rattle.intake_core.specs.declared.slot.Planner.{Planner}
 use Rattle.intake_core.specs.Rows.{intake_in, jobs_in, links_in, line_of, IsLine, IsReady, rests, rests_at}
 use Rattle.intake_core.proofs.Keeping.{length-closed, row-at}
 use Rattle.intake_core.proofs.Lines.{Numbered}
 use Rattle.intake_core.proofs.Tables.{in-filter}
 
 -- a planner that has a row is known
-pub knows : (table : List Place) (planners : List Planner) (planner : ℕ) (row : Planner) → slice_get planners planner ≡ Some row → has_planner (intake_in table planners) planner ≡ true
+pub knows : (table : List Slot) (planners : List Planner) (planner : ℕ) (row : Planner) → slice_get planners planner ≡ Some row → has_planner (intake_in table planners) planner ≡ true
 knows table planners planner row at =
     let within : planner < length planners = slice_get_within planners planner row at in
     grind (arith, nat_tests, within, length-closed planners)
 
 -- how many findings were emitted for a planner stands in its row
-pub emitted-of : (table : List Place) (planners : List Planner) (planner : ℕ) (row : Planner) → slice_get planners planner ≡ Some row → slice_index (intake_in table planners).emitted planner ≡ row.emitted
+pub emitted-of : (table : List Slot) (planners : List Planner) (planner : ℕ) (row : Planner) → slice_get planners planner ≡ Some row → slice_index (intake_in table planners).emitted planner ≡ row.emitted
 emitted-of table planners planner row at =
     let within : planner < length planners = slice_get_within planners planner row at in
     let it : Some (get_or planners planner row) ≡ Some row = sym (slice_get-get_or planners planner row within) ∙ at in
     let row_is : get_or planners planner row ≡ row = cc in
     get_or-map (λ r. r.emitted) planners planner row 0 within ∙ ap (λ r. r.emitted) row_is
 
-pub closed-of : (table : List Place) (planners : List Planner) (planner : ℕ) (row : Planner) → slice_get planners planner ≡ Some row → is_closed_in (intake_in table planners) planner ≡ row.closed
+pub closed-of : (table : List Slot) (planners : List Planner) (planner : ℕ) (row : Planner) → slice_get planners planner ≡ Some row → is_closed_in (intake_in table planners) planner ≡ row.closed
 closed-of table planners planner row at =
     let within : planner < length planners = slice_get_within planners planner row at in
     let it : Some (get_or planners planner row) ≡ Some row = sym (slice_get-get_or planners planner row within) ∙ at in
@@ -44,7 +44,7 @@ closed-of table planners planner row at =
     get_or-map (λ r. r.closed) planners planner row false within ∙ ap (λ r. r.closed) row_is
 
 -- and so does the number of its next job
-pub next-is : (table : List Place) (planners : List Planner) (planner : ℕ) (row : Planner) → slice_get planners planner ≡ Some row → IsLine (jobs_in table) (links_in table) planner row
+pub next-is : (table : List Slot) (planners : List Planner) (planner : ℕ) (row : Planner) → slice_get planners planner ≡ Some row → IsLine (jobs_in table) (links_in table) planner row
     → option_map (λ job. job.number) (next_job (intake_in table planners) planner) ≡ row.next
 next-is table planners planner row at line =
     ap (λ e. option_map (λ job. job.number) (slice_get (jobs_of planner (jobs_in table)) e)) (emitted-of table planners planner row at)
@@ -103,20 +103,20 @@ unfolding jobs_of
 next-job-at intake planner number job numbered next at =
     let some = some-of (next_job intake planner) number next in
     let found = in-filter (is_of planner) intake.jobs (slice_index intake.emitted planner) some.0 some.1.0 in
-    let place : found.0 ≡ number = sym (numbered found.0 some.0 found.1.0) ∙ some.1.1 in
-    some.1.0 ∙ sym found.1.0 ∙ ap (slice_get intake.jobs) place ∙ at
+    let index : found.0 ≡ number = sym (numbered found.0 some.0 found.1.0) ∙ some.1.1 in
+    some.1.0 ∙ sym found.1.0 ∙ ap (slice_get intake.jobs) index ∙ at
 
--- of the job that is next there is a place
+-- the job that is next has an index
 pub next-within : (intake : Intake) (planner number : ℕ) → Numbered intake.jobs → option_map (λ other. other.number) (next_job intake planner) ≡ Some number → number < length intake.jobs
 unfolding jobs_of
 next-within intake planner number numbered next =
     let some = some-of (next_job intake planner) number next in
     let found = in-filter (is_of planner) intake.jobs (slice_index intake.emitted planner) some.0 some.1.0 in
-    let place : found.0 ≡ number = sym (numbered found.0 some.0 found.1.0) ∙ some.1.1 in
-    omega (arith, place, slice_get_within intake.jobs found.0 some.0 found.1.0)
+    let index : found.0 ≡ number = sym (numbered found.0 some.0 found.1.0) ∙ some.1.1 in
+    omega (arith, index, slice_get_within intake.jobs found.0 some.0 found.1.0)
 
 -- a planner that is known has a row
-pub known-lt : (table : List Place) (planners : List Planner) (planner : ℕ) → has_planner (intake_in table planners) planner ≡ true → planner < length planners
+pub known-lt : (table : List Slot) (planners : List Planner) (planner : ℕ) → has_planner (intake_in table planners) planner ≡ true → planner < length planners
 known-lt table planners planner known = grind (arith, nat_tests, known, length-closed planners)
 
 -- a planner's row that was looked up
@@ -133,9 +133,9 @@ emitted-lt jobs links planner number row line next =
     omega (arith, within, length-map (filter (is_of planner) jobs) (λ job. job.number), length-filter (is_of planner) jobs, count_by-le-length (is_of planner) jobs)
 
 -- the link of a row
-pub link-at : (table : List Place) (number : ℕ) (row : Place) → number < length table → row ≡ get_or table number row → row.following ≡ get_or (links_in table) number None
+pub link-at : (table : List Slot) (number : ℕ) (row : Slot) → number < length table → row ≡ get_or table number row → row.following ≡ get_or (links_in table) number None
 link-at table number row within is = ap (λ r. r.following) is ∙ sym (get_or-map (λ r. r.following) table number row None within)
 
 -- the job of a row
-pub job-at : (table : List Place) (number : ℕ) (row : Place) → number < length table → row ≡ get_or table number row → slice_get (jobs_in table) number ≡ Some row.job
+pub job-at : (table : List Slot) (number : ℕ) (row : Slot) → number < length table → row ≡ get_or table number row → slice_get (jobs_in table) number ≡ Some row.job
 job-at table number row within is = slice_get-map (λ r. r.job) table number ∙ ap (option_map (λ r. r.job)) (row-at table number row within is)

@@ -13,10 +13,10 @@ use Rattle.intake_core.specs.State.{DeskState, desk_reply, desk_after}
 by_rules : (old : DeskState) (event : Event) (planners : ℕ) (history : History) → Leaves planners history old
     → Leaves planners (history ++ (event, desk_reply old event) ∷ []) (desk_after old event (desk_reply old event))
 by_rules old event planners history leaves =
-    let answer_is : reply_to old.places (left_by planners history) event ≡ desk_reply old event = ap (λ intake. reply_to old.places intake event) leaves.left in
-    let next = least_goes_on planners old.places history event in
-    let allowed : Allows old.places (left_by planners history) event (desk_reply old event) = subst (Allows old.places (left_by planners history) event) answer_is next.0 in
-    let more = one_more planners old.places history event (desk_reply old event) leaves.lawful allowed in
+    let answer_is : reply_to old.slots (left_by planners history) event ≡ desk_reply old event = ap (λ intake. reply_to old.slots intake event) leaves.left in
+    let next = least_goes_on planners old.slots history event in
+    let allowed : Allows old.slots (left_by planners history) event (desk_reply old event) = subst (Allows old.slots (left_by planners history) event) answer_is next.0 in
+    let more = one_more planners old.slots history event (desk_reply old event) leaves.lawful allowed in
     record {
       lawful = more.0;
       least = subst (λ answer. TakesLeast planners (history ++ (event, answer) ∷ [])) answer_is (next.1 leaves.least);
@@ -32,5 +32,5 @@ goes-on old new event answer reply state planners history leaves =
 -- where nothing was asked
 pub begins : (planners : ℕ) (desk : DeskState) → desk.intake ≡ empty_intake planners → Leaves planners [] desk
 begins planners desk empty =
-    let none = empty_history planners desk.places in
+    let none = empty_history planners desk.slots in
     record { lawful = none.0; least = none.1; left = none.2 ∙ sym empty }

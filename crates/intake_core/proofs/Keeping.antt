@@ -14,16 +14,16 @@ use Rattle.intake_rules.specs.declared.stage.Stage.TheVariants.{Waiting, Finishe
 use Rattle.intake_rules.specs.Findings.{IsRight}
 use Rattle.intake_rules.specs.Jobs.{AcceptedPlan}
 use Rattle.intake_rules.specs.Intake.{Intake, is_waiting_stage}
-use Rattle.place_set.specs.Members.{is_member}
-use Rattle.intake_core.specs.declared.place.Place.{Place}
-use Rattle.intake_core.specs.declared.place.Planner.{Planner}
+use Rattle.number_set.specs.Members.{is_member}
+use Rattle.intake_core.specs.declared.slot.Slot.{Slot}
+use Rattle.intake_core.specs.declared.slot.Planner.{Planner}
 use Rattle.intake_core.specs.State.{DeskState, with_intake}
 use Rattle.intake_core.specs.Rows.{jobs_in, stages_in, links_in, waits, waits_at, IsAtRest, IsLine, IsKept, line_of, last_of, linked, joined}
 use Rattle.intake_core.proofs.Tables.{get-set_same, get-set_other, length-push, get-push_before, get-push_at, get-push_past}
 use Rattle.intake_core.proofs.Lines.{Numbered, line-joined, line-kept, length-linked, on-line-lt}
 
 -- a row that was written: what it leaves of the jobs, the stages and the links
-module _ (table : List Place) (j : ℕ) (row new : Place) (was : row ≡ get_or table j row) where
+module _ (table : List Slot) (j : ℕ) (row new : Slot) (was : row ≡ get_or table j row) where
   pub jobs-written : new.job ≡ row.job → jobs_in (set table j new) ≡ jobs_in table
   jobs-written same = map-set_same (λ r. r.job) table j new row (same ∙ ap (λ r. r.job) was)
 
@@ -34,32 +34,32 @@ module _ (table : List Place) (j : ℕ) (row new : Place) (was : row ≡ get_or 
   links-written same = map-set_same (λ r. r.following) table j new row (same ∙ ap (λ r. r.following) was)
 
 -- the same lists under other names
-pub kept-as : (task : CostedTask) (places : ℕ) (jobs new_jobs : List AcceptedPlan) (stages new_stages : List Stage) (links new_links : List (Option ℕ)) (planners new_planners : List Planner) (waiting new_waiting : List Bool)
+pub kept-as : (task : CostedTask) (slots : ℕ) (jobs new_jobs : List AcceptedPlan) (stages new_stages : List Stage) (links new_links : List (Option ℕ)) (planners new_planners : List Planner) (waiting new_waiting : List Bool)
     → new_jobs ≡ jobs → new_stages ≡ stages → new_links ≡ links → new_planners ≡ planners → new_waiting ≡ waiting
-    → IsKept task places jobs stages links planners waiting → IsKept task places new_jobs new_stages new_links new_planners new_waiting
-kept-as task places jobs new_jobs stages new_stages links new_links planners new_planners waiting new_waiting same_jobs same_stages same_links same_planners same_waiting kept =
-    subst (λ x. IsKept task places x new_stages new_links new_planners new_waiting) (sym same_jobs)
-    (subst (λ x. IsKept task places jobs x new_links new_planners new_waiting) (sym same_stages)
-    (subst (λ x. IsKept task places jobs stages x new_planners new_waiting) (sym same_links)
-    (subst (λ x. IsKept task places jobs stages links x new_waiting) (sym same_planners)
-    (subst (λ x. IsKept task places jobs stages links planners x) (sym same_waiting) kept))))
+    → IsKept task slots jobs stages links planners waiting → IsKept task slots new_jobs new_stages new_links new_planners new_waiting
+kept-as task slots jobs new_jobs stages new_stages links new_links planners new_planners waiting new_waiting same_jobs same_stages same_links same_planners same_waiting kept =
+    subst (λ x. IsKept task slots x new_stages new_links new_planners new_waiting) (sym same_jobs)
+    (subst (λ x. IsKept task slots jobs x new_links new_planners new_waiting) (sym same_stages)
+    (subst (λ x. IsKept task slots jobs stages x new_planners new_waiting) (sym same_links)
+    (subst (λ x. IsKept task slots jobs stages links x new_waiting) (sym same_planners)
+    (subst (λ x. IsKept task slots jobs stages links planners x) (sym same_waiting) kept))))
 
 -- a row that was added
-module _ (old new : List Place) (place : Place) (is : new ≡ old ++ place ∷ []) where
-  pub jobs-pushed : (jobs : List AcceptedPlan) → jobs_in old ≡ jobs → jobs_in new ≡ jobs ++ place.job ∷ []
-  jobs-pushed jobs same = ap jobs_in is ∙ map-append (λ row. row.job) old (place ∷ []) ∙ ap (λ js. js ++ place.job ∷ []) same
+module _ (old new : List Slot) (slot : Slot) (is : new ≡ old ++ slot ∷ []) where
+  pub jobs-pushed : (jobs : List AcceptedPlan) → jobs_in old ≡ jobs → jobs_in new ≡ jobs ++ slot.job ∷ []
+  jobs-pushed jobs same = ap jobs_in is ∙ map-append (λ row. row.job) old (slot ∷ []) ∙ ap (λ js. js ++ slot.job ∷ []) same
 
-  pub stages-pushed : (stages : List Stage) → stages_in old ≡ stages → stages_in new ≡ stages ++ place.stage ∷ []
-  stages-pushed stages same = ap stages_in is ∙ map-append (λ row. row.stage) old (place ∷ []) ∙ ap (λ ss. ss ++ place.stage ∷ []) same
+  pub stages-pushed : (stages : List Stage) → stages_in old ≡ stages → stages_in new ≡ stages ++ slot.stage ∷ []
+  stages-pushed stages same = ap stages_in is ∙ map-append (λ row. row.stage) old (slot ∷ []) ∙ ap (λ ss. ss ++ slot.stage ∷ []) same
 
-  pub links-pushed : (links : List (Option ℕ)) → links_in old ≡ links → links_in new ≡ links ++ place.following ∷ []
-  links-pushed links same = ap links_in is ∙ map-append (λ row. row.following) old (place ∷ []) ∙ ap (λ ls. ls ++ place.following ∷ []) same
+  pub links-pushed : (links : List (Option ℕ)) → links_in old ≡ links → links_in new ≡ links ++ slot.following ∷ []
+  links-pushed links same = ap links_in is ∙ map-append (λ row. row.following) old (slot ∷ []) ∙ ap (λ ls. ls ++ slot.following ∷ []) same
 
 -- the state after a change of the intake
-pub state-changes : (task : CostedTask) (places : ℕ) (old new : Intake) (now : DeskState) (change : Intake → Intake) → new ≡ change old
-    → record { task = task; places = places; intake = old } ≡ now → record { task = task; places = places; intake = new } ≡ with_intake now (change now.intake)
-state-changes task places old new now change is view =
-    ap (λ i. record { task = task; places = places; intake = i }) is ∙ ap (λ desk. with_intake desk (change desk.intake)) view
+pub state-changes : (task : CostedTask) (slots : ℕ) (old new : Intake) (now : DeskState) (change : Intake → Intake) → new ≡ change old
+    → record { task = task; slots = slots; intake = old } ≡ now → record { task = task; slots = slots; intake = new } ≡ with_intake now (change now.intake)
+state-changes task slots old new now change is view =
+    ap (λ i. record { task = task; slots = slots; intake = i }) is ∙ ap (λ desk. with_intake desk (change desk.intake)) view
 
 -- intakes with the same lists
 pub same-intake : (a b : Intake) → a.jobs ≡ b.jobs → a.stages ≡ b.stages → a.closed ≡ b.closed → a.emitted ≡ b.emitted → a ≡ b
@@ -89,13 +89,13 @@ module _ (stages : List Stage) (waiting : List Bool) (is : (k : ℕ) → is_memb
       (λ (apart : k ≢ j). is k ∙ ap waits (sym (get-set_other stages j k stage apart)))
       (cases_eq k j)
 
-module _ (task : CostedTask) (places : ℕ) (jobs : List AcceptedPlan) (stages : List Stage) (links : List (Option ℕ)) (planners : List Planner) (waiting : List Bool)
-    (kept : IsKept task places jobs stages links planners waiting) where
+module _ (task : CostedTask) (slots : ℕ) (jobs : List AcceptedPlan) (stages : List Stage) (links : List (Option ℕ)) (planners : List Planner) (waiting : List Bool)
+    (kept : IsKept task slots jobs stages links planners waiting) where
   -- one job's stage is written
   pub kept-stage : (j : ℕ) (stage : Stage) (new_waiting : List Bool) → j < length jobs → length new_waiting ≡ length waiting
       → ((k : ℕ) → is_member new_waiting k ≡ waits_at (set stages j stage) k)
       → ((job : AcceptedPlan) (finding : Finding) → slice_get jobs j ≡ Some job → stage ≡ Finished finding → IsAtRest task job finding)
-      → IsKept task places jobs (set stages j stage) links planners new_waiting
+      → IsKept task slots jobs (set stages j stage) links planners new_waiting
   kept-stage j stage new_waiting within same waiting_is rest =
       record {
         few = kept.few;
@@ -103,7 +103,7 @@ module _ (task : CostedTask) (places : ℕ) (jobs : List AcceptedPlan) (stages :
         staged = length-set stages j stage ∙ kept.staged;
         linked = kept.linked;
         numbered = kept.numbered;
-        all_places = same ∙ kept.all_places;
+        all_slots = same ∙ kept.all_slots;
         waiting_is = waiting_is;
         at_rest = λ k job finding at resting.
             ⊎_elim
@@ -119,22 +119,22 @@ module _ (task : CostedTask) (places : ℕ) (jobs : List AcceptedPlan) (stages :
 
   -- one job waits, or is given out
   pub kept-waiting : (j : ℕ) (stage : Stage) (value : Bool) → j < length jobs → is_waiting_stage stage ≡ value
-      → ((finding : Finding) → stage ≢ Finished finding) → IsKept task places jobs (set stages j stage) links planners (set waiting j value)
+      → ((finding : Finding) → stage ≢ Finished finding) → IsKept task slots jobs (set stages j stage) links planners (set waiting j value)
   kept-waiting j stage value within same no_finding =
       kept-stage j stage (set waiting j value) within (length-set waiting j value)
-      (waits-written stages waiting kept.waiting_is j stage (omega (arith, kept.staged, within)) value (omega (arith, kept.all_places, kept.room, within)) same)
+      (waits-written stages waiting kept.waiting_is j stage (omega (arith, kept.staged, within)) value (omega (arith, kept.all_slots, kept.room, within)) same)
       (λ job finding at is. absurd (no_finding finding is))
 
   -- one job that does not wait comes to another stage at which it does not
   pub kept-idle : (j : ℕ) (stage : Stage) → j < length jobs → is_waiting_stage stage ≡ false → waits_at stages j ≡ false
       → ((job : AcceptedPlan) (finding : Finding) → slice_get jobs j ≡ Some job → stage ≡ Finished finding → IsAtRest task job finding)
-      → IsKept task places jobs (set stages j stage) links planners waiting
+      → IsKept task slots jobs (set stages j stage) links planners waiting
   kept-idle j stage within after before rest =
       kept-stage j stage waiting within refl
       (waits-unwritten stages waiting kept.waiting_is j stage (omega (arith, kept.staged, within)) after before) rest
 
   -- one planner's row is written
-  pub kept-planner : (planner : ℕ) (row : Planner) → planner < length planners → IsLine jobs links planner row → IsKept task places jobs stages links (set planners planner row) waiting
+  pub kept-planner : (planner : ℕ) (row : Planner) → planner < length planners → IsLine jobs links planner row → IsKept task slots jobs stages links (set planners planner row) waiting
   kept-planner planner row within line =
       record {
         few = kept.few;
@@ -142,7 +142,7 @@ module _ (task : CostedTask) (places : ℕ) (jobs : List AcceptedPlan) (stages :
         staged = kept.staged;
         linked = kept.linked;
         numbered = kept.numbered;
-        all_places = kept.all_places;
+        all_slots = kept.all_slots;
         waiting_is = kept.waiting_is;
         at_rest = kept.at_rest;
         lines = λ other found at.
@@ -156,8 +156,8 @@ module _ (task : CostedTask) (places : ℕ) (jobs : List AcceptedPlan) (stages :
       }
 
   -- a job is accepted
-  pub kept-accept : (job : AcceptedPlan) (row : Planner) → job.number ≡ length jobs → length jobs < places → slice_get planners job.planner ≡ Some row
-      → IsKept task places (jobs ++ job ∷ []) (stages ++ Waiting ∷ []) (linked links row.last job.number ++ None ∷ []) (set planners job.planner (joined row job.number)) (set waiting job.number true)
+  pub kept-accept : (job : AcceptedPlan) (row : Planner) → job.number ≡ length jobs → length jobs < slots → slice_get planners job.planner ≡ Some row
+      → IsKept task slots (jobs ++ job ∷ []) (stages ++ Waiting ∷ []) (linked links row.last job.number ++ None ∷ []) (set planners job.planner (joined row job.number)) (set waiting job.number true)
   kept-accept job row number room at =
       let mine = kept.lines job.planner row at in
       record {
@@ -166,7 +166,7 @@ module _ (task : CostedTask) (places : ℕ) (jobs : List AcceptedPlan) (stages :
         staged = omega (arith, length-push jobs job, length-push stages Waiting, kept.staged);
         linked = omega (arith, length-push jobs job, length-push (linked links row.last job.number) None, length-linked links row.last job.number, kept.linked);
         numbered = λ j other e. numbers j other e;
-        all_places = length-set waiting job.number true ∙ kept.all_places;
+        all_slots = length-set waiting job.number true ∙ kept.all_slots;
         waiting_is = λ k. all k;
         at_rest = λ k other finding e resting.
             ⊎_elim
@@ -204,7 +204,7 @@ module _ (task : CostedTask) (places : ℕ) (jobs : List AcceptedPlan) (stages :
       all k =
           ⊎_elim
           (λ (here : k ≡ job.number).
-          ap (is_member (set waiting job.number true)) here ∙ get_or-set_same waiting job.number true false (omega (arith, kept.all_places, number, room))
+          ap (is_member (set waiting job.number true)) here ∙ get_or-set_same waiting job.number true false (omega (arith, kept.all_slots, number, room))
           ∙ sym (ap waits (get-push_at stages Waiting k (omega (arith, kept.staged, number, here)))))
           (λ (apart : k ≢ job.number).
           get_or-set_other waiting job.number k true false apart ∙ kept.waiting_is k
@@ -222,13 +222,13 @@ module _ (task : CostedTask) (places : ℕ) (jobs : List AcceptedPlan) (stages :
           let it : Some Waiting ≡ Some (Finished finding) = sym (get-push_at stages Waiting k last) ∙ resting in
           cc
 
-pub length-jobs : (table : List Place) → length (jobs_in table) ≡ length table
+pub length-jobs : (table : List Slot) → length (jobs_in table) ≡ length table
 length-jobs table = length-map table (λ row. row.job)
 
 pub length-closed : (planners : List Planner) → length (map (λ row. row.closed) planners) ≡ length planners
 length-closed planners = length-map planners (λ row. row.closed)
 
--- a row that was read is the one at its place
+-- a row that was read is the one at its index
 pub row-at : {X : Type 0} (rows : List X) (i : ℕ) (row : X) → i < length rows → row ≡ get_or rows i row → slice_get rows i ≡ Some row
 row-at rows i row within is = slice_get_read rows (length rows) i row refl within is
 
@@ -241,7 +241,7 @@ rest-of task jobs j stored job finding of_job right at same =
     let job_is : stored.job ≡ job = cc in
     record { same = ap (λ f. f.job) (sym it) ∙ job_is; right = subst (IsRight task) it right }
 
--- the last of a planner's jobs has a place
+-- the last of a planner's jobs has an index
 pub last-within : (jobs : List AcceptedPlan) (links : List (Option ℕ)) (planner count : ℕ) (row : Planner) → Numbered jobs → count ≡ length jobs → IsLine jobs links planner row
     → IfSome row.last (λ job. job < count)
 last-within jobs links planner count row numbered len line = by row.last line.last

@@ -9,11 +9,11 @@ use Rattle.std.proofs.lemmas.Option.{slice_get-get_or, slice_get_past, slice_get
 use Rattle.std.proofs.Math.ListN.{length-set}
 use Rattle.intake_rules.specs.Jobs.{AcceptedPlan}
 use Rattle.intake_rules.specs.Intake.{is_of, jobs_of}
-use Rattle.intake_core.specs.declared.place.Planner.{Planner}
+use Rattle.intake_core.specs.declared.slot.Planner.{Planner}
 use Rattle.intake_core.specs.Rows.{line_of, last_of, IsLine, linked, or_else, joined}
 use Rattle.intake_core.proofs.Tables.{length-push, get-push_before, get-push_at, get-push_past, in-filter}
 
--- the jobs are numbered by their places
+-- the jobs are numbered by their indexes
 abbrev pub Numbered : List AcceptedPlan → Type 0
 Numbered jobs = (j : ℕ) (job : AcceptedPlan) → slice_get jobs j ≡ Some job → job.number ≡ j
 
@@ -33,8 +33,8 @@ unfolding jobs_of
 on-line jobs planner k j numbered e =
     let some = some-of (slice_get (filter (is_of planner) jobs) k) j (sym (slice_get-map (λ job. job.number) (filter (is_of planner) jobs) k) ∙ e) in
     let found = in-filter (is_of planner) jobs k some.0 some.1.0 in
-    let place : found.0 ≡ j = sym (numbered found.0 some.0 found.1.0) ∙ some.1.1 in
-    (some.0, record { at = ap (slice_get jobs) (sym place) ∙ found.1.0; whose = eqb-true some.0.planner planner found.1.1 })
+    let index : found.0 ≡ j = sym (numbered found.0 some.0 found.1.0) ∙ some.1.1 in
+    (some.0, record { at = ap (slice_get jobs) (sym index) ∙ found.1.0; whose = eqb-true some.0.planner planner found.1.1 })
 
 -- a job that is accepted comes to the end of its planner's line
 line-own : (jobs : List AcceptedPlan) (job : AcceptedPlan) → line_of job.planner (jobs ++ job ∷ []) ≡ line_of job.planner jobs ++ job.number ∷ []

@@ -6,9 +6,9 @@ use Rattle.std.proofs.lemmas.List.{length-replicate, get_or-replicate, get_or_pa
 use Rattle.std.proofs.lemmas.Option.{slice_get-get_or, slice_get_within}
 use Rattle.plan_cost.specs.declared.costs.CostedTask.{CostedTask}
 use Rattle.intake_rules.specs.Intake.{Intake, empty_intake, jobs_of}
-use Rattle.place_set.specs.Members.{is_member}
-use Rattle.intake_core.specs.declared.place.Place.{Place}
-use Rattle.intake_core.specs.declared.place.Planner.{Planner}
+use Rattle.number_set.specs.Members.{is_member}
+use Rattle.intake_core.specs.declared.slot.Slot.{Slot}
+use Rattle.intake_core.specs.declared.slot.Planner.{Planner}
 use Rattle.intake_core.specs.State.{DeskState}
 use Rattle.intake_core.specs.Rows.{intake_in, IsLine, IsKept, IsKeptIn}
 
@@ -20,23 +20,23 @@ open-line : (planner : ℕ) → IsLine [] [] planner open_planner
 unfolding jobs_of
 open-line planner = record { next = refl; last = refl; told = omega arith; along = λ k j e. absurd (cc) }
 
-no_member : (places j : ℕ) → is_member (replicate places false) j ≡ false
-no_member places j =
+no_member : (slots j : ℕ) → is_member (replicate slots false) j ≡ false
+no_member slots j =
     ⊎_elim
-    (λ (within : j < places). get_or-replicate places j false false within)
-    (λ (past : places ≤ j). get_or_past (replicate places false) j false (omega (arith, past, length-replicate places false)))
-    (cases_lt j places)
+    (λ (within : j < slots). get_or-replicate slots j false false within)
+    (λ (past : slots ≤ j). get_or_past (replicate slots false) j false (omega (arith, past, length-replicate slots false)))
+    (cases_lt j slots)
 
-kept-empty : (task : CostedTask) (places planners : ℕ) → places ≤ 65536 → IsKept task places [] [] [] (replicate planners open_planner) (replicate places false)
-kept-empty task places planners few =
+kept-empty : (task : CostedTask) (slots planners : ℕ) → slots ≤ 65536 → IsKept task slots [] [] [] (replicate planners open_planner) (replicate slots false)
+kept-empty task slots planners few =
     record {
       few = few;
       room = omega arith;
       staged = refl;
       linked = refl;
       numbered = λ j job e. absurd (cc);
-      all_places = length-replicate places false;
-      waiting_is = no_member places;
+      all_slots = length-replicate slots false;
+      waiting_is = no_member slots;
       at_rest = λ j job finding e f. absurd (cc);
       lines = λ planner row e.
           let within : planner < planners = omega (arith, slice_get_within (replicate planners open_planner) planner row e, length-replicate planners open_planner) in
@@ -47,25 +47,25 @@ kept-empty task places planners few =
           subst (IsLine [] [] planner) row_is (open-line planner);
     }
 
-pub kept-made : (task : CostedTask) (places planners : ℕ) (table : List Place) (rows : List Planner) (waiting : List Bool) → places ≤ 65536
-    → table ≡ [] → rows ≡ replicate planners open_planner → waiting ≡ replicate places false → IsKeptIn task places table rows waiting
-kept-made task places planners table rows waiting few no_rows rows_are none =
-    subst (λ t. IsKeptIn task places t rows waiting) (sym no_rows)
-    (subst (λ r. IsKeptIn task places [] r waiting) (sym rows_are)
-    (subst (λ w. IsKeptIn task places [] (replicate planners open_planner) w) (sym none) (kept-empty task places planners few)))
+pub kept-made : (task : CostedTask) (slots planners : ℕ) (table : List Slot) (rows : List Planner) (waiting : List Bool) → slots ≤ 65536
+    → table ≡ [] → rows ≡ replicate planners open_planner → waiting ≡ replicate slots false → IsKeptIn task slots table rows waiting
+kept-made task slots planners table rows waiting few no_rows rows_are none =
+    subst (λ t. IsKeptIn task slots t rows waiting) (sym no_rows)
+    (subst (λ r. IsKeptIn task slots [] r waiting) (sym rows_are)
+    (subst (λ w. IsKeptIn task slots [] (replicate planners open_planner) w) (sym none) (kept-empty task slots planners few)))
 
 map-copies : {X Y : Type 0} (f : X → Y) → (n : ℕ) (x : X) → map f (replicate n x) ≡ replicate n (f x)
 map-copies f zero x = refl
 map-copies f (suc n) x = ap (λ xs. f x ∷ xs) (map-copies f n x)
 
 abbrev pub state : CostedTask → ℕ → Intake → DeskState
-state task places intake = record { task = task; places = places; intake = intake }
+state task slots intake = record { task = task; slots = slots; intake = intake }
 
-pub state-made : (task given : CostedTask) (places planners : ℕ) (table : List Place) (rows : List Planner) → task ≡ given → table ≡ [] → rows ≡ replicate planners open_planner
-    → state task places (intake_in table rows) ≡ state given places (empty_intake planners)
-state-made task given places planners table rows same no_rows rows_are =
-    ap (λ t. state t places (intake_in table rows)) same
-    ∙ ap (λ t. state given places (intake_in t rows)) no_rows
-    ∙ ap (λ r. state given places (intake_in [] r)) rows_are
-    ∙ ap (λ c. state given places (record { jobs = []; stages = []; closed = c; emitted = map (λ r. r.emitted) (replicate planners open_planner) })) (map-copies (λ r. r.closed) planners open_planner)
-    ∙ ap (λ e. state given places (record { jobs = []; stages = []; closed = replicate planners false; emitted = e })) (map-copies (λ r. r.emitted) planners open_planner)
+pub state-made : (task given : CostedTask) (slots planners : ℕ) (table : List Slot) (rows : List Planner) → task ≡ given → table ≡ [] → rows ≡ replicate planners open_planner
+    → state task slots (intake_in table rows) ≡ state given slots (empty_intake planners)
+state-made task given slots planners table rows same no_rows rows_are =
+    ap (λ t. state t slots (intake_in table rows)) same
+    ∙ ap (λ t. state given slots (intake_in t rows)) no_rows
+    ∙ ap (λ r. state given slots (intake_in [] r)) rows_are
+    ∙ ap (λ c. state given slots (record { jobs = []; stages = []; closed = c; emitted = map (λ r. r.emitted) (replicate planners open_planner) })) (map-copies (λ r. r.closed) planners open_planner)
+    ∙ ap (λ e. state given slots (record { jobs = []; stages = []; closed = replicate planners false; emitted = e })) (map-copies (λ r. r.emitted) planners open_planner)

@@ -27,16 +27,16 @@ is-true true e = refl
 is-true false e = absurd (true≢false e)
 
 -- a plan is accepted of a planner, and there is room for it
-pub record IsAccepted (places : ℕ) (intake : Intake) (planner : ℕ) : Type 0 where
+pub record IsAccepted (slots : ℕ) (intake : Intake) (planner : ℕ) : Type 0 where
   pub known : planner < length intake.closed
-  pub room : length intake.jobs ≢ places
+  pub room : length intake.jobs ≢ slots
 
-pub accepted : (places : ℕ) (intake : Intake) (planner : ℕ) → submit_refusal places intake planner ≡ None → IsAccepted places intake planner
-accepted places intake planner e =
+pub accepted : (slots : ℕ) (intake : Intake) (planner : ℕ) → submit_refusal slots intake planner ≡ None → IsAccepted slots intake planner
+accepted slots intake planner e =
     let first = passes (not (has_planner intake planner)) _ _ e in
     let second = passes (is_closed_in intake planner) _ _ first.1 in
-    let third = passes (nat_eq (length intake.jobs) places) _ _ second.1 in
-    record { known = is-lt planner (length intake.closed) first.0; room = eqb-false (length intake.jobs) places third.0 }
+    let third = passes (nat_eq (length intake.jobs) slots) _ _ second.1 in
+    record { known = is-lt planner (length intake.closed) first.0; room = eqb-false (length intake.jobs) slots third.0 }
 
 pub open-planner : (intake : Intake) (planner : ℕ) → close_refusal intake planner ≡ None → planner < length intake.closed
 open-planner intake planner e =
@@ -81,6 +81,6 @@ stored intake job finding e =
       same = same-job (slice_get intake.jobs job) finding.job (is-true (is_of_job intake job finding) fourth.0);
     }
 
--- the stage of a job by its place
+-- the stage of a job by its index
 pub stage-at : (intake : Intake) (job : ℕ) → job < length intake.stages → slice_get intake.stages job ≡ Some (stage_of intake job)
 stage-at intake job within = slice_get-get_or intake.stages job Waiting within

@@ -53,15 +53,15 @@ runs-part task whole desk left replies runs =
 
 -- a history that leaves a desk, with what the steps then make of it, is lawful and gives out the least jobs
 leaves-replayed : (planners : ℕ) (steps : List Asked) (history : History) (desk : DeskState) → Leaves planners history desk
-    → IsLawful planners desk.places (history ++ replayed desk steps) × TakesLeast planners (history ++ replayed desk steps)
+    → IsLawful planners desk.slots (history ++ replayed desk steps) × TakesLeast planners (history ++ replayed desk steps)
 unfolding replayed
 leaves-replayed planners [] history desk leaves =
-    let P : History → Type 0 = λ h. IsLawful planners desk.places h × TakesLeast planners h in
+    let P : History → Type 0 = λ h. IsLawful planners desk.slots h × TakesLeast planners h in
     subst P (sym (append-nil history)) (leaves.lawful, leaves.least)
 leaves-replayed planners (step ∷ steps) history desk leaves =
     let answer = desk_reply desk (event_of desk step) in
     let new = desk_after desk (event_of desk step) answer in
-    let P : History → Type 0 = λ h. IsLawful planners desk.places h × TakesLeast planners h in
+    let P : History → Type 0 = λ h. IsLawful planners desk.slots h × TakesLeast planners h in
     subst P (append_assoc history ((event_of desk step, answer) ∷ []) (replayed new steps))
     (leaves-replayed planners steps (history ++ (event_of desk step, answer) ∷ []) new (goes-on desk new (event_of desk step) answer refl refl planners history leaves))
 
@@ -80,15 +80,15 @@ right-event desk (to_emit planner) = tt
 -- each finding that the steps hand in is right
 right-replayed : (steps : List Asked) (desk : DeskState) → HasRightFindings desk.task (replayed desk steps)
 unfolding replayed
-right-replayed [] desk place event answer e = absurd (cc)
+right-replayed [] desk index event answer e = absurd (cc)
 right-replayed (step ∷ steps) desk zero event answer e =
     let first : Event × Reply = (event_of desk step, desk_reply desk (event_of desk step)) in
     let given : Event × Reply = (event, answer) in
     let some : Some first ≡ Some given = e in
     let same : first ≡ given = cc in
     subst (IsRightFinish desk.task) (ap (λ pair. pair.0) same) (right-event desk step)
-right-replayed (step ∷ steps) desk (suc place) event answer e =
-    right-replayed steps (desk_after desk (event_of desk step) (desk_reply desk (event_of desk step))) place event answer e
+right-replayed (step ∷ steps) desk (suc index) event answer e =
+    right-replayed steps (desk_after desk (event_of desk step) (desk_reply desk (event_of desk step))) index event answer e
 
 get-take : (xs : History) (n k : ℕ) (x : Event × Reply) → slice_get (take n xs) k ≡ Some x → slice_get xs k ≡ Some x
 get-take xs zero k x e = absurd (cc)
@@ -97,24 +97,24 @@ get-take (y ∷ ys) (suc n) zero x e = e
 get-take (y ∷ ys) (suc n) (suc k) x e = get-take ys n k x e
 
 -- what holds of the history of every replay
-pub headline : (task : CostedTask) (planners places : ℕ) (steps : List Asked) → Headline task planners places (history_of task planners places steps)
-headline task planners places steps =
-    let desk : DeskState = record { task = task; places = places; intake = empty_intake planners } in
-    let history = history_of task planners places steps in
-    let facts : IsLawful planners places history × TakesLeast planners history = leaves-replayed planners steps [] desk (begins planners desk refl) in
+pub headline : (task : CostedTask) (planners slots : ℕ) (steps : List Asked) → Headline task planners slots (history_of task planners slots steps)
+headline task planners slots steps =
+    let desk : DeskState = record { task = task; slots = slots; intake = empty_intake planners } in
+    let history = history_of task planners slots steps in
+    let facts : IsLawful planners slots history × TakesLeast planners history = leaves-replayed planners steps [] desk (begins planners desk refl) in
     let right : HasRightFindings task history = right-replayed steps desk in
     record {
       lawful = facts.0;
       least = facts.1;
       verdicts = λ count.
-          verdicts_in_order planners places task (take count history) (lawful_prefix planners places history count facts.0)
-          (λ place event answer e. right place event answer (get-take history count place (event, answer) e));
+          verdicts_in_order planners slots task (take count history) (lawful_prefix planners slots history count facts.0)
+          (λ index event answer e. right index event answer (get-take history count index (event, answer) e));
       refusals = refusals_change_nothing history;
-      after_close = refused_after_close planners places history facts.0;
-      doubled = refused_doubled planners places history facts.0;
-      strange = refused_strange planners places history facts.0;
-      whole_list = whole_list_once_closed planners places history facts.0;
-      complete = complete_is_whole planners places history facts.0 task right;
+      after_close = refused_after_close planners slots history facts.0;
+      doubled = refused_doubled planners slots history facts.0;
+      strange = refused_strange planners slots history facts.0;
+      whole_list = whole_list_once_closed planners slots history facts.0;
+      complete = complete_is_whole planners slots history facts.0 task right;
     }
 
 -- a push that did not fail

@@ -46,6 +46,6 @@ in-filter test (y ∷ ys) k x e = by (test y) refl k e (λ k e. in-filter test y
     by true f (suc k) e rest = let found = rest k e in (suc found.0, found.1)
     by false f k e rest = let found = rest k e in (suc found.0, found.1)
 
--- of an element the place is within
+-- the index of an element is within
 pub get-some : {X : Type 0} (xs : List X) (i : ℕ) (x d : X) → slice_get xs i ≡ Some x → get_or xs i d ≡ x
 get-some xs i x d e = let h : Some (get_or xs i d) ≡ Some x = sym (slice_get-get_or xs i d (slice_get_within xs i x e)) ∙ e in cc

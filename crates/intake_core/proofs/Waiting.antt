@@ -12,10 +12,10 @@ use Rattle.std.proofs.lemmas.Option.{slice_get-get_or, slice_get_past}
 use Rattle.intake_rules.specs.declared.stage.Stage.{Stage}
 use Rattle.intake_rules.specs.declared.stage.Stage.TheVariants.{Waiting}
 use Rattle.intake_rules.specs.Intake.{is_waiting_stage}
-use Rattle.place_set.specs.Members.{is_member, least_member}
+use Rattle.number_set.specs.Members.{is_member, least_member}
 use Rattle.intake_core.specs.Rows.{waits, waits_at}
 
--- a job that waits has a place
+-- a job that waits has an index
 pub waits-lt : (stages : List Stage) (k : ℕ) → waits_at stages k ≡ true → k < length stages
 waits-lt stages k e =
     ⊎_elim
@@ -72,6 +72,6 @@ least-same waiting stages is =
         (λ (past : length stages ≤ position_or_len is_waiting_stage stages). past)
         (cases_lt (position_or_len is_waiting_stage stages) (length stages))
 
--- the least member of the set has a place
+-- the least member of the set has an index
 pub least-lt : (waiting : List Bool) (stages : List Stage) (number : ℕ) → ((k : ℕ) → is_member waiting k ≡ waits_at stages k) → least_member waiting ≡ Some number → number < length stages
 least-lt waiting stages number is least = waits-lt stages number (sym (is number) ∙ (position-Some (λ m. m) waiting number false least).1)

@@ -8,7 +8,7 @@ use Rattle.intake_core.specs.State.{DeskState}
 
 -- a lawful history for `planners` planners, in which each take gave out the least job that waited, leaves the desk as it is
 pub record Leaves (planners : ℕ) (history : History) (desk : DeskState) : Type 0 where
-  pub lawful : IsLawful planners desk.places history
+  pub lawful : IsLawful planners desk.slots history
   pub least : TakesLeast planners history
   pub left : left_by planners history ≡ desk.intake
 

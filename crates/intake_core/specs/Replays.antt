@@ -33,12 +33,12 @@ replies_of history = map (λ pair. pair.1) history
 
 -- the events and replies of the steps at a new desk
 abbrev pub history_of : CostedTask → ℕ → ℕ → List Asked → History
-history_of task planners places steps = replayed (record { task = task; places = places; intake = empty_intake planners }) steps
+history_of task planners slots steps = replayed (record { task = task; slots = slots; intake = empty_intake planners }) steps
 
 -- what holds of every history of a desk
-pub record Headline (task : CostedTask) (planners places : ℕ) (history : History) : Type 0 where
+pub record Headline (task : CostedTask) (planners slots : ℕ) (history : History) : Type 0 where
   -- each reply is the rules', and each take gives out the least job that waits
-  pub lawful : IsLawful planners places history
+  pub lawful : IsLawful planners slots history
   pub least : TakesLeast planners history
   -- at each moment the verdicts and costs emitted for a planner are the first of those of its accepted plans, in order, each once
   pub verdicts : (count : ℕ) → VerdictsInOrder task (take count history)

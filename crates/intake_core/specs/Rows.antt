@@ -8,24 +8,24 @@ use Rattle.intake_rules.specs.declared.stage.Stage.{Stage}
 use Rattle.intake_rules.specs.Findings.{IsRight}
 use Rattle.intake_rules.specs.Intake.{Intake, is_waiting_stage, jobs_of, has_planner, next_job}
 use Rattle.intake_rules.specs.Jobs.{AcceptedPlan}
-use Rattle.intake_core.specs.declared.place.Place.{Place}
-use Rattle.intake_core.specs.declared.place.Planner.{Planner}
-use Rattle.place_set.specs.Members.{is_member}
+use Rattle.intake_core.specs.declared.slot.Slot.{Slot}
+use Rattle.intake_core.specs.declared.slot.Planner.{Planner}
+use Rattle.number_set.specs.Members.{is_member}
 
 -- the jobs of the rows
-abbrev pub jobs_in : List Place → List AcceptedPlan
+abbrev pub jobs_in : List Slot → List AcceptedPlan
 jobs_in table = map (λ row. row.job) table
 
 -- the stages of the rows
-abbrev pub stages_in : List Place → List Stage
+abbrev pub stages_in : List Slot → List Stage
 stages_in table = map (λ row. row.stage) table
 
 -- for each row the next job of its planner, if there is one
-abbrev pub links_in : List Place → List (Option ℕ)
+abbrev pub links_in : List Slot → List (Option ℕ)
 links_in table = map (λ row. row.following) table
 
 -- what the rows say
-abbrev pub intake_in : List Place → List Planner → Intake
+abbrev pub intake_in : List Slot → List Planner → Intake
 intake_in table planners = record {
   jobs = jobs_in table;
   stages = stages_in table;
@@ -62,21 +62,21 @@ pub record IsAtRest (task : CostedTask) (job : AcceptedPlan) (finding : Finding)
   pub same : finding.job ≡ job
   pub right : IsRight task finding
 
--- how the jobs, stages and links of a desk with `places` slots, its planners and the set of the jobs that wait fit together
-pub record IsKept (task : CostedTask) (places : ℕ) (jobs : List AcceptedPlan) (stages : List Stage) (links : List (Option ℕ)) (planners : List Planner) (waiting : List Bool) : Type 0 where
-  pub few : places ≤ 65536
-  pub room : length jobs ≤ places
+-- how the jobs, stages and links of a desk of this many slots, its planners and the set of the jobs that wait fit together
+pub record IsKept (task : CostedTask) (slots : ℕ) (jobs : List AcceptedPlan) (stages : List Stage) (links : List (Option ℕ)) (planners : List Planner) (waiting : List Bool) : Type 0 where
+  pub few : slots ≤ 65536
+  pub room : length jobs ≤ slots
   pub staged : length stages ≡ length jobs
   pub linked : length links ≡ length jobs
   pub numbered : (j : ℕ) (job : AcceptedPlan) → slice_get jobs j ≡ Some job → job.number ≡ j
-  pub all_places : length waiting ≡ places
+  pub all_slots : length waiting ≡ slots
   pub waiting_is : (j : ℕ) → is_member waiting j ≡ waits_at stages j
   pub at_rest : (j : ℕ) (job : AcceptedPlan) (finding : Finding) → slice_get jobs j ≡ Some job → slice_get stages j ≡ Some (Finished finding) → IsAtRest task job finding
   pub lines : (planner : ℕ) (row : Planner) → slice_get planners planner ≡ Some row → IsLine jobs links planner row
 
--- the same for the rows of a desk with `places` slots
-abbrev pub IsKeptIn : CostedTask → ℕ → List Place → List Planner → List Bool → Type 0
-IsKeptIn task places table planners waiting = IsKept task places (jobs_in table) (stages_in table) (links_in table) planners waiting
+-- the same for the rows of a desk of this many slots
+abbrev pub IsKeptIn : CostedTask → ℕ → List Slot → List Planner → List Bool → Type 0
+IsKeptIn task slots table planners waiting = IsKept task slots (jobs_in table) (stages_in table) (links_in table) planners waiting
 
 -- the links once this job follows the one that was the last of its planner
 abbrev pub linked : List (Option ℕ) → Option ℕ → ℕ → List (Option ℕ)

@@ -10,10 +10,10 @@ ghost use Rattle.intake_core.specs.Histories.{GoesOn, Leaves};
 ghost use Rattle.intake_core.specs.Rows.{jobs_in, stages_in, links_in, linked, rests_at, IsReady};
 ghost use Rattle.intake_core.specs.State.{DeskState, with_intake, desk_after, desk_reply};
 
-use crate::place::{Place, Planner};
+use crate::slot::{Planner, Slot};
 use crate::{FinishRefused, SubmitRefused};
 use intake_rules::{Finding, Job, Refusal, Reply, Stage};
-use place_set::PlaceSet;
+use number_set::NumberSet;
 use plan_cost::CostedTask;
 use std::alloc::{AllocError, Global};
 use std::marker::Model;
@@ -28,9 +28,9 @@ use submitted_plan::SubmittedPlan;
 pub struct Desk {
     task: Snapshot<CostedTask>,
     limit: u32,
-    table: Vec<Place>,
+    table: Vec<Slot>,
     planners: Vec<Planner>,
-    waiting: PlaceSet,
+    waiting: NumberSet,
 }
 
 impl Model for Desk {
@@ -41,22 +41,22 @@ impl Model for Desk {
 
     ghost use Rattle.intake_core.specs.Rows.{intake_in, IsKeptIn};
 
-    ghost view = { λ desk. record { task = desk.task.value; places = desk.limit; intake = intake_in desk.table.items desk.planners.items } };
+    ghost view = { λ desk. record { task = desk.task.value; slots = desk.limit; intake = intake_in desk.table.items desk.planners.items } };
 
     ghost invariant = { λ desk. IsKeptIn desk.task.value desk.limit desk.table.items desk.planners.items desk.waiting × (desk.limit ≤ vec_capacity desk.table) };
 }
 
 impl Desk {
-    /// A new desk for `planners` planners, with `places` slots. Takes all the memory that it will use: a row for each slot and for each planner.
+    /// A new desk for `planners` planners, for at most `slots` plans. Takes all the memory that it will use: a row for each slot and for each planner.
     pub fn make(
         alloc: Global,
         task: &CostedTask,
         planners: u32,
-        places: u32,
+        slots: u32,
     ) -> Result<Desk, AllocError>
         requires planners { planners ≤ 64 }
-        requires places { places ≤ 65536 }
-        ensures state { IfOk result (λ desk. desk ≡ record { task = task.now; places = places; intake = empty_intake planners }) }
+        requires slots { slots ≤ 65536 }
+        ensures state { IfOk result (λ desk. desk ≡ record { task = task.now; slots = slots; intake = empty_intake planners }) }
         ensures history { IfOk result (λ desk. Leaves planners [] desk) }
     {
         let open = Planner {
@@ -67,10 +67,10 @@ impl Desk {
         };
         Ok(Desk {
             task: Snapshot::of(task),
-            limit: places,
-            table: Vec::with_capacity(alloc, places as usize)?,
+            limit: slots,
+            table: Vec::with_capacity(alloc, slots as usize)?,
             planners: vec![in alloc; open; planners as usize]?,
-            waiting: PlaceSet::new(alloc, places)?,
+            waiting: NumberSet::new(alloc, slots)?,
         })
     }
 
@@ -79,7 +79,7 @@ impl Desk {
         ensures { option_copied result ≡ slice_get self.now.intake.jobs number }
     {
         match self.table.get(number as usize) {
-            Some(place) => Some(&place.job),
+            Some(slot) => Some(&slot.job),
             None => None,
         }
     }
@@ -173,7 +173,7 @@ impl Desk {
 
     /// Why a plan of a planner is not accepted.
     fn submit_refusal(&self, planner: u32) -> Option<Refusal>
-        ensures { result ≡ submit_refusal self.now.places self.now.intake planner }
+        ensures { result ≡ submit_refusal self.now.slots self.now.intake planner }
     {
         match self.planners.get(planner as usize) {
             None => Some(Refusal::NoPlanner),
@@ -200,7 +200,7 @@ impl Desk {
     {
         match self.table.get(job as usize) {
             None => Some(Refusal::UnknownJob),
-            Some(place) => match &place.stage {
+            Some(slot) => match &slot.stage {
                 Stage::Waiting => Some(Refusal::NotOut),
                 Stage::Out => None,
                 Stage::Finished(_) | Stage::Emitted => Some(Refusal::AlreadyFinished),
@@ -239,14 +239,14 @@ impl Desk {
 
     /// Accepts a plan that is not refused.
     fn accept(&mut self, planner: u32, plan: SubmittedPlan) -> u32
-        requires { submit_refusal self.old.places self.old.intake planner ≡ None }
+        requires { submit_refusal self.old.slots self.old.intake planner ≡ None }
         ensures number { result ≡ length self.old.intake.jobs }
         ensures state { self.new ≡ with_intake self.old (with_job self.old.intake planner plan) }
     {
         let number = self.table.len() as u32;
         let row = self.planners[planner as usize];
         self.planners[planner as usize] = row.joined(number);
-        let place = Place {
+        let slot = Slot {
             job: Job {
                 number,
                 planner,
@@ -256,7 +256,7 @@ impl Desk {
             following: None,
         };
         link(&mut self.table, row.last, number);
-        add(&mut self.table, place);
+        add(&mut self.table, slot);
         self.waiting.insert(number);
         number
     }
@@ -298,7 +298,7 @@ impl Desk {
         ensures { result ≡ rests_at self.now.intake number }
     {
         match self.table.get(number as usize) {
-            Some(place) => matches!(&place.stage, Stage::Finished(_)),
+            Some(slot) => matches!(&slot.stage, Stage::Finished(_)),
             None => false,
         }
     }
@@ -325,7 +325,7 @@ impl Desk {
 }
 
 /// Sets the stage of a job. Returns the one before.
-fn replace_stage(table: &mut Vec<Place>, job: u32, stage: Stage) -> Stage
+fn replace_stage(table: &mut Vec<Slot>, job: u32, stage: Stage) -> Stage
     requires { job < vec_len table.old }
     ensures was { slice_get (stages_in table.old.items) job ≡ Some result }
     ensures jobs { jobs_in table.new.items ≡ jobs_in table.old.items }
@@ -338,7 +338,7 @@ fn replace_stage(table: &mut Vec<Place>, job: u32, stage: Stage) -> Stage
 }
 
 /// Sets the stage of a job.
-fn set_stage(table: &mut Vec<Place>, job: u32, stage: Stage)
+fn set_stage(table: &mut Vec<Slot>, job: u32, stage: Stage)
     requires { job < vec_len table.old }
     ensures jobs { jobs_in table.new.items ≡ jobs_in table.old.items }
     ensures stages { stages_in table.new.items ≡ slice_set (stages_in table.old.items) job stage }
@@ -350,7 +350,7 @@ fn set_stage(table: &mut Vec<Place>, job: u32, stage: Stage)
 }
 
 /// Links a planner's last job, if it has one, to the job that follows it.
-fn link(table: &mut Vec<Place>, last: Option<u32>, number: u32)
+fn link(table: &mut Vec<Slot>, last: Option<u32>, number: u32)
     requires { IfSome last (λ job. job < vec_len table.old) }
     ensures jobs { jobs_in table.new.items ≡ jobs_in table.old.items }
     ensures stages { stages_in table.new.items ≡ stages_in table.old.items }
@@ -364,12 +364,12 @@ fn link(table: &mut Vec<Place>, last: Option<u32>, number: u32)
 }
 
 /// Adds a row for which there is room.
-fn add(table: &mut Vec<Place>, place: Place)
+fn add(table: &mut Vec<Slot>, slot: Slot)
     requires { vec_len table.old < vec_capacity table.old }
-    ensures rows { table.new.items ≡ table.old.items ++ place ∷ [] }
+    ensures rows { table.new.items ≡ table.old.items ++ slot ∷ [] }
     ensures capacity { vec_capacity table.old ≤ vec_capacity table.new }
 {
-    match table.push(place) {
+    match table.push(slot) {
         Ok(()) => {}
         Err(_) => unreachable!(),
     }

@@ -22,13 +22,13 @@
 //! [`replay`] makes a desk and runs a whole list of steps on it. Its contract states what the rules are for: see `Headline` in
 //! `specs/Replays.antt`.
 //!
-//! Of a desk's calls only [`Desk::make`] takes memory, and no call goes through all slots: a [`PlaceSet`](place_set::PlaceSet) finds the least
+//! Of a desk's calls only [`Desk::make`] takes memory, and no call goes through all slots: a [`NumberSet`](number_set::NumberSet) finds the least
 //! job that waits, and each slot links to its planner's next one.
 #![tactic(auto)]
 
 mod desk;
-mod place;
 mod replaying;
+mod slot;
 
 pub use desk::Desk;
 pub use intake_rules::{Finding, FinishRefused, Job, Refusal, Reply, Stage, SubmitRefused};

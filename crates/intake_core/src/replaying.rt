@@ -73,25 +73,25 @@ pub fn replay(
     alloc: Global,
     task: &CostedTask,
     planners: u32,
-    places: u32,
+    slots: u32,
     steps: StepsToRun,
 ) -> Result<ReplyList, ReplayFault>
     requires planners { planners ≤ 64 }
-    requires places { places ≤ 65536 }
-    ensures replies { IfOk result (λ replies. replies ≡ replies_of (history_of task.now planners places (map asked steps))) }
-    ensures fault { IfErr result (λ fault. so_far fault ≡ take (length (so_far fault)) (replies_of (history_of task.now planners places (map asked steps)))) }
-    ensures headline { Headline task.now planners places (history_of task.now planners places (map asked steps)) }
+    requires slots { slots ≤ 65536 }
+    ensures replies { IfOk result (λ replies. replies ≡ replies_of (history_of task.now planners slots (map asked steps))) }
+    ensures fault { IfErr result (λ fault. so_far fault ≡ take (length (so_far fault)) (replies_of (history_of task.now planners slots (map asked steps)))) }
+    ensures headline { Headline task.now planners slots (history_of task.now planners slots (map asked steps)) }
 {
-    match Desk::make(alloc, task, planners, places) {
+    match Desk::make(alloc, task, planners, slots) {
         Err(AllocError) => Err(ReplayFault::OutOfMemory {
             replies: Seq::new(alloc),
         }),
-        Ok(desk) => run(alloc, task, desk, steps),
+        Ok(desk) => answer_all(alloc, task, desk, steps),
     }
 }
 
 /// Runs the steps on a desk.
-fn run(
+fn answer_all(
     alloc: Global,
     task: &CostedTask,
     mut desk: Desk,

@@ -76,23 +76,23 @@ module _ (intake : Intake) where
       by false next f = cc
 
 -- the first stage that waits is one that waits
-pub waits_from_position : (from : ℕ) (stages : List Stage) (place : ℕ) → position_from is_waiting_stage from stages ≡ Some place
-    → (i : ℕ) × (place ≡ from + i) × (slice_get stages i ≡ Some stage.Waiting)
-waits_from_position from [] place e = cc
-waits_from_position from (at ∷ stages) place e = by (is_waiting_stage at) refl (waits_from_position (from + 1) stages place) e
+pub waits_from_position : (from : ℕ) (stages : List Stage) (index : ℕ) → position_from is_waiting_stage from stages ≡ Some index
+    → (i : ℕ) × (index ≡ from + i) × (slice_get stages i ≡ Some stage.Waiting)
+waits_from_position from [] index e = cc
+waits_from_position from (at ∷ stages) index e = by (is_waiting_stage at) refl (waits_from_position (from + 1) stages index) e
   where
     by : (waits : Bool) → is_waiting_stage at ≡ waits
-        → (position_from is_waiting_stage (from + 1) stages ≡ Some place → (i : ℕ) × (place ≡ from + 1 + i) × (slice_get stages i ≡ Some stage.Waiting))
-        → cond waits (Some from) (position_from is_waiting_stage (from + 1) stages) ≡ Some place
-        → (i : ℕ) × (place ≡ from + i) × (slice_get (at ∷ stages) i ≡ Some stage.Waiting)
-    by true waits rest f = let same : from ≡ place = cc in (0, omega arith, ap Some (waiting_from_test at waits))
+        → (position_from is_waiting_stage (from + 1) stages ≡ Some index → (i : ℕ) × (index ≡ from + 1 + i) × (slice_get stages i ≡ Some stage.Waiting))
+        → cond waits (Some from) (position_from is_waiting_stage (from + 1) stages) ≡ Some index
+        → (i : ℕ) × (index ≡ from + i) × (slice_get (at ∷ stages) i ≡ Some stage.Waiting)
+    by true waits rest f = let same : from ≡ index = cc in (0, omega arith, ap Some (waiting_from_test at waits))
     by false waits rest f = let (i, is, stands) = rest f in (suc i, omega arith, stands)
 
 -- the answer of an intake that gives out the least job is one that the rules allow
-pub least_allowed : (places : ℕ) (intake : Intake) (event : Event) → Allows places intake event (reply_to places intake event)
-least_allowed places intake (submit planner plan) = refl
-least_allowed places intake (close planner) = refl
-least_allowed places intake take_job = by (least_waiting intake) refl
+pub least_allowed : (slots : ℕ) (intake : Intake) (event : Event) → Allows slots intake event (reply_to slots intake event)
+least_allowed slots intake (submit planner plan) = refl
+least_allowed slots intake (close planner) = refl
+least_allowed slots intake take_job = by (least_waiting intake) refl
   where
     by : (least : Option ℕ) → least_waiting intake ≡ least
         → ((taken (least_waiting intake) ≡ reply.NoJob) × (least_waiting intake ≡ None))
@@ -101,6 +101,6 @@ least_allowed places intake take_job = by (least_waiting intake) refl
     by (Some job) e =
         let (i, is, stands) = waits_from_position 0 intake.stages job e in
         inr (job, ap taken e, ap (λ k. slice_get intake.stages k) (let f : job ≡ i = omega arith in f) ∙ stands)
-least_allowed places intake (hand_back job) = refl
-least_allowed places intake (finish job finding) = refl
-least_allowed places intake (emit planner) = refl
+least_allowed slots intake (hand_back job) = refl
+least_allowed slots intake (finish job finding) = refl
+least_allowed slots intake (emit planner) = refl

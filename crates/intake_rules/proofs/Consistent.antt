@@ -13,7 +13,7 @@ use Rattle.intake_rules.specs.Intake.{jobs_of}
 use Rattle.intake_rules.specs.Jobs.{AcceptedPlan}
 use Rattle.intake_rules.specs.Rules.{Event, emit}
 use Rattle.intake_rules.proofs.Ends.{taken_count, returned_count, is_out_by, stage_in_by}
-use Rattle.intake_rules.proofs.Numbered.{number_at, stands_at, one_place}
+use Rattle.intake_rules.proofs.Numbered.{number_at, stands_at, one_index}
 
 pub record IsConsistent (history : History) : Type 0 where
   -- a job was handed back as often as it was given out, or once less, and then it is an accepted one
@@ -21,41 +21,41 @@ pub record IsConsistent (history : History) : Type 0 where
   -- the finding of a job is of that job
   pub found : (job : ℕ) (finding : Finding) → finding_of job history ≡ Some finding → slice_get (jobs history) job ≡ Some finding.job
   -- the findings emitted for a planner are of its first jobs, in order
-  pub first : (planner place : ℕ) (finding : Finding) → slice_get (emitted planner history) place ≡ Some finding → slice_get (jobs_of planner (jobs history)) place ≡ Some finding.job
+  pub first : (planner index : ℕ) (finding : Finding) → slice_get (emitted planner history) index ≡ Some finding → slice_get (jobs_of planner (jobs history)) index ≡ Some finding.job
   -- what was emitted is the finding of its job
-  pub known : (planner place : ℕ) (finding : Finding) → slice_get (emitted planner history) place ≡ Some finding → finding_of finding.job.number history ≡ Some finding
+  pub known : (planner index : ℕ) (finding : Finding) → slice_get (emitted planner history) index ≡ Some finding → finding_of finding.job.number history ≡ Some finding
 
 pub none_consistent : IsConsistent []
 unfolding emitted finding_of
 none_consistent = record {
   out = λ job. inl refl;
   found = λ job finding e. cc;
-  first = λ planner place finding e. cc;
-  known = λ planner place finding e. cc;
+  first = λ planner index finding e. cc;
+  known = λ planner index finding e. cc;
 }
 
--- a job's number is its place
-pub number_is : (history : History) (place : ℕ) (job : AcceptedPlan) → slice_get (jobs history) place ≡ Some job → job.number ≡ place
+-- a job's number is its index
+pub number_is : (history : History) (index : ℕ) (job : AcceptedPlan) → slice_get (jobs history) index ≡ Some job → job.number ≡ index
 unfolding jobs
-number_is history place job e = let is = number_at 0 (filter_map accepted_by history) place job e in omega arith
+number_is history index job e = let is = number_at 0 (filter_map accepted_by history) index job e in omega arith
 
 -- a job of a planner stands at its number among all
-pub planners_job : (history : History) (planner place : ℕ) (job : AcceptedPlan) → slice_get (jobs_of planner (jobs history)) place ≡ Some job
+pub planners_job : (history : History) (planner index : ℕ) (job : AcceptedPlan) → slice_get (jobs_of planner (jobs history)) index ≡ Some job
     → (job.planner ≡ planner) × (slice_get (jobs history) job.number ≡ Some job)
 unfolding jobs
-planners_job history planner place job e =
-    let (i, number, whose, at) = stands_at 0 (filter_map accepted_by history) planner job place e in
+planners_job history planner index job e =
+    let (i, number, whose, at) = stands_at 0 (filter_map accepted_by history) planner job index e in
     (whose, ap (λ k. slice_get (numbered_from 0 (filter_map accepted_by history)) k) (let f : job.number ≡ i = omega arith in f) ∙ at)
 
--- and at one place among the planner's
+-- and at one index among the planner's
 pub once : (history : History) (planner k l : ℕ) (job other : AcceptedPlan) → slice_get (jobs_of planner (jobs history)) k ≡ Some job
     → slice_get (jobs_of planner (jobs history)) l ≡ Some other → job.number ≡ other.number → k ≡ l
 unfolding jobs
-once history planner k l job other e f same = one_place 0 (filter_map accepted_by history) planner k l job other e f same
+once history planner k l job other e f same = one_index 0 (filter_map accepted_by history) planner k l job other e f same
 
 -- where the finding of a job was emitted, it stands among those emitted for some planner
 abbrev pub StandsEmitted : ℕ → History → Type 0
-StandsEmitted job history = (planner place : ℕ) × (finding : Finding) × (slice_get (emitted planner history) place ≡ Some finding) × (finding.job.number ≡ job)
+StandsEmitted job history = (planner index : ℕ) × (finding : Finding) × (slice_get (emitted planner history) index ≡ Some finding) × (finding.job.number ≡ job)
 
 pub where_emitted : (history : History) (job : ℕ) → is_emitted job history ≡ true → StandsEmitted job history
 unfolding is_emitted emitted
@@ -63,11 +63,11 @@ where_emitted [] job e = cc
 where_emitted ((event, answer) ∷ history) job e = by event answer e (where_emitted history job)
   where
     shifted : (event : Event) (answer : Reply) → StandsEmitted job history → StandsEmitted job ((event, answer) ∷ history)
-    shifted event answer (planner, place, finding, stands, number) = at (emitted_by planner (event, answer)) refl
+    shifted event answer (planner, index, finding, stands, number) = at (emitted_by planner (event, answer)) refl
       where
         at : (o : Option Finding) → emitted_by planner (event, answer) ≡ o → StandsEmitted job ((event, answer) ∷ history)
-        at None f = (planner, place, finding, ap (λ o. slice_get (cons_option o (filter_map (emitted_by planner) history)) place) f ∙ stands, number)
-        at (Some other) f = (planner, suc place, finding, ap (λ o. slice_get (cons_option o (filter_map (emitted_by planner) history)) (suc place)) f ∙ stands, number)
+        at None f = (planner, index, finding, ap (λ o. slice_get (cons_option o (filter_map (emitted_by planner) history)) index) f ∙ stands, number)
+        at (Some other) f = (planner, suc index, finding, ap (λ o. slice_get (cons_option o (filter_map (emitted_by planner) history)) (suc index)) f ∙ stands, number)
 
     by : (event : Event) (answer : Reply) → (emits job (event, answer) || list_any (emits job) history) ≡ true
         → (list_any (emits job) history ≡ true → StandsEmitted job history) → StandsEmitted job ((event, answer) ∷ history)
@@ -154,8 +154,8 @@ module _ (history : History) (job : ℕ) where
     -- what was emitted was found
     pub emitted_found : is_emitted job history ≡ true → (finding : Finding) × (finding_of job history ≡ Some finding)
     emitted_found e =
-        let (planner, place, finding, stands, number) = where_emitted history job e in
-        (finding, ap (λ k. finding_of k history) (sym number) ∙ consistent.known planner place finding stands)
+        let (planner, index, finding, stands, number) = where_emitted history job e in
+        (finding, ap (λ k. finding_of k history) (sym number) ∙ consistent.known planner index finding stands)
 
     -- of a job that there is not nothing is known
     pub beyond_found : length (jobs history) ≤ job → finding_of job history ≡ None

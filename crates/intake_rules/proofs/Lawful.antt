@@ -62,83 +62,83 @@ module _ (planners : ℕ) (history : History) where
   jobs_left = refl
 
 -- an answer that the rules allow
-pub goes : (planners places : ℕ) (history : History) → IsConsistent history → (event : Event) (answer : Reply) → Allows places (left_by planners history) event answer
+pub goes : (planners slots : ℕ) (history : History) → IsConsistent history → (event : Event) (answer : Reply) → Allows slots (left_by planners history) event answer
     → Goes planners history event answer
-goes planners places history consistent (submit planner plan) (reply.Accepted number) allowed = accepted_goes planners history consistent planner plan number
-goes planners places history consistent (submit planner plan) answer allowed =
+goes planners slots history consistent (submit planner plan) (reply.Accepted number) allowed = accepted_goes planners history consistent planner plan number
+goes planners slots history consistent (submit planner plan) answer allowed =
     quiet_goes planners history (submit planner plan, answer) consistent (quiet (submit planner plan) answer refl)
-goes planners places history consistent (close planner) reply.ClosedNow allowed = closed_goes planners history consistent planner
-goes planners places history consistent (close planner) answer allowed =
+goes planners slots history consistent (close planner) reply.ClosedNow allowed = closed_goes planners history consistent planner
+goes planners slots history consistent (close planner) answer allowed =
     quiet_goes planners history (close planner, answer) consistent (quiet (close planner) answer refl)
-goes planners places history consistent take_job (reply.Taken job) allowed = taken_goes planners history consistent job (stands allowed)
+goes planners slots history consistent take_job (reply.Taken job) allowed = taken_goes planners history consistent job (stands allowed)
   where
     stands : ((reply.Taken job ≡ reply.NoJob) × (least_waiting (left_by planners history) ≡ None))
         ⊎ ((other : ℕ) × (reply.Taken job ≡ reply.Taken other) × (slice_get (left_by planners history).stages other ≡ Some stage.Waiting))
         → slice_get (left_by planners history).stages job ≡ Some stage.Waiting
     stands (inl (e, none)) = cc
     stands (inr (other, e, at)) = let same : job ≡ other = cc in ap (λ k. slice_get (left_by planners history).stages k) same ∙ at
-goes planners places history consistent take_job answer allowed =
+goes planners slots history consistent take_job answer allowed =
     quiet_goes planners history (take_job, answer) consistent (quiet take_job answer refl)
-goes planners places history consistent (hand_back job) reply.Returned allowed =
+goes planners slots history consistent (hand_back job) reply.Returned allowed =
     let (has, out) = returned_from (left_by planners history) job allowed in
     let within = known_job planners history job has in
     returned_goes planners history consistent job (sym (stage_left planners history job within) ∙ out)
-goes planners places history consistent (hand_back job) answer allowed =
+goes planners slots history consistent (hand_back job) answer allowed =
     quiet_goes planners history (hand_back job, answer) consistent (quiet (hand_back job) answer refl)
-goes planners places history consistent (finish job (Some finding)) reply.Finished allowed =
+goes planners slots history consistent (finish job (Some finding)) reply.Finished allowed =
     let (has, out, of) = finished_from (left_by planners history) job finding allowed in
     let within = known_job planners history job has in
     finished_goes planners history consistent job finding (sym (stage_left planners history job within) ∙ out) (ap (λ xs. slice_get xs job) (sym (jobs_left planners history)) ∙ of)
-goes planners places history consistent (finish job finding) answer allowed =
+goes planners slots history consistent (finish job finding) answer allowed =
     quiet_goes planners history (finish job finding, answer) consistent (quiet (finish job finding) answer refl)
-goes planners places history consistent (emit planner) (reply.Emitted finding) allowed =
+goes planners slots history consistent (emit planner) (reply.Emitted finding) allowed =
     let (has, job, next, stands) = emitted_from (left_by planners history) planner finding allowed in
     let known = known_planner planners history planner has in
     let next_is = sym (next_left planners history planner known) ∙ next in
     let within = slice_get_within (jobs history) job.number job (planners_job history planner (length (emitted planner history)) job next_is).1 in
     emitted_goes planners history consistent planner finding job known next_is (sym (stage_left planners history job.number within) ∙ stands)
-goes planners places history consistent (emit planner) answer allowed =
+goes planners slots history consistent (emit planner) answer allowed =
     quiet_goes planners history (emit planner, answer) consistent (quiet (emit planner) answer refl)
 
 -- a history with one pair more is lawful where it was and the rules allow the pair
-pub lawful_push : (planners places : ℕ) (history : History) (event : Event) (answer : Reply) → IsLawful planners places history → Allows places (left_by planners history) event answer
-    → IsLawful planners places (history ++ (event, answer) ∷ [])
-lawful_push planners places history event answer lawful allowed place other reply e = elim (slice_get_cases history (event, answer) (other, reply) place e) [
-  | inl was ↦ subst (λ (h : History). Allows places (left_by planners h) other reply) (sym (take_before history (event, answer) place (omega arith))) (lawful place other reply was.1)
+pub lawful_push : (planners slots : ℕ) (history : History) (event : Event) (answer : Reply) → IsLawful planners slots history → Allows slots (left_by planners history) event answer
+    → IsLawful planners slots (history ++ (event, answer) ∷ [])
+lawful_push planners slots history event answer lawful allowed index other reply e = elim (slice_get_cases history (event, answer) (other, reply) index e) [
+  | inl was ↦ subst (λ (h : History). Allows slots (left_by planners h) other reply) (sym (take_before history (event, answer) index (omega arith))) (lawful index other reply was.1)
   | inr now ↦
-      subst (λ (h : History). Allows places (left_by planners h) other reply) (sym (ap (λ k. take k (history ++ (event, answer) ∷ [])) now.0 ∙ take_last history (event, answer)))
-      (subst (λ (x : Event × Reply). Allows places (left_by planners history) x.0 x.1) now.1 allowed)
+      subst (λ (h : History). Allows slots (left_by planners h) other reply) (sym (ap (λ k. take k (history ++ (event, answer) ∷ [])) now.0 ∙ take_last history (event, answer)))
+      (subst (λ (x : Event × Reply). Allows slots (left_by planners history) x.0 x.1) now.1 allowed)
 ]
 
 -- and then it was, and the rules allow the pair
-pub lawful_front : (planners places : ℕ) (history : History) (event : Event) (answer : Reply) → IsLawful planners places (history ++ (event, answer) ∷ [])
-    → IsLawful planners places history × Allows places (left_by planners history) event answer
-lawful_front planners places history event answer lawful = (
-  λ place other reply e.
-      let within = slice_get_within history place (other, reply) e in
-      subst (λ (h : History). Allows places (left_by planners h) other reply) (take_before history (event, answer) place (omega arith))
-      (lawful place other reply (slice_get_before history (event, answer) place within ∙ e)),
-  subst (λ (h : History). Allows places (left_by planners h) event answer) (take_last history (event, answer))
+pub lawful_front : (planners slots : ℕ) (history : History) (event : Event) (answer : Reply) → IsLawful planners slots (history ++ (event, answer) ∷ [])
+    → IsLawful planners slots history × Allows slots (left_by planners history) event answer
+lawful_front planners slots history event answer lawful = (
+  λ index other reply e.
+      let within = slice_get_within history index (other, reply) e in
+      subst (λ (h : History). Allows slots (left_by planners h) other reply) (take_before history (event, answer) index (omega arith))
+      (lawful index other reply (slice_get_before history (event, answer) index within ∙ e)),
+  subst (λ (h : History). Allows slots (left_by planners h) event answer) (take_last history (event, answer))
       (lawful (length history) event answer (slice_get_last history (event, answer))),
 )
 
 -- each lawful history is consistent
-pub consistent_lawful : (planners places : ℕ) (history : History) → IsLawful planners places history → IsConsistent history
-consistent_lawful planners places = by_pushes (λ h. IsLawful planners places h → IsConsistent h) (λ lawful. none_consistent)
+pub consistent_lawful : (planners slots : ℕ) (history : History) → IsLawful planners slots history → IsConsistent history
+consistent_lawful planners slots = by_pushes (λ h. IsLawful planners slots h → IsConsistent h) (λ lawful. none_consistent)
     λ h pair before lawful.
-    let (front, allowed) = lawful_front planners places h pair.0 pair.1 lawful in
-    (goes planners places h (before front) pair.0 pair.1 allowed).0
+    let (front, allowed) = lawful_front planners slots h pair.0 pair.1 lawful in
+    (goes planners slots h (before front) pair.0 pair.1 allowed).0
 
-pub one_more : (planners places : ℕ) (history : History) (event : Event) (answer : Reply) → OneMore planners places history event answer
-one_more planners places history event answer lawful allowed =
-    (lawful_push planners places history event answer lawful allowed, (goes planners places history (consistent_lawful planners places history lawful) event answer allowed).1)
+pub one_more : (planners slots : ℕ) (history : History) (event : Event) (answer : Reply) → OneMore planners slots history event answer
+one_more planners slots history event answer lawful allowed =
+    (lawful_push planners slots history event answer lawful allowed, (goes planners slots history (consistent_lawful planners slots history lawful) event answer allowed).1)
 
 -- nothing was asked
-pub empty_history : (planners places : ℕ) → EmptyHistory planners places
+pub empty_history : (planners slots : ℕ) → EmptyHistory planners slots
 unfolding left_by jobs is_closed emitted below numbered_from
-empty_history planners places = (
-  λ place event answer e. cc,
-  λ place job e. cc,
+empty_history planners slots = (
+  λ index event answer e. cc,
+  λ index job e. cc,
   λ i. record {
     jobs = [];
     stages = [];
@@ -150,8 +150,8 @@ empty_history planners places = (
 -- a pair keeps to the least job where it gives out the least, or none
 least_push : (planners : ℕ) (history : History) (event : Event) (answer : Reply) → TakesLeast planners history
     → ((job : ℕ) → event ≡ take_job → answer ≡ reply.Taken job → least_waiting (left_by planners history) ≡ Some job) → TakesLeast planners (history ++ (event, answer) ∷ [])
-least_push planners history event answer least takes place job e = elim (slice_get_cases history (event, answer) (take_job, reply.Taken job) place e) [
-  | inl was ↦ ap (λ (h : History). least_waiting (left_by planners h)) (take_before history (event, answer) place (omega arith)) ∙ least place job was.1
+least_push planners history event answer least takes index job e = elim (slice_get_cases history (event, answer) (take_job, reply.Taken job) index e) [
+  | inl was ↦ ap (λ (h : History). least_waiting (left_by planners h)) (take_before history (event, answer) index (omega arith)) ∙ least index job was.1
   | inr now ↦
       ap (λ k. least_waiting (left_by planners (take k (history ++ (event, answer) ∷ [])))) now.0
       ∙ ap (λ (h : History). least_waiting (left_by planners h)) (take_last history (event, answer))
@@ -163,41 +163,41 @@ taken_least : (least : Option ℕ) (job : ℕ) → taken least ≡ reply.Taken j
 taken_least None job e = cc
 taken_least (Some other) job e = cc
 
-least_reply : (places : ℕ) (intake : Intake) (event : Event) (job : ℕ) → event ≡ take_job → reply_to places intake event ≡ reply.Taken job → least_waiting intake ≡ Some job
-least_reply places intake take_job job same e = taken_least (least_waiting intake) job e
-least_reply places intake (submit planner plan) job same e = cc
-least_reply places intake (close planner) job same e = cc
-least_reply places intake (hand_back other) job same e = cc
-least_reply places intake (finish other finding) job same e = cc
-least_reply places intake (emit planner) job same e = cc
+least_reply : (slots : ℕ) (intake : Intake) (event : Event) (job : ℕ) → event ≡ take_job → reply_to slots intake event ≡ reply.Taken job → least_waiting intake ≡ Some job
+least_reply slots intake take_job job same e = taken_least (least_waiting intake) job e
+least_reply slots intake (submit planner plan) job same e = cc
+least_reply slots intake (close planner) job same e = cc
+least_reply slots intake (hand_back other) job same e = cc
+least_reply slots intake (finish other finding) job same e = cc
+least_reply slots intake (emit planner) job same e = cc
 
-pub least_goes_on : (planners places : ℕ) (history : History) (event : Event) → LeastGoesOn planners places history event
-least_goes_on planners places history event = (
-  least_allowed places (left_by planners history) event,
-  λ least. least_push planners history event (reply_to places (left_by planners history) event) least (least_reply places (left_by planners history) event),
+pub least_goes_on : (planners slots : ℕ) (history : History) (event : Event) → LeastGoesOn planners slots history event
+least_goes_on planners slots history event = (
+  least_allowed slots (left_by planners history) event,
+  λ least. least_push planners history event (reply_to slots (left_by planners history) event) least (least_reply slots (left_by planners history) event),
 )
 
 -- an intake that always gives out the least job, one event further: for whoever keeps an intake and the history that leaves it
-pub goes_on : (planners places : ℕ) (history : History) (intake : Intake) (event : Event) → IsLawful planners places history → TakesLeast planners history
+pub goes_on : (planners slots : ℕ) (history : History) (intake : Intake) (event : Event) → IsLawful planners slots history → TakesLeast planners history
     → left_by planners history ≡ intake
-    → IsLawful planners places (history ++ (event, reply_to places intake event) ∷ []) × TakesLeast planners (history ++ (event, reply_to places intake event) ∷ [])
-    × (left_by planners (history ++ (event, reply_to places intake event) ∷ []) ≡ after intake event (reply_to places intake event))
-goes_on planners places history intake event lawful least leaves =
+    → IsLawful planners slots (history ++ (event, reply_to slots intake event) ∷ []) × TakesLeast planners (history ++ (event, reply_to slots intake event) ∷ [])
+    × (left_by planners (history ++ (event, reply_to slots intake event) ∷ []) ≡ after intake event (reply_to slots intake event))
+goes_on planners slots history intake event lawful least leaves =
     subst
-    (λ (x : Intake). IsLawful planners places (history ++ (event, reply_to places x event) ∷ []) × TakesLeast planners (history ++ (event, reply_to places x event) ∷ [])
-    × (left_by planners (history ++ (event, reply_to places x event) ∷ []) ≡ after x event (reply_to places x event)))
+    (λ (x : Intake). IsLawful planners slots (history ++ (event, reply_to slots x event) ∷ []) × TakesLeast planners (history ++ (event, reply_to slots x event) ∷ [])
+    × (left_by planners (history ++ (event, reply_to slots x event) ∷ []) ≡ after x event (reply_to slots x event)))
     leaves
     (more.0, keeps least, more.1)
   where
-    allowed : Allows places (left_by planners history) event (reply_to places (left_by planners history) event)
-    allowed = (least_goes_on planners places history event).0
+    allowed : Allows slots (left_by planners history) event (reply_to slots (left_by planners history) event)
+    allowed = (least_goes_on planners slots history event).0
 
-    keeps : TakesLeast planners history → TakesLeast planners (history ++ (event, reply_to places (left_by planners history) event) ∷ [])
-    keeps = (least_goes_on planners places history event).1
+    keeps : TakesLeast planners history → TakesLeast planners (history ++ (event, reply_to slots (left_by planners history) event) ∷ [])
+    keeps = (least_goes_on planners slots history event).1
 
-    more : IsLawful planners places (history ++ (event, reply_to places (left_by planners history) event) ∷ [])
-        × (left_by planners (history ++ (event, reply_to places (left_by planners history) event) ∷ []) ≡ after (left_by planners history) event (reply_to places (left_by planners history) event))
-    more = one_more planners places history event (reply_to places (left_by planners history) event) lawful allowed
+    more : IsLawful planners slots (history ++ (event, reply_to slots (left_by planners history) event) ∷ [])
+        × (left_by planners (history ++ (event, reply_to slots (left_by planners history) event) ∷ []) ≡ after (left_by planners history) event (reply_to slots (left_by planners history) event))
+    more = one_more planners slots history event (reply_to slots (left_by planners history) event) lawful allowed
 
 -- an element of a front stands in the whole
 slice_get_front : {A : Type 0} (n : ℕ) (xs : List A) (i : ℕ) (x : A) → slice_get (take n xs) i ≡ Some x → (i < n) × (slice_get xs i ≡ Some x)
@@ -206,45 +206,45 @@ slice_get_front (suc n) [] i x e = cc
 slice_get_front (suc n) (y ∷ ys) zero x e = (omega arith, e)
 slice_get_front (suc n) (y ∷ ys) (suc i) x e = let (within, at) = slice_get_front n ys i x e in (omega arith, at)
 
-pub lawful_prefix : (planners places : ℕ) (history : History) (count : ℕ) → IsLawful planners places history → IsLawful planners places (take count history)
-lawful_prefix planners places history count lawful place event answer e =
-    let (within, at) = slice_get_front count history place (event, answer) e in
-    subst (λ (h : History). Allows places (left_by planners h) event answer) (sym (take-take place count history (omega arith))) (lawful place event answer at)
+pub lawful_prefix : (planners slots : ℕ) (history : History) (count : ℕ) → IsLawful planners slots history → IsLawful planners slots (take count history)
+lawful_prefix planners slots history count lawful index event answer e =
+    let (within, at) = slice_get_front count history index (event, answer) e in
+    subst (λ (h : History). Allows slots (left_by planners h) event answer) (sym (take-take index count history (omega arith))) (lawful index event answer at)
 
 pub least_prefix : (planners : ℕ) (history : History) (count : ℕ) → TakesLeast planners history → TakesLeast planners (take count history)
-least_prefix planners history count least place job e =
-    let (within, at) = slice_get_front count history place (take_job, reply.Taken job) e in
-    ap (λ (h : History). least_waiting (left_by planners h)) (take-take place count history (omega arith)) ∙ least place job at
+least_prefix planners history count least index job e =
+    let (within, at) = slice_get_front count history index (take_job, reply.Taken job) e in
+    ap (λ (h : History). least_waiting (left_by planners h)) (take-take index count history (omega arith)) ∙ least index job at
 
 pub right_prefix : (task : CostedTask) (history : History) (count : ℕ) → HasRightFindings task history → HasRightFindings task (take count history)
-right_prefix task history count right place event answer e = right place event answer (slice_get_front count history place (event, answer) e).1
+right_prefix task history count right index event answer e = right index event answer (slice_get_front count history index (event, answer) e).1
 
 -- a planner that was closed is one that there is
 closed_by : (has was : Bool) → reply.ClosedNow ≡ refused_or (first_that_applies ((not has, refusal.NoPlanner) ∷ (was, refusal.AlreadyClosed) ∷ [])) reply.ClosedNow → has ≡ true
 closed_by true was e = refl
 closed_by false was e = cc
 
-closing_planner : (planners places : ℕ) (history : History) (planner : ℕ) (event : Event) (answer : Reply) → Allows places (left_by planners history) event answer
+closing_planner : (planners slots : ℕ) (history : History) (planner : ℕ) (event : Event) (answer : Reply) → Allows slots (left_by planners history) event answer
     → closes planner (event, answer) ≡ true → planner < planners
-closing_planner planners places history planner (close other) reply.ClosedNow allowed e =
+closing_planner planners slots history planner (close other) reply.ClosedNow allowed e =
     let has = closed_by (has_planner (left_by planners history) other) (is_closed_in (left_by planners history) other) allowed in
     let known = known_planner planners history other has in
     let same = eqb-true other planner e in
     omega arith
-closing_planner planners places history planner event answer allowed e = cc
+closing_planner planners slots history planner event answer allowed e = cc
 
 none_closed : (planner : ℕ) → is_closed planner [] ≡ false
 unfolding is_closed
 none_closed planner = refl
 
-pub closed_known : (planners places : ℕ) (history : History) → IsLawful planners places history → (planner : ℕ) → is_closed planner history ≡ true → planner < planners
-closed_known planners places = by_pushes (λ h. IsLawful planners places h → (planner : ℕ) → is_closed planner h ≡ true → planner < planners) (λ lawful planner e. let open_is = none_closed planner in cc) more
+pub closed_known : (planners slots : ℕ) (history : History) → IsLawful planners slots history → (planner : ℕ) → is_closed planner history ≡ true → planner < planners
+closed_known planners slots = by_pushes (λ h. IsLawful planners slots h → (planner : ℕ) → is_closed planner h ≡ true → planner < planners) (λ lawful planner e. let open_is = none_closed planner in cc) more
   where
-    more : (h : History) (pair : Event × Reply) → (IsLawful planners places h → (planner : ℕ) → is_closed planner h ≡ true → planner < planners)
-        → IsLawful planners places (h ++ pair ∷ []) → (planner : ℕ) → is_closed planner (h ++ pair ∷ []) ≡ true → planner < planners
+    more : (h : History) (pair : Event × Reply) → (IsLawful planners slots h → (planner : ℕ) → is_closed planner h ≡ true → planner < planners)
+        → IsLawful planners slots (h ++ pair ∷ []) → (planner : ℕ) → is_closed planner (h ++ pair ∷ []) ≡ true → planner < planners
     more h pair before lawful planner e =
-        let (front, allowed) = lawful_front planners places h pair.0 pair.1 lawful in
+        let (front, allowed) = lawful_front planners slots h pair.0 pair.1 lawful in
         elim (or_cases (is_closed planner h) (closes planner pair) (sym (closed_last h pair planner) ∙ e)) [
           | inl was ↦ before front planner was
-          | inr now ↦ closing_planner planners places h planner pair.0 pair.1 allowed now
+          | inr now ↦ closing_planner planners slots h planner pair.0 pair.1 allowed now
         ]

@@ -1,4 +1,4 @@
--- Jobs are numbered by their places, and those of a planner stand in order.
+-- Jobs are numbered by their indexes, and those of a planner are in order.
 
 use Rattle.std.proofs.Common.{◌≡◌, ℕ, ◌+◌, ◌<◌, zero, suc, Bool, true, false, List, [], ◌∷◌, ◌++◌, Some, length, slice_get, nat_eq, refl, ap, sym, ◌∙◌, arith, inl, inr, cond}
 use Rattle.std.proofs.lemmas.Bool.{eqb-true, cases_Bool, cases_order}
@@ -85,10 +85,10 @@ numbers_grow n (plan ∷ plans) planner job other k l e f h =
     by grow true (suc k) (suc l) e f h = grow k l e f (omega arith)
     by grow false k l e f h = grow k l e f h
 
--- two places of a planner's jobs with one number are one place
-pub one_place : (n : ℕ) (plans : List (ℕ × Plan)) (planner k l : ℕ) (job other : AcceptedPlan) → slice_get (jobs_of planner (numbered_from n plans)) k ≡ Some job
+-- two of a planner's jobs with one number have one index
+pub one_index : (n : ℕ) (plans : List (ℕ × Plan)) (planner k l : ℕ) (job other : AcceptedPlan) → slice_get (jobs_of planner (numbered_from n plans)) k ≡ Some job
     → slice_get (jobs_of planner (numbered_from n plans)) l ≡ Some other → job.number ≡ other.number → k ≡ l
-one_place n plans planner k l job other e f same = elim (cases_order k l) [
+one_index n plans planner k l job other e f same = elim (cases_order k l) [
   | inl equal ↦ equal
   | inr apart ↦ elim apart [
     | inl less ↦ absurd (let grow = numbers_grow n plans planner job other k l e f less in omega arith)
@@ -96,7 +96,7 @@ one_place n plans planner k l job other e f same = elim (cases_order k l) [
   ]
 ]
 
--- a job more keeps those that a planner has at their places
+-- one more job leaves those of a planner at their indexes
 pub jobs_of_push : (planner : ℕ) (jobs : List AcceptedPlan) (job other : AcceptedPlan) (k : ℕ) → slice_get (jobs_of planner jobs) k ≡ Some other
     → slice_get (jobs_of planner (jobs ++ job ∷ [])) k ≡ Some other
 unfolding jobs_of

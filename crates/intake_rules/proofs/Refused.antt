@@ -39,8 +39,8 @@ refusal_tells (finish job (Some finding)) why = refl
 refusal_tells event why = refl
 
 pub refusals_change_nothing : (history : History) → RefusalsChangeNothing history
-refusals_change_nothing history place event why e =
-    subst (λ (h : History). LeaveTheSame (take place history) h) (sym (take_next history place (event, reply.Refused why) e)) (quiet_same (take place history) (event, reply.Refused why) (quiet event (reply.Refused why) (refusal_tells event why)))
+refusals_change_nothing history index event why e =
+    subst (λ (h : History). LeaveTheSame (take index history) h) (sym (take_next history index (event, reply.Refused why) e)) (quiet_same (take index history) (event, reply.Refused why) (quiet event (reply.Refused why) (refusal_tells event why)))
 
 -- the rows of a submit and of a finish
 submit_closed : (has closed full : Bool) (done : Reply) → has ≡ true → closed ≡ true
@@ -93,60 +93,60 @@ unfinished_out : (found : Option Finding) (more : Bool) → (not (is_some found)
 unfinished_out None more e = refl
 unfinished_out (Some finding) more e = cc
 
-module _ (planners places : ℕ) (history : History) (lawful : IsLawful planners places history) where
-  before_consistent : (place : ℕ) → IsConsistent (take place history)
-  before_consistent place = consistent_lawful planners places (take place history) (lawful_prefix planners places history place lawful)
+module _ (planners slots : ℕ) (history : History) (lawful : IsLawful planners slots history) where
+  before_consistent : (index : ℕ) → IsConsistent (take index history)
+  before_consistent index = consistent_lawful planners slots (take index history) (lawful_prefix planners slots history index lawful)
 
   pub refused_after_close : RefusedAfterClose history
-  refused_after_close place planner plan answer e closed =
-      let known = closed_known planners places (take place history) (lawful_prefix planners places history place lawful) planner closed in
-      let has = planner_left planners (take place history) planner known in
-      let is = closed_left planners (take place history) planner known ∙ closed in
-      lawful place (submit planner plan) answer e ∙ submit_closed _ _ _ _ has is
+  refused_after_close index planner plan answer e closed =
+      let known = closed_known planners slots (take index history) (lawful_prefix planners slots history index lawful) planner closed in
+      let has = planner_left planners (take index history) planner known in
+      let is = closed_left planners (take index history) planner known ∙ closed in
+      lawful index (submit planner plan) answer e ∙ submit_closed _ _ _ _ has is
 
   -- a job that is not emitted, with what was found of it
-  not_emitted : (place job : ℕ) → finding_of job (take place history) ≡ None → is_emitted job (take place history) ≡ false
-  not_emitted place job none = false_from_ne_true (is_emitted job (take place history)) λ given.
-      let (finding, found) = emitted_found (take place history) job (before_consistent place) given in
+  not_emitted : (index job : ℕ) → finding_of job (take index history) ≡ None → is_emitted job (take index history) ≡ false
+  not_emitted index job none = false_from_ne_true (is_emitted job (take index history)) λ given.
+      let (finding, found) = emitted_found (take index history) job (before_consistent index) given in
       cc
 
   -- a job with a finding is an accepted one
-  finished_within : (place job : ℕ) → is_finished job (take place history) ≡ true → job < length (jobs (take place history))
-  finished_within place job e = by (finding_of job (take place history)) refl e
+  finished_within : (index job : ℕ) → is_finished job (take index history) ≡ true → job < length (jobs (take index history))
+  finished_within index job e = by (finding_of job (take index history)) refl e
     where
-      by : (found : Option Finding) → finding_of job (take place history) ≡ found → is_some found ≡ true → job < length (jobs (take place history))
+      by : (found : Option Finding) → finding_of job (take index history) ≡ found → is_some found ≡ true → job < length (jobs (take index history))
       by None f g = cc
-      by (Some finding) f g = slice_get_within (jobs (take place history)) job finding.job ((before_consistent place).found job finding f)
+      by (Some finding) f g = slice_get_within (jobs (take index history)) job finding.job ((before_consistent index).found job finding f)
 
   -- a job that is out is an accepted one
-  out_within : (place job : ℕ) → is_out job (take place history) ≡ true → job < length (jobs (take place history))
-  out_within place job e = elim ((before_consistent place).out job) [
-    | inl same ↦ (let not_so = not_out_from (take place history) job same in cc)
+  out_within : (index job : ℕ) → is_out job (take index history) ≡ true → job < length (jobs (take index history))
+  out_within index job e = elim ((before_consistent index).out job) [
+    | inl same ↦ (let not_so = not_out_from (take index history) job same in cc)
     | inr more ↦ more.1
   ]
 
   pub refused_doubled : RefusedDoubled history
-  refused_doubled place job finding answer e finished =
-      let within = finished_within place job finished in
-      let known = job_left planners (take place history) job within in
-      let is = ap is_finished_stage (stage_left planners (take place history) job within) ∙ finished_stage (take place history) job finished in
-      lawful place (finish job (Some finding)) answer e ∙ finish_doubled _ _ _ _ known is
+  refused_doubled index job finding answer e finished =
+      let within = finished_within index job finished in
+      let known = job_left planners (take index history) job within in
+      let is = ap is_finished_stage (stage_left planners (take index history) job within) ∙ finished_stage (take index history) job finished in
+      lawful index (finish job (Some finding)) answer e ∙ finish_doubled _ _ _ _ known is
 
   pub refused_strange : RefusedStrange history
-  refused_strange place job None answer e = lawful place (finish job None) answer e
-  refused_strange place job (Some finding) answer e = record {
-    unknown_job = λ past. lawful place (finish job (Some finding)) answer e ∙ finish_unknown _ _ _ _ (no_job_left planners (take place history) job past);
+  refused_strange index job None answer e = lawful index (finish job None) answer e
+  refused_strange index job (Some finding) answer e = record {
+    unknown_job = λ past. lawful index (finish job (Some finding)) answer e ∙ finish_unknown _ _ _ _ (no_job_left planners (take index history) job past);
     not_out = λ within unfinished inside.
-        let none = none_found (finding_of job (take place history)) unfinished in
-        let at = stage_left planners (take place history) job within ∙ stage_from (take place history) job false None false (not_emitted place job none) none inside in
-        lawful place (finish job (Some finding)) answer e
-        ∙ finish_not_out _ _ _ _ (job_left planners (take place history) job within) (ap is_finished_stage at) (ap is_out_stage at);
+        let none = none_found (finding_of job (take index history)) unfinished in
+        let at = stage_left planners (take index history) job within ∙ stage_from (take index history) job false None false (not_emitted index job none) none inside in
+        lawful index (finish job (Some finding)) answer e
+        ∙ finish_not_out _ _ _ _ (job_left planners (take index history) job within) (ap is_finished_stage at) (ap is_out_stage at);
     other_plan = λ out apart.
-        let none = unfinished_out (finding_of job (take place history)) _ (sym (is_out_by (take place history) job) ∙ out) in
-        let within = out_within place job out in
-        let at = stage_left planners (take place history) job within ∙ stage_from (take place history) job false None true (not_emitted place job none) none out in
-        lawful place (finish job (Some finding)) answer e
-        ∙ finish_other _ _ _ _ (job_left planners (take place history) job within) (ap is_finished_stage at) (ap is_out_stage at)
-        (false_from_ne_true (is_of_job (left_by planners (take place history)) job finding) λ same.
-        apart (ap (λ xs. slice_get xs job) (sym (jobs_left planners (take place history))) ∙ same_job_from_test (slice_get (left_by planners (take place history)).jobs job) finding.job same));
+        let none = unfinished_out (finding_of job (take index history)) _ (sym (is_out_by (take index history) job) ∙ out) in
+        let within = out_within index job out in
+        let at = stage_left planners (take index history) job within ∙ stage_from (take index history) job false None true (not_emitted index job none) none out in
+        lawful index (finish job (Some finding)) answer e
+        ∙ finish_other _ _ _ _ (job_left planners (take index history) job within) (ap is_finished_stage at) (ap is_out_stage at)
+        (false_from_ne_true (is_of_job (left_by planners (take index history)) job finding) λ same.
+        apart (ap (λ xs. slice_get xs job) (sym (jobs_left planners (take index history))) ∙ same_job_from_test (slice_get (left_by planners (take index history)).jobs job) finding.job same));
   }

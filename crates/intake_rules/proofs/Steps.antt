@@ -28,23 +28,23 @@ or_false : (b : Bool) → b ≡ false → (b || false) ≡ false
 or_false true e = e
 or_false false e = refl
 
--- the later history has the jobs of the earlier at their places, and perhaps more
+-- the later history has the jobs of the earlier at their indexes, and perhaps more
 record Grows (before later : History) : Type 0 where
-  pub kept : (place : ℕ) (job : AcceptedPlan) → slice_get (jobs before) place ≡ Some job → slice_get (jobs later) place ≡ Some job
-  pub kept_of : (planner place : ℕ) (job : AcceptedPlan) → slice_get (jobs_of planner (jobs before)) place ≡ Some job → slice_get (jobs_of planner (jobs later)) place ≡ Some job
+  pub kept : (index : ℕ) (job : AcceptedPlan) → slice_get (jobs before) index ≡ Some job → slice_get (jobs later) index ≡ Some job
+  pub kept_of : (planner index : ℕ) (job : AcceptedPlan) → slice_get (jobs_of planner (jobs before)) index ≡ Some job → slice_get (jobs_of planner (jobs later)) index ≡ Some job
   pub count : length (jobs before) ≤ length (jobs later)
 
 grows_same : (before later : History) → jobs later ≡ jobs before → Grows before later
 grows_same before later e = record {
-  kept = λ place job f. ap (λ xs. slice_get xs place) e ∙ f;
-  kept_of = λ planner place job f. ap (λ xs. slice_get (jobs_of planner xs) place) e ∙ f;
+  kept = λ index job f. ap (λ xs. slice_get xs index) e ∙ f;
+  kept_of = λ planner index job f. ap (λ xs. slice_get (jobs_of planner xs) index) e ∙ f;
   count = (let long = ap length e in omega arith);
 }
 
 grows_more : (before later : History) (new : AcceptedPlan) → jobs later ≡ jobs before ++ new ∷ [] → Grows before later
 grows_more before later new e = record {
-  kept = λ place job f. ap (λ xs. slice_get xs place) e ∙ slice_get_kept (jobs before) new job place f;
-  kept_of = λ planner place job f. ap (λ xs. slice_get (jobs_of planner xs) place) e ∙ jobs_of_push planner (jobs before) new job place f;
+  kept = λ index job f. ap (λ xs. slice_get xs index) e ∙ slice_get_kept (jobs before) new job index f;
+  kept_of = λ planner index job f. ap (λ xs. slice_get (jobs_of planner xs) index) e ∙ jobs_of_push planner (jobs before) new job index f;
   count = (let long = ap length e in let push = length_push (jobs before) new in omega arith);
 }
 
@@ -62,9 +62,9 @@ consistent_from : (before later : History) → IsConsistent before → Grows bef
     → ((job : ℕ) → OutAt later job)
     → ((job : ℕ) (finding : Finding) → finding_of job before ≡ Some finding → finding_of job later ≡ Some finding)
     → ((job : ℕ) (finding : Finding) → finding_of job later ≡ Some finding → (finding_of job before ≡ Some finding) ⊎ (slice_get (jobs later) job ≡ Some finding.job))
-    → ((planner place : ℕ) (finding : Finding) → slice_get (emitted planner later) place ≡ Some finding
-    → (slice_get (emitted planner before) place ≡ Some finding)
-    ⊎ ((slice_get (jobs_of planner (jobs later)) place ≡ Some finding.job) × (finding_of finding.job.number before ≡ Some finding)))
+    → ((planner index : ℕ) (finding : Finding) → slice_get (emitted planner later) index ≡ Some finding
+    → (slice_get (emitted planner before) index ≡ Some finding)
+    ⊎ ((slice_get (jobs_of planner (jobs later)) index ≡ Some finding.job) × (finding_of finding.job.number before ≡ Some finding)))
     → IsConsistent later
 consistent_from before later consistent grows out kept found given = record {
   out = out;
@@ -72,12 +72,12 @@ consistent_from before later consistent grows out kept found given = record {
     | inl was ↦ grows.kept job finding.job (consistent.found job finding was)
     | inr new ↦ new
   ];
-  first = λ planner place finding e. elim (given planner place finding e) [
-    | inl was ↦ grows.kept_of planner place finding.job (consistent.first planner place finding was)
+  first = λ planner index finding e. elim (given planner index finding e) [
+    | inl was ↦ grows.kept_of planner index finding.job (consistent.first planner index finding was)
     | inr new ↦ new.0
   ];
-  known = λ planner place finding e. elim (given planner place finding e) [
-    | inl was ↦ kept finding.job.number finding (consistent.known planner place finding was)
+  known = λ planner index finding e. elim (given planner index finding e) [
+    | inl was ↦ kept finding.job.number finding (consistent.known planner index finding was)
     | inr new ↦ kept finding.job.number finding new.1
   ];
 }
@@ -116,9 +116,9 @@ module _ (planners : ℕ) (history : History) (pair : Event × Reply) where
       table_same (λ planner. length (emitted planner history)) (λ planner. length (emitted planner (history ++ pair ∷ []))) planners
       λ planner h. ap length (emitted_same history pair planner (none planner))
 
-  given_same : ((planner : ℕ) → emitted_by planner pair ≡ None) → (planner place : ℕ) (finding : Finding) → slice_get (emitted planner (history ++ pair ∷ [])) place ≡ Some finding
-      → slice_get (emitted planner history) place ≡ Some finding
-  given_same none planner place finding e = ap (λ xs. slice_get xs place) (sym (emitted_same history pair planner (none planner))) ∙ e
+  given_same : ((planner : ℕ) → emitted_by planner pair ≡ None) → (planner index : ℕ) (finding : Finding) → slice_get (emitted planner (history ++ pair ∷ [])) index ≡ Some finding
+      → slice_get (emitted planner history) index ≡ Some finding
+  given_same none planner index finding e = ap (λ xs. slice_get xs index) (sym (emitted_same history pair planner (none planner))) ∙ e
 
 -- a pair that changes nothing
 pub quiet_goes : (planners : ℕ) (history : History) (pair : Event × Reply) → IsConsistent history → IsQuiet pair
@@ -129,7 +129,7 @@ quiet_goes planners history pair consistent silent = (
       (λ job. out_kept history (history ++ pair ∷ []) job (consistent.out job) grows (quiet_at history pair silent job))
       (λ job finding e. finding_same history pair job (silent.finishing job) ∙ e)
       (λ job finding e. inl (sym (finding_same history pair job (silent.finishing job)) ∙ e))
-      (λ planner place finding e. inl (given_same planners history pair silent.emitting planner place finding e)),
+      (λ planner index finding e. inl (given_same planners history pair silent.emitting planner index finding e)),
   left_as planners (history ++ pair ∷ []) (jobs history) _ _ _ (jobs_same history pair silent.accepting)
       (stages_same planners history pair (length (jobs history)) (quiet_at history pair silent))
       (all_closed_same planners history pair silent.closing) (all_emitted_same planners history pair silent.emitting),
@@ -139,8 +139,8 @@ quiet_goes planners history pair consistent silent = (
     grows = grows_same history (history ++ pair ∷ []) (jobs_same history pair silent.accepting)
 
 -- what holds of one number and of each other holds of all
-by_place : (P : ℕ → Type 0) (one : ℕ) → P one → ((other : ℕ) → (other ≡ one → ⊥) → P other) → (n : ℕ) → P n
-by_place P one here others n = elim (cases_eq n one) [
+by_number : (P : ℕ → Type 0) (one : ℕ) → P one → ((other : ℕ) → (other ≡ one → ⊥) → P other) → (n : ℕ) → P n
+by_number P one here others n = elim (cases_eq n one) [
   | inl same ↦ subst P (sym same) here
   | inr apart ↦ others n apart
 ]
@@ -158,11 +158,11 @@ way_goes : (planners : ℕ) (history : History) (pair : Event × Reply) → IsCo
 unfolding left_by
 way_goes planners history pair consistent accepting closing emitting job now others stage out kept found = (
   consistent_from history later consistent grows
-      (by_place (OutAt later) job here λ other apart. out_kept history later other (consistent.out other) grows (others other apart))
-      (by_place (λ k. (finding : Finding) → finding_of k history ≡ Some finding → finding_of k later ≡ Some finding) job kept λ other apart finding e. (others other apart).found ∙ e)
-      (by_place (λ k. (finding : Finding) → finding_of k later ≡ Some finding → (finding_of k history ≡ Some finding) ⊎ (slice_get (jobs later) k ≡ Some finding.job)) job new
+      (by_number (OutAt later) job here λ other apart. out_kept history later other (consistent.out other) grows (others other apart))
+      (by_number (λ k. (finding : Finding) → finding_of k history ≡ Some finding → finding_of k later ≡ Some finding) job kept λ other apart finding e. (others other apart).found ∙ e)
+      (by_number (λ k. (finding : Finding) → finding_of k later ≡ Some finding → (finding_of k history ≡ Some finding) ⊎ (slice_get (jobs later) k ≡ Some finding.job)) job new
       λ other apart finding e. inl (sym (others other apart).found ∙ e))
-      (λ planner place finding e. inl (given_same planners history pair emitting planner place finding e)),
+      (λ planner index finding e. inl (given_same planners history pair emitting planner index finding e)),
   left_as planners later (jobs history) _ _ _ (jobs_same history pair accepting) (stages_set planners history pair (length (jobs history)) job now stage others)
       (all_closed_same planners history pair closing) (all_emitted_same planners history pair emitting),
 )
@@ -195,7 +195,7 @@ module _ (planners : ℕ) (history : History) (consistent : IsConsistent history
         (λ job. out_kept history later job (consistent.out job) grows (same job))
         (λ job finding e. finding_same history pair job refl ∙ e)
         (λ job finding e. inl (sym (finding_same history pair job refl) ∙ e))
-        (λ owner place finding e. inl (given_same planners history pair (λ other. refl) owner place finding e)),
+        (λ owner index finding e. inl (given_same planners history pair (λ other. refl) owner index finding e)),
     left_as planners later (jobs history ++ new ∷ []) _ _ _ (jobs_more history pair planner plan refl) stages
         (all_closed_same planners history pair λ other. refl) (all_emitted_same planners history pair λ other. refl),
   )
@@ -230,7 +230,7 @@ module _ (planners : ℕ) (history : History) (consistent : IsConsistent history
         (λ job. out_kept history later job (consistent.out job) grows (same job))
         (λ job finding e. finding_same history pair job refl ∙ e)
         (λ job finding e. inl (sym (finding_same history pair job refl) ∙ e))
-        (λ owner place finding e. inl (given_same planners history pair (λ other. refl) owner place finding e)),
+        (λ owner index finding e. inl (given_same planners history pair (λ other. refl) owner index finding e)),
     left_as planners later (jobs history) _ _ _ (jobs_same history pair refl) (stages_same planners history pair (length (jobs history)) same)
         closed (all_emitted_same planners history pair λ other. refl),
   )
@@ -380,10 +380,10 @@ module _ (planners : ℕ) (history : History) (consistent : IsConsistent history
       others_none : (other : ℕ) → (other ≡ planner → ⊥) → emitted_by other (emit planner, reply.Emitted finding) ≡ None
       others_none other apart = ap (λ b. if b then Some finding else None) (ne_eqb planner other λ e. apart (sym e))
 
-      last : (place : ℕ) (one : Finding) → slice_get (emitted planner history ++ finding ∷ []) place ≡ Some one
-          → (slice_get (emitted planner history) place ≡ Some one)
-          ⊎ ((slice_get (jobs_of planner (jobs later)) place ≡ Some one.job) × (finding_of one.job.number history ≡ Some one))
-      last place one e = elim (slice_get_cases (emitted planner history) finding one place e) [
+      last : (index : ℕ) (one : Finding) → slice_get (emitted planner history ++ finding ∷ []) index ≡ Some one
+          → (slice_get (emitted planner history) index ≡ Some one)
+          ⊎ ((slice_get (jobs_of planner (jobs later)) index ≡ Some one.job) × (finding_of one.job.number history ≡ Some one))
+      last index one e = elim (slice_get_cases (emitted planner history) finding one index e) [
         | inl was ↦ inl was.1
         | inr now ↦ inr (
           ap (λ k. slice_get (jobs_of planner (jobs later)) k) now.0
@@ -397,16 +397,16 @@ module _ (planners : ℕ) (history : History) (consistent : IsConsistent history
         )
       ]
 
-      given : (owner place : ℕ) (one : Finding) → slice_get (emitted owner later) place ≡ Some one
-          → (slice_get (emitted owner history) place ≡ Some one)
-          ⊎ ((slice_get (jobs_of owner (jobs later)) place ≡ Some one.job) × (finding_of one.job.number history ≡ Some one))
-      given owner place one e = elim (cases_eq owner planner) [
+      given : (owner index : ℕ) (one : Finding) → slice_get (emitted owner later) index ≡ Some one
+          → (slice_get (emitted owner history) index ≡ Some one)
+          ⊎ ((slice_get (jobs_of owner (jobs later)) index ≡ Some one.job) × (finding_of one.job.number history ≡ Some one))
+      given owner index one e = elim (cases_eq owner planner) [
         | inl same ↦
-            subst (λ (p : ℕ). (slice_get (emitted p history) place ≡ Some one)
-            ⊎ ((slice_get (jobs_of p (jobs later)) place ≡ Some one.job) × (finding_of one.job.number history ≡ Some one)))
+            subst (λ (p : ℕ). (slice_get (emitted p history) index ≡ Some one)
+            ⊎ ((slice_get (jobs_of p (jobs later)) index ≡ Some one.job) × (finding_of one.job.number history ≡ Some one)))
             (sym same)
-            (last place one (ap (λ xs. slice_get xs place) (sym (emitted_more history pair planner finding mine)) ∙ ap (λ p. slice_get (emitted p later) place) (sym same) ∙ e))
-        | inr apart ↦ inl (ap (λ xs. slice_get xs place) (sym (emitted_same history pair owner (others_none owner apart))) ∙ e)
+            (last index one (ap (λ xs. slice_get xs index) (sym (emitted_more history pair planner finding mine)) ∙ ap (λ p. slice_get (emitted p later) index) (sym same) ∙ e))
+        | inr apart ↦ inl (ap (λ xs. slice_get xs index) (sym (emitted_same history pair owner (others_none owner apart))) ∙ e)
       ]
 
       counts : map (λ other. length (emitted other later)) (below planners)

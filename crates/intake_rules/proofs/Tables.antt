@@ -1,4 +1,4 @@
--- Lists that have at each place a function's value at the place's number.
+-- Lists that have at each index the value of a function at the index.
 
 use Rattle.std.proofs.Common.{◌≡◌, ℕ, ◌<◌, zero, suc, [], ◌∷◌, ◌++◌, Some, length, map, slice_get, get_or, set, replicate, refl, ap, sym, ◌∙◌, arith, inl, inr}
 use Rattle.std.proofs.lemmas.Bool.{cases_lt, cases_eq}
@@ -45,7 +45,7 @@ table_same f g n agree =
     λ k d h. let within : k < n = (let long = length-table g n in omega arith) in
     get_or-table g n k d within ∙ agree k within ∙ sym (get_or-table f n k d within)
 
--- a function that differs from another at one place alone has the other's list with that place written
+-- a function that differs from another at one index alone has the other's list with that index written
 pub table_set : {A : Type 0} (f g : ℕ → A) (n i : ℕ) (v : A) → g i ≡ v → ((k : ℕ) → (k ≡ i → ⊥) → g k ≡ f k) → map g (below n) ≡ set (map f (below n)) i v
 table_set {A} f g n i v here others =
     same_lists (map g (below n)) (set (map f (below n)) i v)

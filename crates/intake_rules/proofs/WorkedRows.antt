@@ -12,14 +12,14 @@ use Rattle.intake_rules.specs.History.{History}
 use Rattle.intake_rules.specs.Intake.{Intake, empty_intake, jobs_of}
 use Rattle.intake_rules.specs.Rules.{Event, submit, close, take_job, hand_back, finish, emit, reply_to, after}
 
--- events with the replies of an intake of so many places that always gives out the least job
+-- events with the replies of an intake of this many slots that always gives out the least job
 abbrev answered : ℕ → Intake → List Event → History
-answered places intake [] = []
-answered places intake (event ∷ events) = (event, reply_to places intake event) ∷ answered places (after intake event (reply_to places intake event)) events
+answered slots intake [] = []
+answered slots intake (event ∷ events) = (event, reply_to slots intake event) ∷ answered slots (after intake event (reply_to slots intake event)) events
 
 -- an intake for one planner answers the history's events as the history has it
 abbrev IsAnswered : ℕ → History → Type 0
-IsAnswered places history = answered places (empty_intake 1) (map (λ pair. pair.0) history) ≡ history
+IsAnswered slots history = answered slots (empty_intake 1) (map (λ pair. pair.0) history) ≡ history
 
 -- two plans, and findings of them as jobs of planner 0
 abbrev plan : Plan

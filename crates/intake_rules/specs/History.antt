@@ -116,13 +116,13 @@ left_by planners history = record {
 
 -- each reply is one that the rules allow after the pairs before it
 abbrev pub IsLawful : ℕ → ℕ → History → Type 0
-IsLawful planners places history = (place : ℕ) (event : Event) (answer : Reply)
-    → slice_get history place ≡ Some (event, answer) → Allows places (left_by planners (take place history)) event answer
+IsLawful planners slots history = (index : ℕ) (event : Event) (answer : Reply)
+    → slice_get history index ≡ Some (event, answer) → Allows slots (left_by planners (take index history)) event answer
 
 -- each take gives out the least job that waits
 abbrev pub TakesLeast : ℕ → History → Type 0
-TakesLeast planners history = (place job : ℕ)
-    → slice_get history place ≡ Some (take_job, reply.Taken job) → least_waiting (left_by planners (take place history)) ≡ Some job
+TakesLeast planners history = (index job : ℕ)
+    → slice_get history index ≡ Some (take_job, reply.Taken job) → least_waiting (left_by planners (take index history)) ≡ Some job
 
 -- if the event is a finish with a finding, the finding is right for the task
 abbrev pub IsRightFinish : CostedTask → Event → Type 0
@@ -131,5 +131,5 @@ IsRightFinish task _ = ⊤
 
 -- each finding that was handed in is right
 abbrev pub HasRightFindings : CostedTask → History → Type 0
-HasRightFindings task history = (place : ℕ) (event : Event) (answer : Reply)
-    → slice_get history place ≡ Some (event, answer) → IsRightFinish task event
+HasRightFindings task history = (index : ℕ) (event : Event) (answer : Reply)
+    → slice_get history index ≡ Some (event, answer) → IsRightFinish task event

@@ -20,30 +20,30 @@ ComparesJobs job other = (job_eq job other ≡ true) ↔ (job ≡ other)
 
 -- if nothing was asked, the history is lawful, and the intake has no job, no closed planner and nothing emitted
 abbrev pub EmptyHistory : ℕ → ℕ → Type 0
-EmptyHistory planners places = IsLawful planners places [] × TakesLeast planners [] × (left_by planners [] ≡ empty_intake planners)
+EmptyHistory planners slots = IsLawful planners slots [] × TakesLeast planners [] × (left_by planners [] ≡ empty_intake planners)
 
 -- one more pair: an answer that the rules allow after a lawful history keeps it lawful, and the history then leaves what the rules say that the
 -- intake knows afterwards
 abbrev pub OneMore : ℕ → ℕ → History → Event → Reply → Type 0
-OneMore planners places history event answer = IsLawful planners places history → Allows places (left_by planners history) event answer
-    → IsLawful planners places (history ++ (event, answer) ∷ []) × (left_by planners (history ++ (event, answer) ∷ []) ≡ after (left_by planners history) event answer)
+OneMore planners slots history event answer = IsLawful planners slots history → Allows slots (left_by planners history) event answer
+    → IsLawful planners slots (history ++ (event, answer) ∷ []) × (left_by planners (history ++ (event, answer) ∷ []) ≡ after (left_by planners history) event answer)
 
 -- the rules always allow the answer that gives out the least waiting job, and a history that always gave out the least one still does with it
 abbrev pub LeastGoesOn : ℕ → ℕ → History → Event → Type 0
-LeastGoesOn planners places history event = Allows places (left_by planners history) event (reply_to places (left_by planners history) event)
-    × (TakesLeast planners history → TakesLeast planners (history ++ (event, reply_to places (left_by planners history) event) ∷ []))
+LeastGoesOn planners slots history event = Allows slots (left_by planners history) event (reply_to slots (left_by planners history) event)
+    × (TakesLeast planners history → TakesLeast planners (history ++ (event, reply_to slots (left_by planners history) event) ∷ []))
 
 -- a lawful history of these events that gives out the least jobs
 abbrev pub IsOf : ℕ → ℕ → List Event → History → Type 0
-IsOf planners places events history = IsLawful planners places history × TakesLeast planners history × (map (λ pair. pair.0) history ≡ events)
+IsOf planners slots events history = IsLawful planners slots history × TakesLeast planners history × (map (λ pair. pair.0) history ≡ events)
 
 -- for a list of events there is exactly one history that is lawful and gives out the least jobs
 abbrev pub OneHistory : ℕ → ℕ → List Event → Type 0
-OneHistory planners places events = (history : History) × IsOf planners places events history × ((other : History) → IsOf planners places events other → other ≡ history)
+OneHistory planners slots events = (history : History) × IsOf planners slots events history × ((other : History) → IsOf planners slots events other → other ≡ history)
 
 -- the first pairs of a history are lawful if the whole history is, give out the least jobs if it does, and have right findings if it has
 abbrev pub PrefixesAreLawful : ℕ → ℕ → CostedTask → History → Type 0
-PrefixesAreLawful planners places task history = (count : ℕ) → (IsLawful planners places history → IsLawful planners places (take count history))
+PrefixesAreLawful planners slots task history = (count : ℕ) → (IsLawful planners slots history → IsLawful planners slots (take count history))
     × (TakesLeast planners history → TakesLeast planners (take count history))
     × (HasRightFindings task history → HasRightFindings task (take count history))
 
@@ -63,18 +63,18 @@ pub record LeaveTheSame (before later : History) : Type 0 where
 
 -- after an event that was refused, a history leaves what it left before
 abbrev pub RefusalsChangeNothing : History → Type 0
-RefusalsChangeNothing history = (place : ℕ) (event : Event) (why : Refusal) → slice_get history place ≡ Some (event, reply.Refused why)
-    → LeaveTheSame (take place history) (take (suc place) history)
+RefusalsChangeNothing history = (index : ℕ) (event : Event) (why : Refusal) → slice_get history index ≡ Some (event, reply.Refused why)
+    → LeaveTheSame (take index history) (take (suc index) history)
 
 -- a plan of a planner that was closed before is refused as `Closed`
 abbrev pub RefusedAfterClose : History → Type 0
-RefusedAfterClose history = (place planner : ℕ) (plan : Plan) (answer : Reply) → slice_get history place ≡ Some (submit planner plan, answer)
-    → is_closed planner (take place history) ≡ true → answer ≡ reply.Refused refusal.Closed
+RefusedAfterClose history = (index planner : ℕ) (plan : Plan) (answer : Reply) → slice_get history index ≡ Some (submit planner plan, answer)
+    → is_closed planner (take index history) ≡ true → answer ≡ reply.Refused refusal.Closed
 
 -- a finding for a job that was finished before is refused as `AlreadyFinished`
 abbrev pub RefusedDoubled : History → Type 0
-RefusedDoubled history = (place job : ℕ) (finding : Finding) (answer : Reply) → slice_get history place ≡ Some (finish job (Some finding), answer)
-    → is_finished job (take place history) ≡ true → answer ≡ reply.Refused refusal.AlreadyFinished
+RefusedDoubled history = (index job : ℕ) (finding : Finding) (answer : Reply) → slice_get history index ≡ Some (finish job (Some finding), answer)
+    → is_finished job (take index history) ≡ true → answer ≡ reply.Refused refusal.AlreadyFinished
 
 -- the answer to a strange finding for a job, by what is strange: there is no such job, it is neither out nor finished, or the finding is of another
 -- job
@@ -85,8 +85,8 @@ pub record AnswersStrange (before : History) (job : ℕ) (finding : Finding) (an
 
 -- a strange finding gets that answer, and a finish without a finding is refused as `UnknownJob`
 abbrev pub RefusedStrange : History → Type 0
-RefusedStrange history = (place job : ℕ) (found : Option Finding) (answer : Reply) → slice_get history place ≡ Some (finish job found, answer)
-    → MatchOption found (answer ≡ reply.Refused refusal.UnknownJob) (λ finding. AnswersStrange (take place history) job finding answer)
+RefusedStrange history = (index job : ℕ) (found : Option Finding) (answer : Reply) → slice_get history index ≡ Some (finish job found, answer)
+    → MatchOption found (answer ≡ reply.Refused refusal.UnknownJob) (λ finding. AnswersStrange (take index history) job finding answer)
 
 -- each accepted job of a planner is finished
 abbrev pub AllFinished : ℕ → History → Type 0
@@ -95,13 +95,13 @@ AllFinished planner history = All (λ job. is_finished job.number history ≡ tr
 -- if a planner is closed and all its jobs are finished, an emit for it gives a finding or is refused as `Complete`, the latter exactly if as many
 -- findings were emitted as plans were accepted
 abbrev pub WholeListOnceClosed : History → Type 0
-WholeListOnceClosed history = (place planner : ℕ) (answer : Reply) → slice_get history place ≡ Some (emit planner, answer)
-    → is_closed planner (take place history) ≡ true → AllFinished planner (take place history)
+WholeListOnceClosed history = (index planner : ℕ) (answer : Reply) → slice_get history index ≡ Some (emit planner, answer)
+    → is_closed planner (take index history) ≡ true → AllFinished planner (take index history)
     → (((finding : Finding) × (answer ≡ reply.Emitted finding)) ⊎ (answer ≡ reply.Refused refusal.Complete))
-    × ((answer ≡ reply.Refused refusal.Complete) ↔ (length (emitted planner (take place history)) ≡ length (accepted planner (take place history))))
+    × ((answer ≡ reply.Refused refusal.Complete) ↔ (length (emitted planner (take index history)) ≡ length (accepted planner (take index history))))
 
 -- when `Complete` is answered, the verdicts and the costs of all accepted plans of the planner were emitted, in order
 abbrev pub CompleteIsWhole : CostedTask → History → Type 0
-CompleteIsWhole task history = (place planner : ℕ) → slice_get history place ≡ Some (emit planner, reply.Refused refusal.Complete)
-    → (map (λ finding. finding.verdict) (emitted planner (take place history)) ≡ map (verdict_of task) (accepted planner (take place history)))
-    × (map (λ finding. finding.cost) (emitted planner (take place history)) ≡ map (counted_cost task) (accepted planner (take place history)))
+CompleteIsWhole task history = (index planner : ℕ) → slice_get history index ≡ Some (emit planner, reply.Refused refusal.Complete)
+    → (map (λ finding. finding.verdict) (emitted planner (take index history)) ≡ map (verdict_of task) (accepted planner (take index history)))
+    × (map (λ finding. finding.cost) (emitted planner (take index history)) ≡ map (counted_cost task) (accepted planner (take index history)))

@@ -26,12 +26,12 @@ abbrev pub first_that_applies : List (Bool × Refusal) → Option Refusal
 first_that_applies [] = None
 first_that_applies (row ∷ rows) = (if row.0 then Some row.1 else first_that_applies rows)
 
--- why a plan is not accepted, in an intake with `places` slots
+-- why a plan is not accepted, in an intake of this many slots
 abbrev pub submit_refusal : ℕ → Intake → ℕ → Option Refusal
-submit_refusal places intake planner = first_that_applies
+submit_refusal slots intake planner = first_that_applies
     ((not (has_planner intake planner), refusal.NoPlanner)
     ∷ (is_closed_in intake planner, refusal.Closed)
-    ∷ (nat_eq (length intake.jobs) places, refusal.Full)
+    ∷ (nat_eq (length intake.jobs) slots, refusal.Full)
     ∷ [])
 
 -- why a planner is not closed
@@ -96,21 +96,21 @@ abbrev pub taken : Option ℕ → Reply
 taken (Some job) = reply.Taken job
 taken None = reply.NoJob
 
--- the answer of an intake with `places` slots that always gives out the least waiting job
+-- the answer of an intake of this many slots that always gives out the least waiting job
 abbrev pub reply_to : ℕ → Intake → Event → Reply
-reply_to places intake (submit planner plan) = refused_or (submit_refusal places intake planner) (reply.Accepted (length intake.jobs))
-reply_to places intake (close planner) = refused_or (close_refusal intake planner) reply.ClosedNow
-reply_to places intake take_job = taken (least_waiting intake)
-reply_to places intake (hand_back job) = refused_or (hand_back_refusal intake job) reply.Returned
-reply_to places intake (finish job None) = reply.Refused refusal.UnknownJob
-reply_to places intake (finish job (Some finding)) = refused_or (finish_refusal intake job finding) reply.Finished
-reply_to places intake (emit planner) = emit_reply intake planner
+reply_to slots intake (submit planner plan) = refused_or (submit_refusal slots intake planner) (reply.Accepted (length intake.jobs))
+reply_to slots intake (close planner) = refused_or (close_refusal intake planner) reply.ClosedNow
+reply_to slots intake take_job = taken (least_waiting intake)
+reply_to slots intake (hand_back job) = refused_or (hand_back_refusal intake job) reply.Returned
+reply_to slots intake (finish job None) = reply.Refused refusal.UnknownJob
+reply_to slots intake (finish job (Some finding)) = refused_or (finish_refusal intake job finding) reply.Finished
+reply_to slots intake (emit planner) = emit_reply intake planner
 
 -- the answers that the rules allow: to a take, any job that waits, and `NoJob` only if none waits; to all else, the one answer of the tables
 abbrev pub Allows : ℕ → Intake → Event → Reply → Type 0
-Allows places intake take_job answer = ((answer ≡ reply.NoJob) × (least_waiting intake ≡ None))
+Allows slots intake take_job answer = ((answer ≡ reply.NoJob) × (least_waiting intake ≡ None))
     ⊎ ((job : ℕ) × (answer ≡ reply.Taken job) × (slice_get intake.stages job ≡ Some stage.Waiting))
-Allows places intake event answer = answer ≡ reply_to places intake event
+Allows slots intake event answer = answer ≡ reply_to slots intake event
 
 -- what an intake knows after an event and its reply; after a refusal, what it knew before
 abbrev pub after : Intake → Event → Reply → Intake

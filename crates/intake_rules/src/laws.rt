@@ -19,35 +19,35 @@ pub fn same_jobs_are_equal(_job: &Job, _other: &Job)
 
 /// If nothing was asked, the intake has no job, no planner is closed and nothing is emitted.
 pub fn empty_history()
-    ensures { (planners places : ℕ) → EmptyHistory planners places }
+    ensures { (planners slots : ℕ) → EmptyHistory planners slots }
 {}
 
 /// A lawful history stays lawful with one more event and reply that the rules allow, and then leaves the intake that the rules give.
 pub fn one_more()
-    ensures { (planners places : ℕ) (history : History) (event : Event) (answer : Reply) → OneMore planners places history event answer }
+    ensures { (planners slots : ℕ) (history : History) (event : Event) (answer : Reply) → OneMore planners slots history event answer }
 {}
 
 /// The rules allow the answer that gives out the least waiting job. With it, a history that always gave out the least one still does.
 pub fn least_goes_on()
-    ensures { (planners places : ℕ) (history : History) (event : Event) → LeastGoesOn planners places history event }
+    ensures { (planners slots : ℕ) (history : History) (event : Event) → LeastGoesOn planners slots history event }
 {}
 
 /// For each list of events there is exactly one lawful history that always gives out the least job.
 pub fn one_history_of_events()
-    ensures { (planners places : ℕ) (events : List Event) → OneHistory planners places events }
+    ensures { (planners slots : ℕ) (events : List Event) → OneHistory planners slots events }
 {}
 
 /// The first pairs of a lawful history are a lawful history. The same holds of histories that give out the least jobs, and of those with right
 /// findings.
 pub fn prefixes_are_lawful()
-    ensures { (planners places : ℕ) (task : CostedTask) (history : History) → PrefixesAreLawful planners places task history }
+    ensures { (planners slots : ℕ) (task : CostedTask) (history : History) → PrefixesAreLawful planners slots task history }
 {}
 
 /// The verdicts emitted for a planner are those of its first accepted plans, in the order of acceptance, each once, and each with the cost of its
 /// plan.
 pub fn verdicts_in_order()
-    ensures { (planners places : ℕ) (task : CostedTask) (history : History)
-        → IsLawful planners places history → HasRightFindings task history → VerdictsInOrder task history }
+    ensures { (planners slots : ℕ) (task : CostedTask) (history : History)
+        → IsLawful planners slots history → HasRightFindings task history → VerdictsInOrder task history }
 {}
 
 /// What is refused changes nothing.
@@ -57,26 +57,26 @@ pub fn refusals_change_nothing()
 
 /// No plan of a closed planner is accepted.
 pub fn plans_after_close_are_refused()
-    ensures { (planners places : ℕ) (history : History) → IsLawful planners places history → RefusedAfterClose history }
+    ensures { (planners slots : ℕ) (history : History) → IsLawful planners slots history → RefusedAfterClose history }
 {}
 
 /// No job is finished twice.
 pub fn doubled_findings_are_refused()
-    ensures { (planners places : ℕ) (history : History) → IsLawful planners places history → RefusedDoubled history }
+    ensures { (planners slots : ℕ) (history : History) → IsLawful planners slots history → RefusedDoubled history }
 {}
 
 /// No finding is stored for a job that was not given out, and no finding of another job.
 pub fn strange_findings_are_refused()
-    ensures { (planners places : ℕ) (history : History) → IsLawful planners places history → RefusedStrange history }
+    ensures { (planners slots : ℕ) (history : History) → IsLawful planners slots history → RefusedStrange history }
 {}
 
 /// Once a planner is closed and all its jobs are finished, each emit gives a finding until all are emitted, and then `Complete` is answered.
 pub fn whole_list_once_closed()
-    ensures { (planners places : ℕ) (history : History) → IsLawful planners places history → WholeListOnceClosed history }
+    ensures { (planners slots : ℕ) (history : History) → IsLawful planners slots history → WholeListOnceClosed history }
 {}
 
 /// When `Complete` is answered, the verdicts and costs emitted are those of all accepted plans of the planner.
 pub fn complete_is_whole()
-    ensures { (planners places : ℕ) (task : CostedTask) (history : History)
-        → IsLawful planners places history → HasRightFindings task history → CompleteIsWhole task history }
+    ensures { (planners slots : ℕ) (task : CostedTask) (history : History)
+        → IsLawful planners slots history → HasRightFindings task history → CompleteIsWhole task history }
 {}

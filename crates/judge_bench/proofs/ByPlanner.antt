@@ -44,17 +44,17 @@ module _ (findings : List Finding) (finding : Finding) where
       let apart : planner ≢ first = λ e. omega arith in
       (λ i. another_row first apart i ∷ later_rows (first + 1) planners (omega arith) i)
 
-  rows : (first planners place : ℕ) → first + place ≡ planner → place < planners
+  rows : (first planners index : ℕ) → first + index ≡ planner → index < planners
       → map (of_planner more) (range_with_len first planners)
-      ≡ slice_set (map (of_planner findings) (range_with_len first planners)) place (of_planner findings planner ++ finding ∷ [])
-  rows first zero place at within = absurd (omega arith)
+      ≡ slice_set (map (of_planner findings) (range_with_len first planners)) index (of_planner findings planner ++ finding ∷ [])
+  rows first zero index at within = absurd (omega arith)
   rows first (suc planners) zero at within =
       let here : first ≡ planner = omega arith in
       let head : of_planner more first ≡ of_planner findings planner ++ finding ∷ [] = ap (of_planner more) here ∙ its_row in
       (λ i. head i ∷ later_rows (first + 1) planners (omega arith) i)
-  rows first (suc planners) (suc place) at within =
+  rows first (suc planners) (suc index) at within =
       let apart : planner ≢ first = λ e. omega arith in
-      (λ i. another_row first apart i ∷ rows (first + 1) planners place (omega arith) (omega arith) i)
+      (λ i. another_row first apart i ∷ rows (first + 1) planners index (omega arith) (omega arith) i)
 
   pub one_more_kept : (planners : ℕ) → planner < planners → kept (by_planner planners findings) finding ≡ by_planner planners more
   one_more_kept planners within =

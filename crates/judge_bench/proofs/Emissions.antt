@@ -31,9 +31,9 @@ same_rows f g first (suc planners) agree =
 
 -- a function that differs from another at one row alone has the other's rows with that one written
 one_row_else : {A : Type 0} (f g : ℕ → A) (planner : ℕ) → ((other : ℕ) → other ≢ planner → g other ≡ f other)
-    → (first planners place : ℕ) → first + place ≡ planner → place < planners
-    → map g (range_with_len first planners) ≡ set (map f (range_with_len first planners)) place (g planner)
-one_row_else f g planner others first zero place at within = absurd (omega arith)
+    → (first planners index : ℕ) → first + index ≡ planner → index < planners
+    → map g (range_with_len first planners) ≡ set (map f (range_with_len first planners)) index (g planner)
+one_row_else f g planner others first zero index at within = absurd (omega arith)
 one_row_else f g planner others first (suc planners) zero at within =
     let here : first ≡ planner = omega arith in
     λ i. ap g here i ∷ later_rows (first + 1) planners (omega arith) i
@@ -43,9 +43,9 @@ one_row_else f g planner others first (suc planners) zero at within =
     later_rows first (suc planners) before =
         let apart : first ≢ planner = λ e. omega arith in
         λ i. others first apart i ∷ later_rows (first + 1) planners (omega arith) i
-one_row_else f g planner others first (suc planners) (suc place) at within =
+one_row_else f g planner others first (suc planners) (suc index) at within =
     let apart : first ≢ planner = λ e. omega arith in
-    λ i. others first apart i ∷ one_row_else f g planner others (first + 1) planners place (omega arith) (omega arith) i
+    λ i. others first apart i ∷ one_row_else f g planner others (first + 1) planners index (omega arith) (omega arith) i
 
 zeros : (planners planner : ℕ) → slice_index (replicate planners 0) planner ≡ 0
 zeros zero planner = refl
@@ -110,8 +110,8 @@ module _ (task : CostedTask) where
         let jobs = jobs_of planner view.jobs in
         let less : count < length jobs = slice_get_within jobs count finding.job next in
         let whose : finding.job.planner ≡ planner = planner_of_next planner view.jobs count finding.job next in
-        let place : planner < length view.emitted = (let n = so_far.count in omega arith) in
-        let more : slice_index (with_emission view planner).emitted planner ≡ suc count = get_or-set_same view.emitted planner (suc count) 0 place in
+        let index : planner < length view.emitted = (let n = so_far.count in omega arith) in
+        let more : slice_index (with_emission view planner).emitted planner ≡ suc count = get_or-set_same view.emitted planner (suc count) 0 index in
         let rows = map (emitted_of task view) (range_with_len 0 planners) in
         let at : 0 + planner ≡ planner = omega arith in
         let f = right_finding task in

@@ -10,6 +10,7 @@ use Rattle.intake_rules.specs.Intake.{is_of, jobs_of}
 use Rattle.intake_rules.specs.Jobs.{AcceptedPlan}
 use Rattle.judge_bench.specs.Findings.{of_planner}
 use Rattle.intake_rules.specs.Findings.{right_finding}
+use Rattle.intake_rules.proofs.Numbered.{number_at}
 use Rattle.judge_bench.specs.Kept.{Numbered}
 use Rattle.judge_bench.specs.Submissions.{SubmissionParts, jobs_from}
 
@@ -21,24 +22,24 @@ jobs_of-append planner jobs more = filter-append (is_of planner) jobs more
 abbrev IsAmong : ℕ → List AcceptedPlan → AcceptedPlan → Type 0
 IsAmong planner jobs job = (slot : ℕ) × (job.planner ≡ planner) × (slice_get jobs slot ≡ Some job)
 
-pub its_slot : (planner : ℕ) (jobs : List AcceptedPlan) (place : ℕ) (job : AcceptedPlan) → slice_get (jobs_of planner jobs) place ≡ Some job → IsAmong planner jobs job
+pub its_slot : (planner : ℕ) (jobs : List AcceptedPlan) (index : ℕ) (job : AcceptedPlan) → slice_get (jobs_of planner jobs) index ≡ Some job → IsAmong planner jobs job
 unfolding jobs_of
-its_slot planner [] place job at = cc
-its_slot planner (first ∷ jobs) place job at = by (its_slot planner jobs) (is_of planner first) refl place at
+its_slot planner [] index job at = cc
+its_slot planner (first ∷ jobs) index job at = by (its_slot planner jobs) (is_of planner first) refl index at
   where
     later : IsAmong planner jobs job → IsAmong planner (first ∷ jobs) job
     later (slot, whose, is) = (suc slot, whose, is)
 
-    by : ((place : ℕ) (job : AcceptedPlan) → slice_get (jobs_of planner jobs) place ≡ Some job → IsAmong planner jobs job) → (b : Bool) → is_of planner first ≡ b → (place : ℕ)
-        → slice_get (cond b (first ∷ jobs_of planner jobs) (jobs_of planner jobs)) place ≡ Some job → IsAmong planner (first ∷ jobs) job
+    by : ((index : ℕ) (job : AcceptedPlan) → slice_get (jobs_of planner jobs) index ≡ Some job → IsAmong planner jobs job) → (b : Bool) → is_of planner first ≡ b → (index : ℕ)
+        → slice_get (cond b (first ∷ jobs_of planner jobs) (jobs_of planner jobs)) index ≡ Some job → IsAmong planner (first ∷ jobs) job
     by rest true is zero at =
         let same : first ≡ job = cc in
         (zero, sym (ap (λ (x : AcceptedPlan). x.planner) same) ∙ eqb-true first.planner planner is, at)
-    by rest true is (suc place) at = later (rest place job at)
-    by rest false is place at = later (rest place job at)
+    by rest true is (suc index) at = later (rest index job at)
+    by rest false is index at = later (rest index job at)
 
-pub planner_of_next : (planner : ℕ) (jobs : List AcceptedPlan) (place : ℕ) (job : AcceptedPlan) → slice_get (jobs_of planner jobs) place ≡ Some job → job.planner ≡ planner
-planner_of_next planner jobs place job at = (its_slot planner jobs place job at).1
+pub planner_of_next : (planner : ℕ) (jobs : List AcceptedPlan) (index : ℕ) (job : AcceptedPlan) → slice_get (jobs_of planner jobs) index ≡ Some job → job.planner ≡ planner
+planner_of_next planner jobs index job at = (its_slot planner jobs index job at).1
 
 -- the right findings of a planner's jobs are those of all jobs that are the planner's
 pub found_of : (task : CostedTask) (planner : ℕ) (jobs : List AcceptedPlan) → of_planner (map (right_finding task) jobs) planner ≡ map (right_finding task) (jobs_of planner jobs)
@@ -51,13 +52,7 @@ found_of task planner (job ∷ jobs) = by (nat_eq job.planner planner) (of_plann
     by true found of_it is = ap (λ l. right_finding task job ∷ l) is
     by false found of_it is = is
 
--- plans as jobs are numbered by their slots
-numbers_from : (number : ℕ) (plans : List SubmissionParts) (slot : ℕ) (job : AcceptedPlan) → slice_get (jobs_from number plans) slot ≡ Some job → job.number ≡ number + slot
-numbers_from number [] slot job at = cc
-numbers_from number (plan ∷ plans) zero job at =
-    let same : record { number = number; planner = plan.planner; plan = plan.plan } ≡ job = cc in
-    sym (ap (λ (x : AcceptedPlan). x.number) same) ∙ (let e : number ≡ number + 0 = omega arith in e)
-numbers_from number (plan ∷ plans) (suc slot) job at = let rest = numbers_from (suc number) plans slot job at in omega arith
-
+-- plans as jobs are numbered by their indexes
 pub numbered_from_zero : (plans : List SubmissionParts) → Numbered (jobs_from 0 plans)
-numbered_from_zero plans slot job at = let e = numbers_from 0 plans slot job at in omega arith
+numbered_from_zero plans index job at =
+    let e = number_at 0 (map (λ (p : SubmissionParts). (p.planner, p.plan)) plans) index job at in omega arith

@@ -1,10 +1,11 @@
 -- What the owner's view comes to in a run.
 
-use Rattle.std.proofs.Common.{◌≡◌, ◌<◌, ◌≤◌, ℕ, ◌+◌, ◌-◌, zero, suc, Bool, true, false, List, [], ◌∷◌, ◌++◌, Option, Some, None, length, All, refl, ap, sym, ◌∙◌, subst, arith, append_assoc, add-one}
+use Rattle.std.proofs.Common.{◌≡◌, ◌<◌, ◌≤◌, ℕ, ◌+◌, ◌-◌, zero, suc, Bool, true, false, List, [], ◌∷◌, ◌++◌, Option, Some, None, length, All, refl, ap, sym, ◌∙◌, subst, arith, append_assoc, append-nil, add-one}
 use Rattle.std.specs.Prelude.{replicate, slice_get, slice_index, slice_set}
 use Rattle.std.proofs.lemmas.List.{length_push}
 use Rattle.std.proofs.lemmas.List.Elements.{All-tail}
 use Rattle.std.proofs.lemmas.Option.{slice_get_within}
+use Rattle.intake_rules.specs.History.{numbered_from}
 use Rattle.intake_rules.specs.Intake.{jobs_of}
 use Rattle.intake_rules.specs.Jobs.{AcceptedPlan}
 use Rattle.bench_rule.specs.declared.views.View.{View}
@@ -14,11 +15,11 @@ use Rattle.judge_bench.specs.Kept.{Numbered}
 use Rattle.judge_bench.specs.Submissions.{SubmissionParts, job_of, jobs_from}
 use Rattle.judge_bench.proofs.JobsOf.{its_slot}
 
--- a place with nothing is past the end
-none_past : {A : Type 0} (xs : List A) (place : ℕ) → slice_get xs place ≡ None → length xs ≤ place
-none_past [] place at = omega arith
+-- an index with nothing is past the end
+none_past : {A : Type 0} (xs : List A) (index : ℕ) → slice_get xs index ≡ None → length xs ≤ index
+none_past [] index at = omega arith
 none_past (x ∷ xs) zero at = cc
-none_past (x ∷ xs) (suc place) at = let rest = none_past xs place at in omega arith
+none_past (x ∷ xs) (suc index) at = let rest = none_past xs index at in omega arith
 
 -- so far the plans before those that are left were accepted
 pub record AcceptedSoFar (slots planners : ℕ) (before view : View) (plans left : List SubmissionParts) : Type 0 where
@@ -32,6 +33,7 @@ pub one_accepted : (slots planners : ℕ) (before view : View) (plans left : Lis
     → (plan : SubmissionParts) (rest : List SubmissionParts) → left ≡ plan ∷ rest
     → (later : View) → later ≡ with_posted view (job_of (length view.jobs) plan)
     → AcceptedSoFar slots planners before later plans rest
+unfolding numbered_from
 one_accepted slots planners before view plans left so_far plan rest at later is =
     let jobs = ap (λ (v : View). v.jobs) is in
     let old = so_far.others in
@@ -52,6 +54,13 @@ one_accepted slots planners before view plans left so_far plan rest at later is 
       room = omega arith;
       known = All-tail (λ (p : SubmissionParts). p.planner < planners) plan rest (subst (All (λ (p : SubmissionParts). p.planner < planners)) at so_far.known);
     }
+
+-- once none is left, all plans were accepted
+pub all_accepted : (slots planners : ℕ) (before view : View) (plans left : List SubmissionParts) → AcceptedSoFar slots planners before view plans left → left ≡ []
+    → view.jobs ≡ before.jobs ++ jobs_from (length before.jobs) plans
+unfolding numbered_from
+all_accepted slots planners before view plans left so_far none =
+    sym (append-nil view.jobs) ∙ ap (λ l. view.jobs ++ jobs_from (length view.jobs) l) (sym none) ∙ so_far.jobs
 
 -- the first planners are closed, and so many others are open
 abbrev pub with_first_closed : View → ℕ → ℕ → View
@@ -79,8 +88,8 @@ one_joined before view later joined count more was is =
 
 -- where nothing waits and the owner holds nothing, it knows each job to be finished
 pub all_known : (view : View) → NoneWaits view → view.held ≡ [] → Numbered view.jobs → AllKnown view
-all_known view none held numbered planner place job at =
-    let (slot, whose, is) = its_slot planner view.jobs place job at in
+all_known view none held numbered planner index job at =
+    let (slot, whose, is) = its_slot planner view.jobs index job at in
     let number : job.number ≡ slot = numbered slot job is in
     let within : slot < length view.jobs = slice_get_within view.jobs slot job is in
     let known : times slot view.finished ≡ 0 → ⊥ = λ e. none slot (within, ap (times_held slot) held, e) in
@@ -90,19 +99,19 @@ all_known view none held numbered planner place job at =
 -- so where none is emitted any more, all were
 pub no_next : (planner : ℕ) (view : View) → AllKnown view → NextIsUnknown planner view → slice_index view.emitted planner ≤ length (jobs_of planner view.jobs)
     → slice_index view.emitted planner ≡ length (jobs_of planner view.jobs)
-no_next planner view known unknown within = by (slice_get (jobs_of planner view.jobs) place) refl
+no_next planner view known unknown within = by (slice_get (jobs_of planner view.jobs) index) refl
   where
-    place : ℕ
-    place = slice_index view.emitted planner
+    index : ℕ
+    index = slice_index view.emitted planner
 
-    by : (next : Option AcceptedPlan) → slice_get (jobs_of planner view.jobs) place ≡ next → place ≡ length (jobs_of planner view.jobs)
-    by None at = let past = none_past (jobs_of planner view.jobs) place at in omega arith
-    by (Some job) at = let one = known planner place job at in let none = unknown job at in absurd (omega arith)
+    by : (next : Option AcceptedPlan) → slice_get (jobs_of planner view.jobs) index ≡ next → index ≡ length (jobs_of planner view.jobs)
+    by None at = let past = none_past (jobs_of planner view.jobs) index at in omega arith
+    by (Some job) at = let one = known planner index job at in let none = unknown job at in absurd (omega arith)
 
 -- what is known stays known while jobs and finished slots are the same
 pub still_known : (before later : View) → later.jobs ≡ before.jobs → later.finished ≡ before.finished → AllKnown before → AllKnown later
-still_known before later jobs finished known planner place job at =
-    subst (λ l. 0 < times job.number l) (sym finished) (known planner place job (subst (λ l. slice_get (jobs_of planner l) place ≡ Some job) jobs at))
+still_known before later jobs finished known planner index job at =
+    subst (λ l. 0 < times job.number l) (sym finished) (known planner index job (subst (λ l. slice_get (jobs_of planner l) index ≡ Some job) jobs at))
 
 -- an emit that found none was the last of its planner
 pub last_emitted : (planner : ℕ) (view later : View) (found : Bool) → found ≡ false → KeptNext planner found view later → AllKnown view → slice_index view.emitted planner ≤ length (jobs_of planner view.jobs)

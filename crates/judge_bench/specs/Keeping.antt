@@ -72,4 +72,4 @@ with_all_joined view count more = record view { seats_out = view.seats_out - cou
 
 -- each job is known to be finished, by its number
 abbrev pub AllKnown : View → Type 0
-AllKnown view = (planner place : ℕ) (job : AcceptedPlan) → slice_get (jobs_of planner view.jobs) place ≡ Some job → 0 < times job.number view.finished
+AllKnown view = (planner index : ℕ) (job : AcceptedPlan) → slice_get (jobs_of planner view.jobs) index ≡ Some job → 0 < times job.number view.finished

@@ -1,7 +1,8 @@
 -- The plans that are handed in, and the jobs that they become.
 
-use Rattle.std.specs.Prelude.{ℕ, suc, List, [], ◌∷◌}
+use Rattle.std.specs.Prelude.{ℕ, List, map}
 use Rattle.strips_task.specs.declared.plans.Plan.{Plan}
+use Rattle.intake_rules.specs.History.{numbered_from}
 use Rattle.intake_rules.specs.Jobs.{AcceptedPlan}
 
 -- what is known of a plan that is handed in: whose plan it is, and the plan
@@ -15,5 +16,4 @@ job_of number submitted = record { number = number; planner = submitted.planner;
 
 -- the plans as jobs in the same order, numbered from this number on
 abbrev pub jobs_from : ℕ → List SubmissionParts → List AcceptedPlan
-jobs_from number [] = []
-jobs_from number (submitted ∷ others) = job_of number submitted ∷ jobs_from (suc number) others
+jobs_from number plans = numbered_from number (map (λ (submitted : SubmissionParts). (submitted.planner, submitted.plan)) plans)

@@ -8,7 +8,7 @@ use Rattle.plan_text.specs.Bundle.{parts, parts_from, parts_behind}
 use Rattle.judge_engine.specs.Bundle.{BundleValue}
 use Rattle.judge_engine.specs.Plans.{plan_of_part, plans_of_file, plans_of_files}
 
--- the plans of the parts from a place on
+-- the plans of the parts from an index on
 abbrev pub plans_from : ℕ → List ℕ → ℕ → List SubmissionParts
 plans_from planner bytes start = map (plan_of_part planner) (parts_from bytes start)
 

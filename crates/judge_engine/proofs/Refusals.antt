@@ -91,13 +91,13 @@ module _ (dialect : Dialect) (domain problem : List ℕ) (bundles : List BundleV
   plans_cause task fault none few is plans =
       subst (TextsCallForIn dialect domain problem bundles) (sym plans.0) (sym none, few, (task, is), plans.1)
 
-  -- the place of a text that is too large is told, and no other
-  pub large_told : {T : Type 0} (place : Input) → Some place ≡ too_large domain problem bundles
-      → (n : Input) → (◌≡◌ {A = Result T JudgeFault} (Err (TooLarge place)) (Err (TooLarge n))) ↔ (too_large domain problem bundles ≡ Some n)
-  large_told {T} place is n = (
-    λ same. let told : TooLarge place ≡ TooLarge n = same_error {T = T} (TooLarge place) (TooLarge n) same in
-        let equal : place ≡ n = cc in sym is ∙ ap Some equal,
-    λ at. let both : Some place ≡ Some n = is ∙ at in let equal : place ≡ n = cc in ap (λ (k : Input). Err (TooLarge k)) equal,
+  -- the index of a text that is too large is reported, and no other
+  pub large_told : {T : Type 0} (index : Input) → Some index ≡ too_large domain problem bundles
+      → (n : Input) → (◌≡◌ {A = Result T JudgeFault} (Err (TooLarge index)) (Err (TooLarge n))) ↔ (too_large domain problem bundles ≡ Some n)
+  large_told {T} index is n = (
+    λ same. let told : TooLarge index ≡ TooLarge n = same_error {T = T} (TooLarge index) (TooLarge n) same in
+        let equal : index ≡ n = cc in sym is ∙ ap Some equal,
+    λ at. let both : Some index ≡ Some n = is ∙ at in let equal : index ≡ n = cc in ap (λ (k : Input). Err (TooLarge k)) equal,
   )
 
   -- where there is none, that is not told

@@ -64,5 +64,5 @@ lawful_replay dialect domain problem steps lines e =
       of_texts = t;
       of_steps = s;
       replies = cc;
-      headline = headline task value.planners value.places value.steps;
+      headline = headline task value.planners value.slots value.steps;
     }

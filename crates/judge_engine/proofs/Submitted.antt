@@ -10,6 +10,7 @@ use Rattle.std.proofs.lemmas.List.FromFn.{get_or-map-range_with_len, length-map-
 use Rattle.plan_cost.specs.declared.costs.CostedTask.{CostedTask}
 use Rattle.intake_rules.specs.declared.finding.Finding.{Finding}
 use Rattle.intake_rules.specs.Findings.{verdict_of, counted_cost}
+use Rattle.intake_rules.specs.History.{numbered_from}
 use Rattle.judge_bench.specs.Findings.{findings_of, of_planner}
 use Rattle.intake_rules.specs.Findings.{right_finding}
 use Rattle.judge_bench.specs.Submissions.{SubmissionParts, jobs_from}
@@ -53,6 +54,7 @@ all_known bundles = known_from 0 (length bundles) bundles (omega arith)
 
 -- jobs of plans side by side
 jobs_both : (number : ℕ) (plans others : List SubmissionParts) → jobs_from number (plans ++ others) ≡ jobs_from number plans ++ jobs_from (number + length plans) others
+unfolding numbered_from
 jobs_both number [] others = let same : number ≡ number + 0 = omega arith in ap (λ n. jobs_from n others) same
 jobs_both number (plan ∷ plans) others =
     let same : suc number + length plans ≡ number + suc (length plans) = omega arith in
@@ -73,7 +75,7 @@ module _ (task : CostedTask) where
 
   -- of the planner's own file
   own : (planner number : ℕ) (texts : List (List ℕ)) → map as_judged (found planner number (map (plan_of_part planner) texts)) ≡ map (judged task) texts
-  unfolding judged verdict_of counted_cost
+  unfolding numbered_from judged verdict_of counted_cost
   own planner number [] = refl
   own planner number (text ∷ texts) =
       ap (λ b. map as_judged (cond b (right_finding task (record { number = number; planner = planner; plan = (plan_of_part planner text).plan })
@@ -82,6 +84,7 @@ module _ (task : CostedTask) where
 
   -- and of another's
   another : (planner other number : ℕ) (texts : List (List ℕ)) → planner ≢ other → found other number (map (plan_of_part planner) texts) ≡ []
+  unfolding numbered_from
   another planner other number [] apart = refl
   another planner other number (text ∷ texts) apart =
       ap (λ b. cond b (right_finding task (record { number = number; planner = planner; plan = (plan_of_part planner text).plan })
@@ -90,7 +93,7 @@ module _ (task : CostedTask) where
 
   -- and of those behind it
   later : (planner other number : ℕ) (bundles : List BundleValue) → other < planner → found other number (plans_of_files planner bundles) ≡ []
-  unfolding plans_of_file
+  unfolding numbered_from plans_of_file
   later planner other number [] before = refl
   later planner other number (bundle ∷ bundles) before =
       let plans = map (plan_of_part planner) (parts bundle.bytes) in
@@ -99,10 +102,10 @@ module _ (task : CostedTask) where
       ∙ (λ i. another planner other number (parts bundle.bytes) apart i ++ later (suc planner) other (number + length plans) bundles (omega arith) i)
 
   -- what is found for a planner is what its file calls for
-  by_file : (first number place : ℕ) (bundles : List BundleValue) (bundle : BundleValue) (planner : ℕ) → first + place ≡ planner → slice_get bundles place ≡ Some bundle
+  by_file : (first number index : ℕ) (bundles : List BundleValue) (bundle : BundleValue) (planner : ℕ) → first + index ≡ planner → slice_get bundles index ≡ Some bundle
       → map as_judged (found planner number (plans_of_files first bundles)) ≡ map (judged task) (parts bundle.bytes)
   unfolding plans_of_file
-  by_file first number place [] bundle planner at is = cc
+  by_file first number index [] bundle planner at is = cc
   by_file first number zero (b ∷ bundles) bundle planner at is =
       let plans = map (plan_of_part first) (parts b.bytes) in
       let same : b ≡ bundle = cc in
@@ -113,12 +116,12 @@ module _ (task : CostedTask) where
       ∙ (λ i. own first number (parts b.bytes) i ++ map as_judged (later (suc first) first (number + length plans) bundles (omega arith) i))
       ∙ append-nil (map (judged task) (parts b.bytes))
       ∙ ap (λ (x : BundleValue). map (judged task) (parts x.bytes)) same
-  by_file first number (suc place) (b ∷ bundles) bundle planner at is =
+  by_file first number (suc index) (b ∷ bundles) bundle planner at is =
       let plans = map (plan_of_part first) (parts b.bytes) in
       let apart : first ≢ planner = λ e. omega arith in
       ap (map as_judged) (found_both planner number plans (plans_of_files (suc first) bundles))
       ∙ (λ i. map as_judged (another first planner number (parts b.bytes) apart i ++ found planner (number + length plans) (plans_of_files (suc first) bundles)))
-      ∙ by_file (suc first) (number + length plans) place bundles bundle planner (omega arith) is
+      ∙ by_file (suc first) (number + length plans) index bundles bundle planner (omega arith) is
 
   -- so the findings of a run are what the planners' files call for
   pub found_of_file : (bundles : List BundleValue) (planner : ℕ) (bundle : BundleValue) → planner < length bundles → slice_get bundles planner ≡ Some bundle

@@ -20,7 +20,7 @@ use Rattle.judge_engine.specs.ReplayText.{reply_lines}
 
 -- what a new desk answers to the steps of a steps file
 abbrev pub replies_to : CostedTask → StepsValue → List Reply
-replies_to task value = replies_of (history_of task value.planners value.places value.steps)
+replies_to task value = replies_of (history_of task value.planners value.slots value.steps)
 
 -- the lines of a replay, if the steps file has a value
 abbrev pub replay_of : CostedTask → Result StepsValue StepsFault → Option (List ℕ)
@@ -48,8 +48,8 @@ pub record IsLawfulReplay (dialect : Dialect) (domain problem steps : List ℕ) 
   pub value : StepsValue
   pub of_texts : task_in dialect domain problem ≡ Some task
   pub of_steps : steps_text steps ≡ Ok value
-  pub replies : lines ≡ reply_lines task.task (replies_of (history_of task value.planners value.places value.steps))
-  pub headline : Headline task value.planners value.places (history_of task value.planners value.places value.steps)
+  pub replies : lines ≡ reply_lines task.task (replies_of (history_of task value.planners value.slots value.steps))
+  pub headline : Headline task value.planners value.slots (history_of task value.planners value.slots value.steps)
 
 -- the lines of a replay in the default dialect
 abbrev pub replay_answer : List ℕ → List ℕ → List ℕ → Option (List ℕ)

@@ -111,7 +111,7 @@ const REPLAY_ABOUT: &str =
 
 const REPLAY_AFTER_HELP: &str = "\
 The steps, one a line; empty lines and lines that begin with ; are skipped:
-  desk P N           the first line: P planners, N places
+  desk P N           the first line: P planners, N slots
   submit P TEXT      a plan of planner P, which is read from the rest of the line
   close P            no plan of planner P is accepted any more
   take               give out the least job that waits

@@ -10,7 +10,7 @@ ghost use Rattle.judge_engine.specs.Plans.{plan_of_part, plans_of_file, plans_of
 use crate::bundle::Bundle;
 use crate::engine::MOST_PLANS;
 use judge_bench::Submission;
-use plan_text::{PartPlace, part_from};
+use plan_text::{PartEnd, part_from};
 use std::alloc::{AllocError, Global};
 
 /// The plans of all files, in the order of the files and of the parts of each, unless there are too many. None is read.
@@ -46,7 +46,7 @@ fn push_parts(
 {
     let mut start = 0;
     'parts: loop {
-        let PartPlace { end, next } = part_from(bundle.bytes(), start);
+        let PartEnd { end, next } = part_from(bundle.bytes(), start);
         if plans.len() == MOST_PLANS {
             return Ok(false);
         }

@@ -103,7 +103,7 @@ fn replay_text(alloc: Global, task: &CostedTask, steps: &[u8]) -> Result<Report,
     ensures fault { IfErr result (λ fault. (fault ≡ OutOfMemory) ⊎ ((e : _) × (fault ≡ Steps e) × (steps_text steps.now ≡ Err e))) }
 {
     match read_steps(alloc, steps) {
-        Ok(read) => match run(alloc, task, read) {
+        Ok(read) => match lines_of(alloc, task, read) {
             Ok(report) => Ok(report),
             Err(error) => Err(JudgeFault::from(error)),
         },
@@ -113,17 +113,17 @@ fn replay_text(alloc: Global, task: &CostedTask, steps: &[u8]) -> Result<Report,
 }
 
 /// The lines that a new desk for a task answers to steps.
-fn run(alloc: Global, task: &CostedTask, read: StepsText) -> Result<Report, AllocError>
+fn lines_of(alloc: Global, task: &CostedTask, read: StepsText) -> Result<Report, AllocError>
     requires planners { read.planners ≤ 64 }
-    requires places { read.places ≤ 65536 }
+    requires slots { read.slots ≤ 65536 }
     ensures { IfOk result (λ report. report ≡ reply_lines task.now.task (replies_to task.now (value_of read))) }
 {
     let StepsText {
         planners,
-        places,
+        slots,
         steps,
     } = read;
-    match replay(alloc, task, planners, places, steps) {
+    match replay(alloc, task, planners, slots, steps) {
         Ok(replies) => {
             let text = text_of(alloc, &task.task, &replies)?;
             Ok(Report::from_bytes(text.into_bytes()))

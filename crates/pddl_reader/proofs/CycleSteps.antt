@@ -29,9 +29,9 @@ use Rattle.pddl_reader.proofs.TableSteps.{entry_at}
 use Rattle.pddl_reader.proofs.TypeSteps.{parent_unnamed}
 use Rattle.pddl_reader.proofs.TypeTests.{tree_from, no_cycle}
 
--- the place of a name among entries that are numbered from a number on
-abbrev place : {V : Type 0} → List ℕ → ℕ → List (List ℕ × V) → Option ℕ
-place name at entries = position_from (bytes_eq name) at (keys_of entries)
+-- the index of a name among entries that are numbered from a number on
+abbrev index : {V : Type 0} → List ℕ → ℕ → List (List ℕ × V) → Option ℕ
+index name at entries = position_from (bytes_eq name) at (keys_of entries)
 
 -- a name that is found among entries and one more is found among the entries, or is the new one
 named-push : {V : Type 0} (name key : List ℕ) (v : V) (at : ℕ) (entries : List (List ℕ × V)) →
@@ -40,19 +40,19 @@ named-push : {V : Type 0} (name key : List ℕ) (v : V) (at : ℕ) (entries : Li
 named-push {V} name key v at [] h = by (bytes_eq name key) refl h
   where
     by : (test : Bool) → bytes_eq name key ≡ test → is_some {T = ℕ} (cond (bytes_eq name key) (Some at) None) ≡ true →
-        (is_some (place {V = V} name at []) ≡ true) ⊎ (name ≡ key)
+        (is_some (index {V = V} name at []) ≡ true) ⊎ (name ≡ key)
     by true e k = inr ((bytes_eq-Decides name key).0 e)
     by false e k = absurd (true≢false (sym k ∙ ap (λ b. is_some {T = ℕ} (cond b (Some at) None)) e))
 named-push {V} name key v at ((first, w) ∷ entries) h = by (named-push name key v (at + 1) entries) (bytes_eq name first) refl h
   where
-    by : (is_some (place name (at + 1) (entries ++ (key, v) ∷ [])) ≡ true → (is_some (place name (at + 1) entries) ≡ true) ⊎ (name ≡ key)) →
-        (test : Bool) → bytes_eq name first ≡ test → is_some (cond (bytes_eq name first) (Some at) (place name (at + 1) (entries ++ (key, v) ∷ []))) ≡ true →
-        (is_some (cond (bytes_eq name first) (Some at) (place name (at + 1) entries)) ≡ true) ⊎ (name ≡ key)
-    by rest true e k = inl (ap (λ b. is_some (cond b (Some at) (place name (at + 1) entries))) e)
-    by rest false e k = on (rest (sym (ap (λ b. is_some (cond b (Some at) (place name (at + 1) (entries ++ (key, v) ∷ [])))) e) ∙ k))
+    by : (is_some (index name (at + 1) (entries ++ (key, v) ∷ [])) ≡ true → (is_some (index name (at + 1) entries) ≡ true) ⊎ (name ≡ key)) →
+        (test : Bool) → bytes_eq name first ≡ test → is_some (cond (bytes_eq name first) (Some at) (index name (at + 1) (entries ++ (key, v) ∷ []))) ≡ true →
+        (is_some (cond (bytes_eq name first) (Some at) (index name (at + 1) entries)) ≡ true) ⊎ (name ≡ key)
+    by rest true e k = inl (ap (λ b. is_some (cond b (Some at) (index name (at + 1) entries))) e)
+    by rest false e k = on (rest (sym (ap (λ b. is_some (cond b (Some at) (index name (at + 1) (entries ++ (key, v) ∷ [])))) e) ∙ k))
       where
-        on : (is_some (place name (at + 1) entries) ≡ true) ⊎ (name ≡ key) → (is_some (cond (bytes_eq name first) (Some at) (place name (at + 1) entries)) ≡ true) ⊎ (name ≡ key)
-        on (inl there) = inl (ap (λ b. is_some (cond b (Some at) (place name (at + 1) entries))) e ∙ there)
+        on : (is_some (index name (at + 1) entries) ≡ true) ⊎ (name ≡ key) → (is_some (cond (bytes_eq name first) (Some at) (index name (at + 1) entries)) ≡ true) ⊎ (name ≡ key)
+        on (inl there) = inl (ap (λ b. is_some (cond b (Some at) (index name (at + 1) entries))) e ∙ there)
         on (inr same) = inr same
 
 -- `object` stands first

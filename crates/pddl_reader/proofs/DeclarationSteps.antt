@@ -14,7 +14,7 @@ use Rattle.pddl_syntax.specs.Optional.{guard, through, with_front}
 use Rattle.pddl_syntax.specs.Forms.{predicate_form, predicate_forms}
 use Rattle.pddl_reader.specs.Declarations.{Known, Predicates, may_declare, declared, pattern_of, term_named, equality_by, condition_of, conditions_of}
 use Rattle.pddl_reader.specs.Domain.{declared_predicate, with_predicate, predicates_from}
-use Rattle.pddl_reader.specs.Variables.{Parameters, places_of}
+use Rattle.pddl_reader.specs.Variables.{Parameters, argument_types_of}
 use Rattle.pddl_reader.proofs.Through.{through_behind, through_item, through_end}
 use Rattle.pddl_syntax.specs.Syntax.{AtomForm, EqualityForm, AmountForm, ValueForm, LiteralForm, atom_literal, equality_literal, increase_literal, value_literal, PredicateForm}
 use Rattle.pddl_syntax.proofs.ListsOf.{with_front-followed_by, with_item, item_none, item_some, front_none}
@@ -72,20 +72,20 @@ pub ruleset conditions_steps = (front_none, conditions_item, conditions_end, ite
 
 pub predicate_refused : (types : List (List ℕ)) (table : Predicates) (p : PredicateForm) → may_declare 4096 table (folded p.name) ≡ false → with_predicate types table p ≡ None
 unfolding with_predicate declared_predicate declared guard
-predicate_refused types table p h = by (places_of types p.variables)
+predicate_refused types table p h = by (argument_types_of types p.variables)
   where
-    by : (places : Option (List (List ℕ))) → declared_predicate table (folded p.name) places ≡ None
+    by : (argument_types : Option (List (List ℕ))) → declared_predicate table (folded p.name) argument_types ≡ None
     by None = refl
     by (Some ps) = rw h refl
 
-pub predicate_unplaced : (types : List (List ℕ)) (table : Predicates) (p : PredicateForm) → places_of types p.variables ≡ None → with_predicate types table p ≡ None
+pub predicate_untyped : (types : List (List ℕ)) (table : Predicates) (p : PredicateForm) → argument_types_of types p.variables ≡ None → with_predicate types table p ≡ None
 unfolding with_predicate declared_predicate
-predicate_unplaced types table p h = rw h refl
+predicate_untyped types table p h = rw h refl
 
-pub predicate_declared : (types : List (List ℕ)) (table : Predicates) (p : PredicateForm) (places : List (List ℕ)) → may_declare 4096 table (folded p.name) ≡ true →
-    places_of types p.variables ≡ Some places → with_predicate types table p ≡ Some (table ++ (folded p.name, places) ∷ [])
+pub predicate_declared : (types : List (List ℕ)) (table : Predicates) (p : PredicateForm) (argument_types : List (List ℕ)) → may_declare 4096 table (folded p.name) ≡ true →
+    argument_types_of types p.variables ≡ Some argument_types → with_predicate types table p ≡ Some (table ++ (folded p.name, argument_types) ∷ [])
 unfolding with_predicate declared_predicate declared guard
-predicate_declared types table p places h e = rw (e, h) refl
+predicate_declared types table p argument_types h e = rw (e, h) refl
 
 pub predicates_item : {S : Type 0} (step : S → PredicateForm → Option S) (state : S) (x : PredicateSyntax) (xs : List PredicateSyntax) →
     through step state (predicate_forms (x ∷ xs)) ≡ through_behind step (step state (predicate_form x)) (predicate_forms xs)
@@ -122,6 +122,6 @@ may_declare_length most table name value h =
     let lt : length table < most = ltb-true (length table) most (and_parts (is_none (number_named table name)) (nat_lt (length table) most) h).1 in
     rw length-append (omega arith)
 
-pub ruleset predicate_steps = (may_declare_new, predicate_refused, predicate_unplaced, predicate_declared)
+pub ruleset predicate_steps = (may_declare_new, predicate_refused, predicate_untyped, predicate_declared)
 
 pub ruleset predicates_steps = (predicates_item, predicates_end, predicates_start)

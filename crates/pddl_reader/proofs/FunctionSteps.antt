@@ -17,8 +17,8 @@ use Rattle.pddl_syntax.specs.Syntax.{PredicateForm, AtomForm, AmountForm, number
 use Rattle.pddl_reader.specs.Declarations.{Known, Predicates, may_declare, pattern_of}
 use Rattle.pddl_reader.specs.Domain.{with_predicate, may_have, with_function, functions_from}
 use Rattle.pddl_reader.specs.Functions.{Vocabulary, total_cost_number, counts_costs, amount_meant, amount_behind, with_increase, costs_with, costs_of}
-use Rattle.pddl_reader.specs.Variables.{Parameters, places_of}
-use Rattle.pddl_reader.proofs.DeclarationSteps.{may_declare_new, predicate_refused, predicate_unplaced, predicate_declared, predicates_item, predicates_end}
+use Rattle.pddl_reader.specs.Variables.{Parameters, argument_types_of}
+use Rattle.pddl_reader.proofs.DeclarationSteps.{may_declare_new, predicate_refused, predicate_untyped, predicate_declared, predicates_item, predicates_end}
 
 pub has_none : (name : List ℕ) (vs : List groups.VariableGroup) → length vs ≡ 0 → may_have name (variable_groups vs) ≡ true
 unfolding may_have variable_groups
@@ -47,21 +47,21 @@ pub function_refused : (types : List (List ℕ)) (table : Predicates) (f : Predi
 unfolding with_function
 function_refused types table f h = guarded_none (may_have (folded f.name) f.variables) (with_predicate types table f) (predicate_refused types table f h)
 
-pub function_unplaced : (types : List (List ℕ)) (table : Predicates) (f : PredicateForm) → places_of types f.variables ≡ None → with_function types table f ≡ None
+pub function_untyped : (types : List (List ℕ)) (table : Predicates) (f : PredicateForm) → argument_types_of types f.variables ≡ None → with_function types table f ≡ None
 unfolding with_function
-function_unplaced types table f h = guarded_none (may_have (folded f.name) f.variables) (with_predicate types table f) (predicate_unplaced types table f h)
+function_untyped types table f h = guarded_none (may_have (folded f.name) f.variables) (with_predicate types table f) (predicate_untyped types table f h)
 
 pub function_varied : (types : List (List ℕ)) (table : Predicates) (f : PredicateForm) → may_have (folded f.name) f.variables ≡ false → with_function types table f ≡ None
 unfolding with_function guard
 function_varied types table f h = rw h refl
 
-pub function_declared : (types : List (List ℕ)) (table : Predicates) (f : PredicateForm) (places : List (List ℕ)) → may_declare 4096 table (folded f.name) ≡ true →
-    may_have (folded f.name) f.variables ≡ true → places_of types f.variables ≡ Some places →
-    with_function types table f ≡ Some (table ++ (folded f.name, places) ∷ [])
+pub function_declared : (types : List (List ℕ)) (table : Predicates) (f : PredicateForm) (argument_types : List (List ℕ)) → may_declare 4096 table (folded f.name) ≡ true →
+    may_have (folded f.name) f.variables ≡ true → argument_types_of types f.variables ≡ Some argument_types →
+    with_function types table f ≡ Some (table ++ (folded f.name, argument_types) ∷ [])
 unfolding with_function guard
-function_declared types table f places h k e = rw (k, predicate_declared types table f places h e) refl
+function_declared types table f argument_types h k e = rw (k, predicate_declared types table f argument_types h e) refl
 
-pub ruleset function_steps = (may_declare_new, function_refused, function_varied, function_unplaced)
+pub ruleset function_steps = (may_declare_new, function_refused, function_varied, function_untyped)
 
 pub functions_start : (types : List (List ℕ)) (table : Predicates) (fs : List PredicateForm) → functions_from types table fs ≡ through (with_function types) table fs
 unfolding functions_from

@@ -3,7 +3,7 @@
 use Rattle.std.proofs.Common.{refl, ◌≡◌, ℕ, ◌+◌, ◌<◌, List, ◌∷◌, length, drop, get_or, sym, subst, add-one, drop-cons}
 use Rattle.std.proofs.lemmas.List.{drop_all}
 
--- the item at a place is the first of the rest; the first part shows a tactic where to apply this
+-- the item at an index is the first of the rest; the first part shows a tactic where to apply this
 pub item_at : {A : Type 0} (xs : List A) (i : ℕ) (x : A) → i < length xs → x ≡ get_or xs i x →
     (get_or xs i x ≡ x) × (drop i xs ≡ x ∷ drop (i + 1) xs)
 item_at {A} xs i x lt is =

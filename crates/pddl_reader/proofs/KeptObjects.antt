@@ -24,7 +24,7 @@ use Rattle.pddl_reader.proofs.Through.{through_keeps}
 use Rattle.pddl_reader.proofs.TypeSteps.{AreFew, declared-few}
 use Rattle.pddl_reader.proofs.TypeTests.{tree_from}
 
--- a place that is found is one of the list
+-- an index that is found is one of the list
 pub position-within : {A : Type 0} (test : A → Bool) (xs : List A) (i n : ℕ) → position_from test i xs ≡ Some n → n < i + length xs
 position-within test [] i n h = cc
 position-within {A} test (x ∷ xs) i n h = by (test x) (λ k. position-within test xs (i + 1) n k) h
@@ -34,7 +34,7 @@ position-within {A} test (x ∷ xs) i n h = by (test x) (λ k. position-within t
     by true rest e = let same : i ≡ n = cc in omega arith
     by false rest e = let lt : n < i + 1 + length xs = rest e in omega arith
 
--- an item stands at each place of a list
+-- an item stands at each index of a list
 no_item : {A : Type 0} (xs : List A) (n : ℕ) → slice_get xs n ≡ None → length xs ≤ n
 no_item [] n h = omega arith
 no_item (x ∷ xs) zero h = cc

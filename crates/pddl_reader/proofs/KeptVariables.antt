@@ -14,7 +14,7 @@ use Rattle.pddl_reader.specs.Objects.{type_number}
 use Rattle.pddl_syntax.specs.Optional.{guard, through}
 use Rattle.pddl_reader.specs.Resolved.{parameters_form}
 use Rattle.pddl_syntax.specs.Syntax.{VariableGroup}
-use Rattle.pddl_reader.specs.Variables.{alternative_behind, alternative_named, alternatives_of, places_behind, group_placed, places_of, Parameters, parameter_number, parameter_named, parameters_with, group_named, no_parameters, parameters_of}
+use Rattle.pddl_reader.specs.Variables.{alternative_behind, alternative_named, alternatives_of, argument_types_with, with_group_types, argument_types_of, Parameters, parameter_number, parameter_named, parameters_with, group_named, no_parameters, parameters_of}
 use Rattle.pddl_reader.proofs.KeptObjects.{type_number-within}
 use Rattle.pddl_syntax.proofs.Guards.{guard_held}
 use Rattle.pddl_reader.proofs.Through.{through_keeps}
@@ -55,52 +55,52 @@ alternatives_kept parents types words numbers is h =
     (record { few = omega arith; known = refl }) h in
     rw (le-leb (length numbers) 32 kept.few, kept.known) refl
 
--- places that variables may have
-record ArePlaces (parents : List ℕ) (places : List (List ℕ)) : Type 0 where
-  few : length places ≤ 32
-  typed : list_all (are_alternatives parents) places ≡ true
+-- the types that variables may have
+record AreArgumentTypes (parents : List ℕ) (argument_types : List (List ℕ)) : Type 0 where
+  few : length argument_types ≤ 32
+  typed : list_all (are_alternatives parents) argument_types ≡ true
 
 all_alike : (test : List ℕ → Bool) (variables : List (List ℕ)) (types : List ℕ) → test types ≡ true → list_all test (map (λ _. types) variables) ≡ true
 all_alike test [] types h = refl
 all_alike test (v ∷ vs) types h = rw (h, all_alike test vs types h) refl
 
-behind_typed : (parents : List ℕ) (places variables : List (List ℕ)) (types : List ℕ) → list_all (are_alternatives parents) places ≡ true →
-    are_alternatives parents types ≡ true → list_all (are_alternatives parents) (places_behind places variables types) ≡ true
-unfolding places_behind
-behind_typed parents places variables types kept h =
-    rw (list_all-append (are_alternatives parents) places (map (λ _. types) variables), kept, all_alike (are_alternatives parents) variables types h) refl
+behind_typed : (parents : List ℕ) (argument_types variables : List (List ℕ)) (types : List ℕ) → list_all (are_alternatives parents) argument_types ≡ true →
+    are_alternatives parents types ≡ true → list_all (are_alternatives parents) (argument_types_with argument_types variables types) ≡ true
+unfolding argument_types_with
+behind_typed parents argument_types variables types kept h =
+    rw (list_all-append (are_alternatives parents) argument_types (map (λ _. types) variables), kept, all_alike (are_alternatives parents) variables types h) refl
 
-pub behind-length : (places variables : List (List ℕ)) (types : List ℕ) → length (places_behind places variables types) ≡ length places + length variables
-unfolding places_behind
-behind-length places variables types = rw (length-append, length-map variables (λ (v : List ℕ). types)) refl
+pub behind-length : (argument_types variables : List (List ℕ)) (types : List ℕ) → length (argument_types_with argument_types variables types) ≡ length argument_types + length variables
+unfolding argument_types_with
+behind-length argument_types variables types = rw (length-append, length-map variables (λ (v : List ℕ). types)) refl
 
-group_kept_by : (parents : List ℕ) (places variables more : List (List ℕ)) (found : Option (List ℕ)) → ((ns : List ℕ) → found ≡ Some ns → are_alternatives parents ns ≡ true) →
-    ArePlaces parents places → guard (nat_le (length places + length variables) 32) (option_map (places_behind places variables) found) ≡ Some more → ArePlaces parents more
+group_kept_by : (parents : List ℕ) (argument_types variables more : List (List ℕ)) (found : Option (List ℕ)) → ((ns : List ℕ) → found ≡ Some ns → are_alternatives parents ns ≡ true) →
+    AreArgumentTypes parents argument_types → guard (nat_le (length argument_types + length variables) 32) (option_map (argument_types_with argument_types variables) found) ≡ Some more → AreArgumentTypes parents more
 unfolding guard
-group_kept_by parents places variables more None known kept h = by (nat_le (length places + length variables) 32) h
+group_kept_by parents argument_types variables more None known kept h = by (nat_le (length argument_types + length variables) 32) h
   where
-    by : (test : Bool) → guard {A = List (List ℕ)} test None ≡ Some more → ArePlaces parents more
+    by : (test : Bool) → guard {A = List (List ℕ)} test None ≡ Some more → AreArgumentTypes parents more
     by true e = cc
     by false e = cc
-group_kept_by parents places variables more (Some ns) known kept h =
-    let held = guard_held (nat_le (length places + length variables) 32) (places_behind places variables ns) more h in
-    let room : length places + length variables ≤ 32 = leb-true (length places + length variables) 32 held.0 in
-    let grown : length (places_behind places variables ns) ≤ 32 = rw (behind-length places variables ns) room in
-    subst (ArePlaces parents) held.1 (record { few = grown; typed = behind_typed parents places variables ns kept.typed (known ns refl) })
+group_kept_by parents argument_types variables more (Some ns) known kept h =
+    let held = guard_held (nat_le (length argument_types + length variables) 32) (argument_types_with argument_types variables ns) more h in
+    let room : length argument_types + length variables ≤ 32 = leb-true (length argument_types + length variables) 32 held.0 in
+    let grown : length (argument_types_with argument_types variables ns) ≤ 32 = rw (behind-length argument_types variables ns) room in
+    subst (AreArgumentTypes parents) held.1 (record { few = grown; typed = behind_typed parents argument_types variables ns kept.typed (known ns refl) })
 
-group_kept : (parents : List ℕ) (types : List (List ℕ)) → length types ≡ length parents → (places : List (List ℕ)) (group : VariableGroup) (more : List (List ℕ)) →
-    ArePlaces parents places → group_placed types places group ≡ Some more → ArePlaces parents more
-unfolding group_placed
-group_kept parents types is places group more kept h =
-    group_kept_by parents places group.variables more (alternatives_of types group.types) (λ ns e. alternatives_kept parents types group.types ns is e) kept h
+group_kept : (parents : List ℕ) (types : List (List ℕ)) → length types ≡ length parents → (argument_types : List (List ℕ)) (group : VariableGroup) (more : List (List ℕ)) →
+    AreArgumentTypes parents argument_types → with_group_types types argument_types group ≡ Some more → AreArgumentTypes parents more
+unfolding with_group_types
+group_kept parents types is argument_types group more kept h =
+    group_kept_by parents argument_types group.variables more (alternatives_of types group.types) (λ ns e. alternatives_kept parents types group.types ns is e) kept h
 
--- the places of a predicate are such as a task may have
-pub places_kept : (parents : List ℕ) (types : List (List ℕ)) (groups : List VariableGroup) (places : List (List ℕ)) → length types ≡ length parents →
-    places_of types groups ≡ Some places → are_variables parents places ≡ true
-unfolding places_of are_variables
-places_kept parents types groups places is h =
-    let kept = through_keeps (ArePlaces parents) (group_placed types) (group_kept parents types is) [] groups places (record { few = omega arith; typed = refl }) h in
-    rw (le-leb (length places) 32 kept.few, kept.typed) refl
+-- the argument types of a predicate are such as a task may have
+pub argument_types_kept : (parents : List ℕ) (types : List (List ℕ)) (groups : List VariableGroup) (argument_types : List (List ℕ)) → length types ≡ length parents →
+    argument_types_of types groups ≡ Some argument_types → are_variables parents argument_types ≡ true
+unfolding argument_types_of are_variables
+argument_types_kept parents types groups argument_types is h =
+    let kept = through_keeps (AreArgumentTypes parents) (with_group_types types) (group_kept parents types is) [] groups argument_types (record { few = omega arith; typed = refl }) h in
+    rw (le-leb (length argument_types) 32 kept.few, kept.typed) refl
 
 -- each parameter has its types
 record AreParameters (parents : List ℕ) (p : Parameters) : Type 0 where
@@ -146,9 +146,9 @@ unfolding parameters_with
 named_kept_by parents p variables more None found counted known kept h = cc
 named_kept_by parents p variables more (Some ns) None counted known kept h = cc
 named_kept_by parents p variables more (Some ns) (Some ts) counted known kept h =
-    let same : record { names = ns; types = places_behind p.types variables ts } ≡ more = cc in
+    let same : record { names = ns; types = argument_types_with p.types variables ts } ≡ more = cc in
     let count = counted ns refl in
-    let pairs : length (places_behind p.types variables ts) ≡ length ns =
+    let pairs : length (argument_types_with p.types variables ts) ≡ length ns =
     behind-length p.types variables ts ∙ (let e : length p.types ≡ length p.names = kept.paired in omega (arith, e, count.0)) in
     subst (AreParameters parents) same (record { few = count.1; paired = pairs; typed = behind_typed parents p.types variables ts kept.typed (known ts refl) })
 
@@ -196,7 +196,7 @@ group_few types p group more few h =
     by None found counted e = cc
     by (Some ns) None counted e = cc
     by (Some ns) (Some ts) counted e =
-        let same : record { names = ns; types = places_behind p.types group.variables ts } ≡ more = cc in
+        let same : record { names = ns; types = argument_types_with p.types group.variables ts } ≡ more = cc in
         rw (← same) (counted ns refl).1
 
 -- there are no more parameters than the limit

@@ -29,15 +29,15 @@ list_all-weaker p q weaker (x ∷ xs) h =
     let parts = and_parts (p x) (list_all p xs) h in
     rw (weaker x parts.0, list_all-weaker p q weaker xs parts.1) refl
 
-fitting_weaker : (parents : List ℕ) (f g : Option (List ℕ)) (place : List ℕ) → ((types : List ℕ) → f ≡ Some types → g ≡ Some types) →
-    is_fitting parents f place ≡ true → is_fitting parents g place ≡ true
+fitting_weaker : (parents : List ℕ) (f g : Option (List ℕ)) (index : List ℕ) → ((types : List ℕ) → f ≡ Some types → g ≡ Some types) →
+    is_fitting parents f index ≡ true → is_fitting parents g index ≡ true
 unfolding is_fitting
-fitting_weaker parents None g place more h = cc
-fitting_weaker parents (Some types) g place more h = rw (more types refl) h
+fitting_weaker parents None g index more h = cc
+fitting_weaker parents (Some types) g index more h = rw (more types refl) h
 
-terms_weaker : (parents : List ℕ) (f g : Term → Option (List ℕ)) → ((t : Term) (types : List ℕ) → f t ≡ Some types → g t ≡ Some types) → (terms : List Term) (places : List (List ℕ)) →
-    list_all (λ p. is_fitting parents p.0 p.1) (zip (map f terms) places) ≡ true → list_all (λ p. is_fitting parents p.0 p.1) (zip (map g terms) places) ≡ true
-terms_weaker parents f g more [] places h = refl
+terms_weaker : (parents : List ℕ) (f g : Term → Option (List ℕ)) → ((t : Term) (types : List ℕ) → f t ≡ Some types → g t ≡ Some types) → (terms : List Term) (indexes : List (List ℕ)) →
+    list_all (λ p. is_fitting parents p.0 p.1) (zip (map f terms) indexes) ≡ true → list_all (λ p. is_fitting parents p.0 p.1) (zip (map g terms) indexes) ≡ true
+terms_weaker parents f g more [] indexes h = refl
 terms_weaker parents f g more (t ∷ ts) [] h = refl
 terms_weaker parents f g more (t ∷ ts) (p ∷ ps) h =
     let parts = and_parts (is_fitting parents (f t) p) (list_all (λ p. is_fitting parents p.0 p.1) (zip (map f ts) ps)) h in
@@ -47,10 +47,10 @@ are_fitting-weaker : (parents : List ℕ) (f g : Term → Option (List ℕ)) →
     are_fitting parents (map f terms) found ≡ true → are_fitting parents (map g terms) found ≡ true
 unfolding are_fitting
 are_fitting-weaker parents f g more terms None h = cc
-are_fitting-weaker parents f g more terms (Some places) h =
-    let parts = and_parts (nat_eq (length (map f terms)) (length places)) (list_all (λ p. is_fitting parents p.0 p.1) (zip (map f terms) places)) h in
+are_fitting-weaker parents f g more terms (Some indexes) h =
+    let parts = and_parts (nat_eq (length (map f terms)) (length indexes)) (list_all (λ p. is_fitting parents p.0 p.1) (zip (map f terms) indexes)) h in
     let same : length (map g terms) ≡ length (map f terms) = length-map terms g ∙ sym (length-map terms f) in
-    rw (same, parts.0, terms_weaker parents f g more terms places parts.1) refl
+    rw (same, parts.0, terms_weaker parents f g more terms indexes parts.1) refl
 
 -- the task with other objects
 abbrev over : TaskParts → Objects → TaskParts
@@ -64,7 +64,7 @@ object_stays task objects front n type h =
 types_stay : (task : TaskParts) (objects : Objects) → IsFront task.objects objects → (params : List (List ℕ)) (t : Term) (types : List ℕ) →
     term_types task.objects params t ≡ Some types → term_types objects params t ≡ Some types
 unfolding term_types
-types_stay task objects front params (Param place) types h = h
+types_stay task objects front params (Param index) types h = h
 types_stay task objects front params (Object n) types h = by (slice_get (values_of task.objects) n) (object_stays task objects front n) h
   where
     by : (found : Option ℕ) → ((type : ℕ) → found ≡ Some type → slice_get (values_of objects) n ≡ Some type) → option_map (λ type. type ∷ []) found ≡ Some types →
@@ -82,7 +82,7 @@ pattern_stays task objects front params p h =
 known_stays : (task : TaskParts) (objects : Objects) → IsFront task.objects objects → (params : List (List ℕ)) (t : Term) →
     is_known task params t ≡ true → is_known (over task objects) params t ≡ true
 unfolding is_known is_object
-known_stays task objects front params (Param place) h = h
+known_stays task objects front params (Param index) h = h
 known_stays task objects front params (Object n) h =
     let within : n < length task.objects = ltb-true n (length task.objects) h in
     let more : length objects ≡ length task.objects + length front.0 = ap length front.1 ∙ length-append task.objects front.0 in

@@ -88,16 +88,16 @@ taken_within predicates number count h = by (slice_get (values_of predicates) nu
   where
     by : (found : Option (List (List ℕ))) → slice_get (values_of predicates) number ≡ found → are_as_many found count ≡ true → number < length predicates
     by None e k = cc
-    by (Some places) e k =
-        let lt : number < length (values_of predicates) = slice_get_within (values_of predicates) number places e in
+    by (Some argument_types) e k =
+        let lt : number < length (values_of predicates) = slice_get_within (values_of predicates) number argument_types e in
         let same : length (values_of predicates) ≡ length predicates = length-map predicates (λ (e : List ℕ × List (List ℕ)). e.1) in
         omega arith
 
--- the places of a predicate are those of its entry
-pub places_counted : (predicates : Predicates) (number count : ℕ) (name : List ℕ) (places : List (List ℕ)) →
-    slice_get predicates number ≡ Some (name, places) → takes_terms predicates number count ≡ nat_eq (length places) count
+-- the argument types of a predicate are those of its entry
+pub argument_types_counted : (predicates : Predicates) (number count : ℕ) (name : List ℕ) (argument_types : List (List ℕ)) →
+    slice_get predicates number ≡ Some (name, argument_types) → takes_terms predicates number count ≡ nat_eq (length argument_types) count
 unfolding takes_terms
-places_counted predicates number count name places h = rw (slice_get-map (λ (e : List ℕ × List (List ℕ)). e.1) predicates number, h) refl
+argument_types_counted predicates number count name argument_types h = rw (slice_get-map (λ (e : List ℕ × List (List ℕ)). e.1) predicates number, h) refl
 
 pub value_unnamed : {V : Type 0} (table : List (List ℕ × V)) (name : List ℕ) → number_named table name ≡ None → value_named table name ≡ None
 unfolding value_named value_at
@@ -108,9 +108,9 @@ pub value_numbered : {V : Type 0} (table : List (List ℕ × V)) (name key : Lis
 unfolding value_named value_at
 value_numbered {V} table name key number value h e = rw (h, slice_get-map (λ (entry : List ℕ × V). entry.1) table number, e) refl
 
-pub places_at : (predicates : Predicates) (number : ℕ) (name : List ℕ) (places : List (List ℕ)) → slice_get predicates number ≡ Some (name, places) →
-    slice_get (values_of predicates) number ≡ Some places
-places_at predicates number name places h = rw (slice_get-map (λ (e : List ℕ × List (List ℕ)). e.1) predicates number, h) refl
+pub argument_types_at : (predicates : Predicates) (number : ℕ) (name : List ℕ) (argument_types : List (List ℕ)) → slice_get predicates number ≡ Some (name, argument_types) →
+    slice_get (values_of predicates) number ≡ Some argument_types
+argument_types_at predicates number name argument_types h = rw (slice_get-map (λ (e : List ℕ × List (List ℕ)). e.1) predicates number, h) refl
 
 -- the entry with a number that a name has
 entry_from : {V : Type 0} (name : List ℕ) (at number : ℕ) (entries : List (List ℕ × V)) → position_from (bytes_eq name) at (keys_of entries) ≡ Some number →

@@ -1,4 +1,4 @@
--- Terms in their places, one equation for each case.
+-- Terms that fit an argument's types, one equation for each case.
 
 use Rattle.std.proofs.Common.{◌≡◌, ℕ, true, false, List, [], ◌∷◌, Option, Some, None, refl}
 use Rattle.std.proofs.lemmas.List.{append-nil}
@@ -8,7 +8,7 @@ use Rattle.strips_task.specs.declared.actions.Term.TheVariants.{Param, Object}
 use Rattle.strips_task.specs.Names.{number_named}
 use Rattle.strips_task.specs.WellFormed.{is_fitting, term_types}
 use Rattle.pddl_syntax.specs.declared.walk.Word.{Word}
-use Rattle.pddl_reader.specs.Declarations.{Known, fitted_all, object_number, term_named, term_fitted, term_in_place, object_fitted, object_in_place}
+use Rattle.pddl_reader.specs.Declarations.{Known, fitted_all, object_number, term_named, term_fitted, fitting_term, object_fitted, fitting_object}
 use Rattle.pddl_syntax.specs.Forms.{word_forms}
 use Rattle.pddl_syntax.specs.Heads.{is_variable}
 use Rattle.pddl_reader.specs.Objects.{Objects}
@@ -23,30 +23,30 @@ object_named objects w = refl
 
 pub ruleset object_steps = (object_named)
 
-pub object_missing : (known : Known) (place w : List ℕ) → object_number known.objects w ≡ None → object_in_place known place w ≡ None
-unfolding object_in_place object_fitted
-object_missing known place w h = rw h refl
+pub object_missing : (known : Known) (allowed w : List ℕ) → object_number known.objects w ≡ None → fitting_object known allowed w ≡ None
+unfolding fitting_object object_fitted
+object_missing known allowed w h = rw h refl
 
-pub object_misplaced : (known : Known) (place w : List ℕ) (number : ℕ) → object_number known.objects w ≡ Some number →
-    is_fitting known.parents (term_types known.objects [] (Object number)) place ≡ false → object_in_place known place w ≡ None
-unfolding object_in_place object_fitted guard
-object_misplaced known place w number h e = rw (h, e) refl
+pub object_unfit : (known : Known) (allowed w : List ℕ) (number : ℕ) → object_number known.objects w ≡ Some number →
+    is_fitting known.parents (term_types known.objects [] (Object number)) allowed ≡ false → fitting_object known allowed w ≡ None
+unfolding fitting_object object_fitted guard
+object_unfit known allowed w number h e = rw (h, e) refl
 
-pub object_placed : (known : Known) (place w : List ℕ) (number : ℕ) → object_number known.objects w ≡ Some number →
-    is_fitting known.parents (term_types known.objects [] (Object number)) place ≡ true → object_in_place known place w ≡ Some number
-unfolding object_in_place object_fitted guard
-object_placed known place w number h e = rw (h, e) refl
+pub object_fit : (known : Known) (allowed w : List ℕ) (number : ℕ) → object_number known.objects w ≡ Some number →
+    is_fitting known.parents (term_types known.objects [] (Object number)) allowed ≡ true → fitting_object known allowed w ≡ Some number
+unfolding fitting_object object_fitted guard
+object_fit known allowed w number h e = rw (h, e) refl
 
-pub ruleset object_place_steps = (object_missing, object_misplaced, object_placed)
+pub ruleset fitting_object_steps = (object_missing, object_unfit, object_fit)
 
 pub fitted_end : {A : Type 0} (front : List A) (fit : List ℕ → List ℕ → Option A) → with_front front (fitted_all fit [] (word_forms [])) ≡ Some front
 unfolding fitted_all with_front word_forms
 fitted_end front fit = rw append-nil refl
 
-pub fitted_item : {A : Type 0} (front : List A) (fit : List ℕ → List ℕ → Option A) (place : List ℕ) (places : List (List ℕ)) (x : Word) (xs : List Word) →
-    with_front front (fitted_all fit (place ∷ places) (word_forms (x ∷ xs))) ≡ with_item front (fit place x.text.now) (fitted_all fit places (word_forms xs))
+pub fitted_item : {A : Type 0} (front : List A) (fit : List ℕ → List ℕ → Option A) (allowed : List ℕ) (argument_types : List (List ℕ)) (x : Word) (xs : List Word) →
+    with_front front (fitted_all fit (allowed ∷ argument_types) (word_forms (x ∷ xs))) ≡ with_item front (fit allowed x.text.now) (fitted_all fit argument_types (word_forms xs))
 unfolding fitted_all word_forms
-fitted_item front fit place places x xs = with_front-followed_by front (fit place x.text.now) (fitted_all fit places (word_forms xs))
+fitted_item front fit allowed argument_types x xs = with_front-followed_by front (fit allowed x.text.now) (fitted_all fit argument_types (word_forms xs))
 
 pub ruleset fitted_steps = (item_steps, word_item_steps, front_none, fitted_end, fitted_item, item_none, item_some)
 
@@ -70,18 +70,18 @@ constant_known known p w number h e = rw (h, e) refl
 
 pub ruleset term_steps = (variable_unknown, variable_known, constant_unknown, constant_known)
 
-pub term_missing : (known : Known) (p : Parameters) (place w : List ℕ) → term_named known p w ≡ None → term_in_place known p place w ≡ None
-unfolding term_in_place term_fitted
-term_missing known p place w h = rw h refl
+pub term_missing : (known : Known) (p : Parameters) (allowed w : List ℕ) → term_named known p w ≡ None → fitting_term known p allowed w ≡ None
+unfolding fitting_term term_fitted
+term_missing known p allowed w h = rw h refl
 
-pub term_misplaced : (known : Known) (p : Parameters) (place w : List ℕ) (term : Term) → term_named known p w ≡ Some term →
-    is_fitting known.parents (term_types known.objects p.types term) place ≡ false → term_in_place known p place w ≡ None
-unfolding term_in_place term_fitted guard
-term_misplaced known p place w term h e = rw (h, e) refl
+pub term_unfit : (known : Known) (p : Parameters) (allowed w : List ℕ) (term : Term) → term_named known p w ≡ Some term →
+    is_fitting known.parents (term_types known.objects p.types term) allowed ≡ false → fitting_term known p allowed w ≡ None
+unfolding fitting_term term_fitted guard
+term_unfit known p allowed w term h e = rw (h, e) refl
 
-pub term_placed : (known : Known) (p : Parameters) (place w : List ℕ) (term : Term) → term_named known p w ≡ Some term →
-    is_fitting known.parents (term_types known.objects p.types term) place ≡ true → term_in_place known p place w ≡ Some term
-unfolding term_in_place term_fitted guard
-term_placed known p place w term h e = rw (h, e) refl
+pub term_fit : (known : Known) (p : Parameters) (allowed w : List ℕ) (term : Term) → term_named known p w ≡ Some term →
+    is_fitting known.parents (term_types known.objects p.types term) allowed ≡ true → fitting_term known p allowed w ≡ Some term
+unfolding fitting_term term_fitted guard
+term_fit known p allowed w term h e = rw (h, e) refl
 
-pub ruleset term_place_steps = (term_missing, term_misplaced, term_placed)
+pub ruleset fitting_term_steps = (term_missing, term_unfit, term_fit)

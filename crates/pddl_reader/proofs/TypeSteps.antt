@@ -192,7 +192,7 @@ pub parents_start : (tables : TypeTables) → [] ++ map (λ entry. parent_number
 unfolding parents_of
 parents_start tables = refl
 
--- the entry at a place is the first of the rest
+-- the entry at an index is the first of the rest
 entry_at : {A : Type 0} (xs : List A) (i : ℕ) (x : A) → slice_get xs i ≡ Some x → drop i xs ≡ x ∷ drop (i + 1) xs
 entry_at {A} xs i x h = rw add-one (by xs i h)
   where

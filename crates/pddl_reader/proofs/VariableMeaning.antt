@@ -12,7 +12,7 @@ use Rattle.pddl_syntax.specs.Forms.{name_forms, word_forms, variable_group_form,
 use Rattle.pddl_reader.specs.Objects.{type_number}
 use Rattle.pddl_syntax.specs.Optional.{guard, through}
 use Rattle.pddl_syntax.specs.Syntax.{VariableGroup}
-use Rattle.pddl_reader.specs.Variables.{alternative_behind, alternative_named, alternatives_of, places_behind, group_placed, places_of, Parameters, parameter_number, parameter_named, parameters_with, group_named, parameters_of}
+use Rattle.pddl_reader.specs.Variables.{alternative_behind, alternative_named, alternatives_of, argument_types_with, with_group_types, argument_types_of, Parameters, parameter_number, parameter_named, parameters_with, group_named, parameters_of}
 use Rattle.std.proofs.lemmas.List.{drop_all}
 use Rattle.pddl_reader.proofs.Items.{word_at, word_item_steps}
 use Rattle.pddl_reader.proofs.ObjectSteps.{named_steps}
@@ -44,42 +44,42 @@ alternatives_start types words = refl
 
 pub ruleset alternative_steps = (through_steps, named_steps, alternatives_many, alternative_unknown, alternative_known, alternatives_start)
 
-pub variable_placed : (places : List (List ℕ)) (x : Word) (xs : List Word) (types : List ℕ) →
-    places_behind places (word_forms (x ∷ xs)) types ≡ places_behind (places ++ types ∷ []) (word_forms xs) types
-unfolding places_behind word_forms
-variable_placed places x xs types = rw append_assoc refl
+pub variable_typed : (argument_types : List (List ℕ)) (x : Word) (xs : List Word) (types : List ℕ) →
+    argument_types_with argument_types (word_forms (x ∷ xs)) types ≡ argument_types_with (argument_types ++ types ∷ []) (word_forms xs) types
+unfolding argument_types_with word_forms
+variable_typed argument_types x xs types = rw append_assoc refl
 
-pub none_placed : (places : List (List ℕ)) (types : List ℕ) → places_behind places (word_forms []) types ≡ places
-unfolding places_behind word_forms
-none_placed places types = append-nil places
+pub none_typed : (argument_types : List (List ℕ)) (types : List ℕ) → argument_types_with argument_types (word_forms []) types ≡ argument_types
+unfolding argument_types_with word_forms
+none_typed argument_types types = append-nil argument_types
 
-pub variable_at : (places : List (List ℕ)) (ws : List Word) (i : ℕ) (types : List ℕ) → i < length ws →
-    places_behind places (word_forms (drop i ws)) types ≡ places_behind (places ++ types ∷ []) (word_forms (drop (i + 1) ws)) types
-variable_at places [] i types lt = absurd (omega arith)
-variable_at places (w ∷ ws) i types lt =
-    rw ((word_at (w ∷ ws) i w lt).1) (variable_placed places (get_or (w ∷ ws) i w) (drop (i + 1) (w ∷ ws)) types)
+pub variable_at : (argument_types : List (List ℕ)) (ws : List Word) (i : ℕ) (types : List ℕ) → i < length ws →
+    argument_types_with argument_types (word_forms (drop i ws)) types ≡ argument_types_with (argument_types ++ types ∷ []) (word_forms (drop (i + 1) ws)) types
+variable_at argument_types [] i types lt = absurd (omega arith)
+variable_at argument_types (w ∷ ws) i types lt =
+    rw ((word_at (w ∷ ws) i w lt).1) (variable_typed argument_types (get_or (w ∷ ws) i w) (drop (i + 1) (w ∷ ws)) types)
 
-pub ruleset place_steps = (drop_all, variable_at, none_placed)
+pub ruleset variable_steps = (drop_all, variable_at, none_typed)
 
 word_forms-length : (ws : List Word) → length (word_forms ws) ≡ length ws
 unfolding word_forms
 word_forms-length ws = length-map ws (λ (w : Word). w.text.now)
 
-pub group_crowded : (types places : List (List ℕ)) (g : groups.VariableGroup) → nat_le (length places + length g.variables.items) 32 ≡ false →
-    group_placed types places (variable_group_form g) ≡ None
-unfolding group_placed guard
-group_crowded types places g h = rw (word_forms-length g.variables.items, h) refl
+pub group_crowded : (types argument_types : List (List ℕ)) (g : groups.VariableGroup) → nat_le (length argument_types + length g.variables.items) 32 ≡ false →
+    with_group_types types argument_types (variable_group_form g) ≡ None
+unfolding with_group_types guard
+group_crowded types argument_types g h = rw (word_forms-length g.variables.items, h) refl
 
-pub group_untyped : (types places : List (List ℕ)) (g : groups.VariableGroup) → alternatives_of types (name_forms g.kinds.items) ≡ None →
-    group_placed types places (variable_group_form g) ≡ None
-unfolding group_placed
-group_untyped types places g h = rw h (guard_none (nat_le (length places + length (word_forms g.variables.items)) 32))
+pub group_untyped : (types argument_types : List (List ℕ)) (g : groups.VariableGroup) → alternatives_of types (name_forms g.kinds.items) ≡ None →
+    with_group_types types argument_types (variable_group_form g) ≡ None
+unfolding with_group_types
+group_untyped types argument_types g h = rw h (guard_none (nat_le (length argument_types + length (word_forms g.variables.items)) 32))
 
-pub group_typed : (types places : List (List ℕ)) (g : groups.VariableGroup) (numbers : List ℕ) → nat_le (length places + length g.variables.items) 32 ≡ true →
+pub group_typed : (types argument_types : List (List ℕ)) (g : groups.VariableGroup) (numbers : List ℕ) → nat_le (length argument_types + length g.variables.items) 32 ≡ true →
     alternatives_of types (name_forms g.kinds.items) ≡ Some numbers →
-    group_placed types places (variable_group_form g) ≡ Some (places_behind places (word_forms g.variables.items) numbers)
-unfolding group_placed guard
-group_typed types places g numbers h e = rw (word_forms-length g.variables.items, h, e) refl
+    with_group_types types argument_types (variable_group_form g) ≡ Some (argument_types_with argument_types (word_forms g.variables.items) numbers)
+unfolding with_group_types guard
+group_typed types argument_types g numbers h e = rw (word_forms-length g.variables.items, h, e) refl
 
 pub ruleset group_steps = (group_crowded, group_untyped, group_typed)
 
@@ -92,30 +92,30 @@ pub groups_end : {S : Type 0} (step : S → VariableGroup → Option S) (state :
 unfolding variable_groups
 groups_end step state = through_end step state
 
-pub places_start : (types : List (List ℕ)) (groups : List VariableGroup) → places_of types groups ≡ through (group_placed types) [] groups
-unfolding places_of
-places_start types groups = refl
+pub argument_types_start : (types : List (List ℕ)) (groups : List VariableGroup) → argument_types_of types groups ≡ through (with_group_types types) [] groups
+unfolding argument_types_of
+argument_types_start types groups = refl
 
--- where a group has places there is room for them
+-- where a group has argument types there is room for them
 none_some : {A : Type 0} (x : A) → None ≡ Some x → ⊥
 none_some x h = cc
 
-room_kept : (types places : List (List ℕ)) (group : VariableGroup) (more : List (List ℕ)) → group_placed types places group ≡ Some more → length more ≤ 32
-unfolding group_placed places_behind
-room_kept types places group more h = by (alternatives_of types group.types) h
+room_kept : (types argument_types : List (List ℕ)) (group : VariableGroup) (more : List (List ℕ)) → with_group_types types argument_types group ≡ Some more → length more ≤ 32
+unfolding with_group_types argument_types_with
+room_kept types argument_types group more h = by (alternatives_of types group.types) h
   where
-    by : (found : Option (List ℕ)) → guard (nat_le (length places + length group.variables) 32) (option_map (λ ts. places ++ map (λ _. ts) group.variables) found) ≡ Some more → length more ≤ 32
-    by None e = absurd (let z : None ≡ Some more = sym (guard_none (nat_le (length places + length group.variables) 32)) ∙ e in none_some more z)
+    by : (found : Option (List ℕ)) → guard (nat_le (length argument_types + length group.variables) 32) (option_map (λ ts. argument_types ++ map (λ _. ts) group.variables) found) ≡ Some more → length more ≤ 32
+    by None e = absurd (let z : None ≡ Some more = sym (guard_none (nat_le (length argument_types + length group.variables) 32)) ∙ e in none_some more z)
     by (Some ts) e =
-        let held = guard_held (nat_le (length places + length group.variables) 32) (places ++ map (λ _. ts) group.variables) more e in
-        let le : length places + length group.variables ≤ 32 = leb-true (length places + length group.variables) 32 held.0 in
+        let held = guard_held (nat_le (length argument_types + length group.variables) 32) (argument_types ++ map (λ _. ts) group.variables) more e in
+        let le : length argument_types + length group.variables ≤ 32 = leb-true (length argument_types + length group.variables) 32 held.0 in
         rw (← held.1, length-append, length-map) le
 
-pub room_stays : (types places : List (List ℕ)) (g : groups.VariableGroup) (more : List (List ℕ)) →
-    group_placed types places (variable_group_form g) ≡ Some more → length more ≤ 32
-room_stays types places g more h = room_kept types places (variable_group_form g) more h
+pub room_stays : (types argument_types : List (List ℕ)) (g : groups.VariableGroup) (more : List (List ℕ)) →
+    with_group_types types argument_types (variable_group_form g) ≡ Some more → length more ≤ 32
+room_stays types argument_types g more h = room_kept types argument_types (variable_group_form g) more h
 
-pub ruleset places_steps = (through_steps, groups_item, groups_end, places_start, room_stays)
+pub ruleset argument_types_steps = (through_steps, groups_item, groups_end, argument_types_start, room_stays)
 
 pub position_found : (i : ℕ) (word : List ℕ) (x : Word) (xs : List Word) → is_same_word word x.text.now ≡ true →
     position_from (is_same_word word) i (word_forms (x ∷ xs)) ≡ Some i
@@ -188,7 +188,7 @@ group_without_types types parameters g h = rw h (by (through parameter_named par
 
 pub group_both : (types : List (List ℕ)) (parameters : Parameters) (g : groups.VariableGroup) (names : List (List ℕ)) (numbers : List ℕ) →
     through parameter_named parameters.names (word_forms g.variables.items) ≡ Some names → alternatives_of types (name_forms g.kinds.items) ≡ Some numbers →
-    group_named types parameters (variable_group_form g) ≡ Some (record { names = names; types = places_behind parameters.types (word_forms g.variables.items) numbers })
+    group_named types parameters (variable_group_form g) ≡ Some (record { names = names; types = argument_types_with parameters.types (word_forms g.variables.items) numbers })
 unfolding group_named parameters_with
 group_both types parameters g names numbers h e = rw (h, e) refl
 
@@ -196,9 +196,9 @@ pub ruleset group_named_steps = (group_unnamed, group_without_types, group_both)
 
 pub ruleset declared_steps = (groups_item, groups_end)
 
-pub parameters_start : (types : List (List ℕ)) (names : List Word) (places : List (List ℕ)) (groups : List VariableGroup) → names ≡ [] → places ≡ [] →
-    through (group_named types) (record { names = word_forms names; types = places }) groups ≡ parameters_of types groups
+pub parameters_start : (types : List (List ℕ)) (names : List Word) (argument_types : List (List ℕ)) (groups : List VariableGroup) → names ≡ [] → argument_types ≡ [] →
+    through (group_named types) (record { names = word_forms names; types = argument_types }) groups ≡ parameters_of types groups
 unfolding parameters_of
-parameters_start types names places groups h e = rw (h, e, no_words) refl
+parameters_start types names argument_types groups h e = rw (h, e, no_words) refl
 
 pub ruleset parameters_steps = (parameters_start)

@@ -23,10 +23,10 @@ use Rattle.pddl_reader.specs.declared.resolution.actions.Effects.{Effects}
 use Rattle.pddl_syntax.specs.declared.dialect.Dialect.{Dialect}
 use Rattle.pddl_syntax.specs.Optional.{guard, followed_by}
 use Rattle.pddl_reader.specs.Declarations.{Predicates, may_declare, declared, pattern_of, condition, term_named, equality_by, condition_of, conditions_of, Known}
-use Rattle.pddl_reader.specs.Variables.{Parameters, places_of, parameters_of}
+use Rattle.pddl_reader.specs.Variables.{Parameters, argument_types_of, parameters_of}
 use Rattle.pddl_reader.proofs.FittingAtoms.{known_of, vocabulary_of, pattern_fits}
 use Rattle.pddl_reader.proofs.KnownTerms.{term_known}
-use Rattle.pddl_reader.proofs.KeptVariables.{places_kept, parameters_kept, parameters_paired}
+use Rattle.pddl_reader.proofs.KeptVariables.{argument_types_kept, parameters_kept, parameters_paired}
 use Rattle.pddl_reader.proofs.Through.{through_keeps}
 use Rattle.pddl_reader.specs.Domain.{DomainValue, declared_predicate, vocabulary_by, action_by, with_predicate, predicates_from, may_have, with_function, functions_from, no_effects, changed, with_change, increased, with_effect, effects_of, action_doing, action_with, action_meant, Actions, no_actions, tables_with, declared_action, with_action_of, actions_from, head, head_typed, head_of, domain_value, domain_with}
 use Rattle.pddl_reader.specs.DomainTables.{bare_task, IsDomain}
@@ -69,9 +69,9 @@ kept_declared : {V : Type 0} (test : V → Bool) (table more : List (List ℕ ×
 unfolding declared
 kept_declared test table more name value kept passes h = kept_declared_if test table more name value (may_declare 4096 table name) refl kept passes h
 
-predicate_kept_by : (parents : List ℕ) (table more : Predicates) (name : List ℕ) (places : Option (List (List ℕ))) →
-    ((ps : List (List ℕ)) → places ≡ Some ps → are_variables parents ps ≡ true) → IsKept (are_variables parents) table →
-    declared_predicate table name places ≡ Some more → IsKept (are_variables parents) more
+predicate_kept_by : (parents : List ℕ) (table more : Predicates) (name : List ℕ) (argument_types : Option (List (List ℕ))) →
+    ((ps : List (List ℕ)) → argument_types ≡ Some ps → are_variables parents ps ≡ true) → IsKept (are_variables parents) table →
+    declared_predicate table name argument_types ≡ Some more → IsKept (are_variables parents) more
 unfolding declared_predicate
 predicate_kept_by parents table more name None typed kept h = cc
 predicate_kept_by parents table more name (Some ps) typed kept h = kept_declared (are_variables parents) table more name ps kept (typed ps refl) h
@@ -80,7 +80,7 @@ predicate_kept : (parents : List ℕ) (types : List (List ℕ)) → length types
     IsKept (are_variables parents) table → with_predicate types table p ≡ Some more → IsKept (are_variables parents) more
 unfolding with_predicate
 predicate_kept parents types is table p more kept h =
-    predicate_kept_by parents table more (folded p.name) (places_of types p.variables) (λ ps e. places_kept parents types p.variables ps is e) kept h
+    predicate_kept_by parents table more (folded p.name) (argument_types_of types p.variables) (λ ps e. argument_types_kept parents types p.variables ps is e) kept h
 
 -- predicates are declared in order
 kept_predicates : (parents : List ℕ) (types : List (List ℕ)) → length types ≡ length parents → (table : Predicates) (ps : List PredicateForm) (more : Predicates) →

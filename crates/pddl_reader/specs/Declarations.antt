@@ -33,7 +33,7 @@ declared most table name value = guard (may_declare most table name) (Some (tabl
 -- whether there is a predicate, and it has `count` arguments
 abbrev pub are_as_many : Option (List (List ℕ)) → ℕ → Bool
 are_as_many None count = false
-are_as_many (Some places) count = nat_eq (length places) count
+are_as_many (Some argument_types) count = nat_eq (length argument_types) count
 
 -- whether the predicate with a number takes `count` terms
 unfoldable pub takes_terms : Predicates → ℕ → ℕ → Bool
@@ -58,13 +58,13 @@ pub record Known : Type 0 where
 unfoldable pub fitted_all : {A : Type 0} → (List ℕ → List ℕ → Option A) → List (List ℕ) → List (List ℕ) → Option (List A)
 fitted_all fit [] [] = Some []
 fitted_all fit [] (word ∷ words) = None
-fitted_all fit (place ∷ places) [] = None
-fitted_all fit (place ∷ places) (word ∷ words) = followed_by (fit place word) (fitted_all fit places words)
+fitted_all fit (allowed ∷ argument_types) [] = None
+fitted_all fit (allowed ∷ argument_types) (word ∷ words) = followed_by (fit allowed word) (fitted_all fit argument_types words)
 
 -- what the words stand for, if there is such a predicate and each word fits its argument
-unfoldable pub fitted_places : {A : Type 0} → (List ℕ → List ℕ → Option A) → Option (List (List ℕ)) → List (List ℕ) → Option (List A)
-fitted_places fit None words = None
-fitted_places fit (Some places) words = fitted_all fit places words
+unfoldable pub fitted_arguments : {A : Type 0} → (List ℕ → List ℕ → Option A) → Option (List (List ℕ)) → List (List ℕ) → Option (List A)
+fitted_arguments fit None words = None
+fitted_arguments fit (Some argument_types) words = fitted_all fit argument_types words
 
 -- the number of the object that a word names
 unfoldable pub object_number : Objects → List ℕ → Option ℕ
@@ -78,21 +78,21 @@ term_named known parameters word =
 
 -- a term that fits its argument: each of its types is below some type that the argument may have
 unfoldable pub term_fitted : Known → List (List ℕ) → List ℕ → Option Term → Option Term
-term_fitted known params place None = None
-term_fitted known params place (Some term) = guard (is_fitting known.parents (term_types known.objects params term) place) (Some term)
+term_fitted known params allowed None = None
+term_fitted known params allowed (Some term) = guard (is_fitting known.parents (term_types known.objects params term) allowed) (Some term)
 
 -- the term that a word stands for, if it fits its argument
-unfoldable pub term_in_place : Known → Parameters → List ℕ → List ℕ → Option Term
-term_in_place known parameters place word = term_fitted known parameters.types place (term_named known parameters word)
+unfoldable pub fitting_term : Known → Parameters → List ℕ → List ℕ → Option Term
+fitting_term known parameters allowed word = term_fitted known parameters.types allowed (term_named known parameters word)
 
 -- an object that fits its argument
 unfoldable pub object_fitted : Known → List ℕ → Option ℕ → Option ℕ
-object_fitted known place None = None
-object_fitted known place (Some number) = guard (is_fitting known.parents (term_types known.objects [] (Object number)) place) (Some number)
+object_fitted known allowed None = None
+object_fitted known allowed (Some number) = guard (is_fitting known.parents (term_types known.objects [] (Object number)) allowed) (Some number)
 
 -- the object that a word names, if it fits its argument
-unfoldable pub object_in_place : Known → List ℕ → List ℕ → Option ℕ
-object_in_place known place word = object_fitted known place (object_number known.objects word)
+unfoldable pub fitting_object : Known → List ℕ → List ℕ → Option ℕ
+fitting_object known allowed word = object_fitted known allowed (object_number known.objects word)
 
 -- a pattern of a predicate and terms
 abbrev pub pattern_with : ℕ → List Term → Pattern
@@ -102,7 +102,7 @@ pattern_with number terms = record { pred = number; terms = terms }
 unfoldable pub pattern_by : Known → Parameters → List (List ℕ) → Option ℕ → Option Pattern
 pattern_by known parameters words None = None
 pattern_by known parameters words (Some number) =
-    option_map (pattern_with number) (fitted_places (term_in_place known parameters) (slice_get (values_of known.predicates) number) words)
+    option_map (pattern_with number) (fitted_arguments (fitting_term known parameters) (slice_get (values_of known.predicates) number) words)
 
 -- the pattern that an atom of an action stands for
 unfoldable pub pattern_of : Known → Parameters → AtomForm → Option Pattern
@@ -116,7 +116,7 @@ ground_with number args = record { pred = number; args = args }
 unfoldable pub ground_by : Known → List (List ℕ) → Option ℕ → Option Atom
 ground_by known words None = None
 ground_by known words (Some number) =
-    option_map (ground_with number) (fitted_places (object_in_place known) (slice_get (values_of known.predicates) number) words)
+    option_map (ground_with number) (fitted_arguments (fitting_object known) (slice_get (values_of known.predicates) number) words)
 
 -- the ground atom that an atom of a problem stands for
 unfoldable pub ground_of : Known → AtomForm → Option Atom

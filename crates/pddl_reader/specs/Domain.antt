@@ -22,7 +22,7 @@ use Rattle.pddl_reader.specs.Declarations.{Predicates, declared, pattern_of, con
 use Rattle.pddl_syntax.specs.declared.dialect.Dialect.{Dialect}
 use Rattle.pddl_syntax.specs.Keywords.{total_cost_word}
 use Rattle.pddl_syntax.specs.Optional.{guard, through}
-use Rattle.pddl_reader.specs.Variables.{Parameters, parameters_of, places_of}
+use Rattle.pddl_reader.specs.Variables.{Parameters, parameters_of, argument_types_of}
 use Rattle.pddl_syntax.specs.Syntax.{VariableGroup, LiteralForm, atom_literal, equality_literal, increase_literal, value_literal, PredicateForm, ActionForm, DomainForm}
 
 -- what a domain says: its part of a task, the names of its types, its functions, and the increases of each action
@@ -39,11 +39,11 @@ pub record DomainValue : Type 0 where
 -- the table with one more predicate, if the types of its arguments are known
 unfoldable pub declared_predicate : Predicates → List ℕ → Option (List (List ℕ)) → Option Predicates
 declared_predicate table name None = None
-declared_predicate table name (Some places) = declared most_predicates table name places
+declared_predicate table name (Some argument_types) = declared most_predicates table name argument_types
 
 -- the table with one more predicate
 unfoldable pub with_predicate : List (List ℕ) → Predicates → PredicateForm → Option Predicates
-with_predicate types table predicate = declared_predicate table (folded predicate.name) (places_of types predicate.variables)
+with_predicate types table predicate = declared_predicate table (folded predicate.name) (argument_types_of types predicate.variables)
 
 -- the table with more predicates, in text order
 unfoldable pub predicates_from : List (List ℕ) → Predicates → List PredicateForm → Option Predicates

@@ -23,18 +23,18 @@ unfoldable pub alternatives_of : List (List ℕ) → List (List ℕ) → Option 
 alternatives_of types words = through (alternative_named types) [] words
 
 -- the types of arguments, followed by these types for each variable
-unfoldable pub places_behind : List (List ℕ) → List (List ℕ) → List ℕ → List (List ℕ)
-places_behind places variables types = places ++ map (λ _. types) variables
+unfoldable pub argument_types_with : List (List ℕ) → List (List ℕ) → List ℕ → List (List ℕ)
+argument_types_with argument_types variables types = argument_types ++ map (λ _. types) variables
 
 -- the types of arguments with those of a group; there are no more variables than the limit
-unfoldable pub group_placed : List (List ℕ) → List (List ℕ) → VariableGroup → Option (List (List ℕ))
-group_placed types places group =
-    guard (nat_le (length places + length group.variables) most_variables)
-    (option_map (places_behind places group.variables) (alternatives_of types group.types))
+unfoldable pub with_group_types : List (List ℕ) → List (List ℕ) → VariableGroup → Option (List (List ℕ))
+with_group_types types argument_types group =
+    guard (nat_le (length argument_types + length group.variables) most_variables)
+    (option_map (argument_types_with argument_types group.variables) (alternatives_of types group.types))
 
 -- for each variable the types that it may have
-unfoldable pub places_of : List (List ℕ) → List VariableGroup → Option (List (List ℕ))
-places_of types groups = through (group_placed types) [] groups
+unfoldable pub argument_types_of : List (List ℕ) → List VariableGroup → Option (List (List ℕ))
+argument_types_of types groups = through (with_group_types types) [] groups
 
 -- the parameters of an action: their names, and for each the types that it may have
 pub record Parameters : Type 0 where
@@ -53,7 +53,7 @@ parameter_named names word = guard (nat_lt (length names) most_variables && is_n
 unfoldable pub parameters_with : Parameters → List (List ℕ) → Option (List (List ℕ)) → Option (List ℕ) → Option Parameters
 parameters_with parameters variables None types = None
 parameters_with parameters variables (Some names) None = None
-parameters_with parameters variables (Some names) (Some types) = Some (record { names = names; types = places_behind parameters.types variables types })
+parameters_with parameters variables (Some names) (Some types) = Some (record { names = names; types = argument_types_with parameters.types variables types })
 
 -- the parameters with those of a group
 unfoldable pub group_named : List (List ℕ) → Parameters → VariableGroup → Option Parameters

@@ -4,7 +4,7 @@ use Rattle.std.proofs.Common.{◌≡◌, ℕ, true, false, List, [], Option, Som
 use Rattle.std.specs.Option.{option_map, option_and_then}
 use Rattle.pddl_words.specs.Words.{is_name}
 use Rattle.pddl_syntax.specs.declared.dialect.Dialect.{Dialect}
-use Rattle.pddl_syntax.specs.declared.heads.Place.TheVariants as place
+use Rattle.pddl_syntax.specs.declared.heads.Context.TheVariants as context
 use Rattle.pddl_syntax.specs.declared.heads.ActionPart.{ActionPart}
 use Rattle.pddl_syntax.specs.declared.heads.ActionPart.TheVariants.{Parameters, Precondition, Effect}
 use Rattle.pddl_syntax.specs.Heads.{action_part, scope_at}
@@ -28,21 +28,21 @@ pub no_parameters_part : (dialect : Dialect) (given : ActionParts) (k : Trees) �
 unfolding part_by
 no_parameters_part dialect given k h = rw h refl
 
-pub precondition_part : (dialect : Dialect) (given : ActionParts) (k : Trees) (value : List LiteralForm) → formula_in (scope_at dialect place.Precondition) k ≡ Some value →
+pub precondition_part : (dialect : Dialect) (given : ActionParts) (k : Trees) (value : List LiteralForm) → formula_in (scope_at dialect context.Precondition) k ≡ Some value →
     part_by dialect Precondition given k ≡ Some (with_precondition given value)
 unfolding part_by
 precondition_part dialect given k value h = rw h refl
 
-pub no_precondition_part : (dialect : Dialect) (given : ActionParts) (k : Trees) → formula_in (scope_at dialect place.Precondition) k ≡ None → part_by dialect Precondition given k ≡ None
+pub no_precondition_part : (dialect : Dialect) (given : ActionParts) (k : Trees) → formula_in (scope_at dialect context.Precondition) k ≡ None → part_by dialect Precondition given k ≡ None
 unfolding part_by
 no_precondition_part dialect given k h = rw h refl
 
-pub effect_part : (dialect : Dialect) (given : ActionParts) (k : Trees) (value : List LiteralForm) → formula_in (scope_at dialect place.Effect) k ≡ Some value →
+pub effect_part : (dialect : Dialect) (given : ActionParts) (k : Trees) (value : List LiteralForm) → formula_in (scope_at dialect context.Effect) k ≡ Some value →
     part_by dialect Effect given k ≡ Some (with_effect given value)
 unfolding part_by
 effect_part dialect given k value h = rw h refl
 
-pub no_effect_part : (dialect : Dialect) (given : ActionParts) (k : Trees) → formula_in (scope_at dialect place.Effect) k ≡ None → part_by dialect Effect given k ≡ None
+pub no_effect_part : (dialect : Dialect) (given : ActionParts) (k : Trees) → formula_in (scope_at dialect context.Effect) k ≡ None → part_by dialect Effect given k ≡ None
 unfolding part_by
 no_effect_part dialect given k h = rw h refl
 

@@ -1,4 +1,4 @@
--- How much is still to come of a text at each place.
+-- How much is still to come of a text at each offset.
 
 use Rattle.std.proofs.Common.{ℕ, suc, ◌+◌, ◌<◌, ◌≤◌, ◌^◌, ◌≡◌, List, [], ◌∷◌, length, Option, Some, None, Result, Ok, Err, IsSome, refl, arith, ap, subst, sym, ◌∙◌}
 use Rattle.std.specs.Option.{option_map, option_and_then}

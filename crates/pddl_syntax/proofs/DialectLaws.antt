@@ -3,8 +3,8 @@
 use Rattle.std.proofs.Common.{◌≡◌, ◌∙◌, ℕ, Bool, true, false, ◌&&◌, if◌then◌else◌, not, List, [], ◌∷◌, Option, Some, None, unwrap_or, refl, ap, subst}
 use Rattle.std.specs.Option.{option_map, option_and_then}
 use Rattle.pddl_syntax.specs.declared.dialect.Dialect.TheVariants.{Strips, Ipc}
-use Rattle.pddl_syntax.specs.declared.heads.Place.{Place}
-use Rattle.pddl_syntax.specs.declared.heads.Place.TheVariants as place
+use Rattle.pddl_syntax.specs.declared.heads.Context.{Context}
+use Rattle.pddl_syntax.specs.declared.heads.Context.TheVariants as context
 use Rattle.pddl_syntax.specs.declared.heads.FormulaHead.{FormulaHead}
 use Rattle.pddl_syntax.specs.declared.heads.FormulaHead.TheVariants as formula
 use Rattle.pddl_syntax.specs.declared.heads.LiteralHead.TheVariants as head
@@ -58,32 +58,32 @@ keeps_ended (word w f) a b k x h = h
 keeps_ended (list i f) a b k x h = h
 
 -- before no list a name names a predicate
-named_alike : (p : Place) (w : List ℕ) → name_head (scope_at Ipc p) w false ≡ head.Atom
-named_alike place.Precondition w = refl
-named_alike place.Effect w = by (is_change w) (is_same_word w increase_word)
+named_alike : (p : Context) (w : List ℕ) → name_head (scope_at Ipc p) w false ≡ head.Atom
+named_alike context.Precondition w = refl
+named_alike context.Effect w = by (is_change w) (is_same_word w increase_word)
   where
     by : (change raises : Bool) → (if true && (change && false) then (if raises then head.Increase else head.Reserved) else head.Atom) ≡ head.Atom
     by true raises = refl
     by false raises = refl
-named_alike place.Initial w = refl
-named_alike place.Goal w = refl
+named_alike context.Initial w = refl
+named_alike context.Goal w = refl
 
 -- a reserved word heads nothing in the smaller language
-none_reserved : (p : Place) (w : List ℕ) (opens : Bool) → reserved_head (scope_at Strips p) w opens ≡ head.Reserved
+none_reserved : (p : Context) (w : List ℕ) (opens : Bool) → reserved_head (scope_at Strips p) w opens ≡ head.Reserved
 none_reserved p w opens = by (is_same_word w equals_word)
   where
     by : (equals : Bool) → (if equals then head.Reserved else head.Reserved) ≡ head.Reserved
     by true = refl
     by false = refl
 
-negated_name : (p : Place) (w : List ℕ) (f : Trees) →
+negated_name : (p : Context) (w : List ℕ) (f : Trees) →
     Keeps (signed_by false head.Atom (is_term p) w f) (signed_by false (name_head (scope_at Ipc p) w (begins_with_list f)) (is_term p) w f)
 unfolding begins_with_list atom_of words_of
 negated_name p w none x h = rw (named_alike p w) h
 negated_name p w (word v f) x h = rw (named_alike p w) h
 negated_name p w (list k f) x h = cc
 
-keeps_negated_in : (p : Place) (f : Trees) → Keeps (negated_in (scope_at Strips p) f) (negated_in (scope_at Ipc p) f)
+keeps_negated_in : (p : Context) (f : Trees) → Keeps (negated_in (scope_at Strips p) f) (negated_in (scope_at Ipc p) f)
 unfolding negated_in literal_head
 keeps_negated_in p none x h = cc
 keeps_negated_in p (word w f) x h = by (formula_head w) h
@@ -98,20 +98,20 @@ keeps_negated_in p (word w f) x h = by (formula_head w) h
     by formula.Other h = cc
 keeps_negated_in p (list k f) x h = cc
 
-keeps_negated : (p : Place) (f : Trees) → Keeps (negated_of (scope_at Strips p) f) (negated_of (scope_at Ipc p) f)
+keeps_negated : (p : Context) (f : Trees) → Keeps (negated_of (scope_at Strips p) f) (negated_of (scope_at Ipc p) f)
 unfolding negated_of
 keeps_negated p none x h = cc
 keeps_negated p (word w f) x h = cc
 keeps_negated p (list k f) x h = keeps_ended f (negated_in (scope_at Strips p) k) (negated_in (scope_at Ipc p) k) (keeps_negated_in p k) x h
 
-literal_name : (p : Place) (w : List ℕ) (f : Trees) →
+literal_name : (p : Context) (w : List ℕ) (f : Trees) →
     Keeps (literal_by head.Atom (scope_at Strips p) w f) (literal_by (name_head (scope_at Ipc p) w (begins_with_list f)) (scope_at Ipc p) w f)
 unfolding begins_with_list atom_of words_of
 literal_name p w none x h = rw (named_alike p w) h
 literal_name p w (word v f) x h = rw (named_alike p w) h
 literal_name p w (list k f) x h = cc
 
-keeps_literal : (p : Place) (w : List ℕ) (f : Trees) → Keeps (literal_of (scope_at Strips p) w f) (literal_of (scope_at Ipc p) w f)
+keeps_literal : (p : Context) (w : List ℕ) (f : Trees) → Keeps (literal_of (scope_at Strips p) w f) (literal_of (scope_at Ipc p) w f)
 unfolding literal_of literal_head
 keeps_literal p w f x h = by (formula_head w) h
   where
@@ -125,7 +125,7 @@ keeps_literal p w f x h = by (formula_head w) h
     by formula.Other h = cc
 
 -- of trees: what they hold as a formula, and what they hold as conjuncts
-keeps_formulas : (p : Place) (f : Trees) →
+keeps_formulas : (p : Context) (f : Trees) →
     Keeps (formula_in (scope_at Strips p) f) (formula_in (scope_at Ipc p) f) × Keeps (conjuncts_of (scope_at Strips p) f) (conjuncts_of (scope_at Ipc p) f)
 unfolding formula_in conjuncts_of
 keeps_formulas p none = ((λ x h. h), (λ x h. h))
@@ -141,7 +141,7 @@ keeps_formulas p (list k f) = (
       (keeps_formulas p k).0 (keeps_formulas p f).1 x h),
 )
 
-keeps_formula : (p : Place) (f : Trees) → Keeps (formula_in (scope_at Strips p) f) (formula_in (scope_at Ipc p) f)
+keeps_formula : (p : Context) (f : Trees) → Keeps (formula_in (scope_at Strips p) f) (formula_in (scope_at Ipc p) f)
 keeps_formula p f = (keeps_formulas p f).0
 
 keeps_initial : (f : Trees) → Keeps (lists_of (init_item_in Strips) f) (lists_of (init_item_in Ipc) f)
@@ -150,23 +150,23 @@ keeps_initial none x h = h
 keeps_initial (word w f) x h = cc
 keeps_initial (list none f) x h = keeps_followed None None (lists_of (init_item_in Strips) f) (lists_of (init_item_in Ipc) f) (λ y e. e) (keeps_initial f) x h
 keeps_initial (list (word w k) f) x h =
-    keeps_followed (literal_of (scope_at Strips place.Initial) w k) (literal_of (scope_at Ipc place.Initial) w k)
-    (lists_of (init_item_in Strips) f) (lists_of (init_item_in Ipc) f) (keeps_literal place.Initial w k) (keeps_initial f) x h
+    keeps_followed (literal_of (scope_at Strips context.Initial) w k) (literal_of (scope_at Ipc context.Initial) w k)
+    (lists_of (init_item_in Strips) f) (lists_of (init_item_in Ipc) f) (keeps_literal context.Initial w k) (keeps_initial f) x h
 keeps_initial (list (list j k) f) x h = keeps_followed None None (lists_of (init_item_in Strips) f) (lists_of (init_item_in Ipc) f) (λ y e. e) (keeps_initial f) x h
 
 keeps_goal : (f : Trees) → Keeps (goal_of Strips f) (goal_of Ipc f)
 unfolding goal_of
 keeps_goal none x h = cc
 keeps_goal (word w f) x h = cc
-keeps_goal (list k f) x h = keeps_ended f (formula_in (scope_at Strips place.Goal) k) (formula_in (scope_at Ipc place.Goal) k) (keeps_formula place.Goal k) x h
+keeps_goal (list k f) x h = keeps_ended f (formula_in (scope_at Strips context.Goal) k) (formula_in (scope_at Ipc context.Goal) k) (keeps_formula context.Goal k) x h
 
 keeps_part : (named : ActionPart) (given : ActionParts) (f : Trees) → Keeps (part_by Strips named given f) (part_by Ipc named given f)
 unfolding part_by
 keeps_part part.Parameters given f x h = h
 keeps_part part.Precondition given f x h =
-    keeps_map (with_precondition given) (formula_in (scope_at Strips place.Precondition) f) (formula_in (scope_at Ipc place.Precondition) f) (keeps_formula place.Precondition f) x h
+    keeps_map (with_precondition given) (formula_in (scope_at Strips context.Precondition) f) (formula_in (scope_at Ipc context.Precondition) f) (keeps_formula context.Precondition f) x h
 keeps_part part.Effect given f x h =
-    keeps_map (with_effect given) (formula_in (scope_at Strips place.Effect) f) (formula_in (scope_at Ipc place.Effect) f) (keeps_formula place.Effect f) x h
+    keeps_map (with_effect given) (formula_in (scope_at Strips context.Effect) f) (formula_in (scope_at Ipc context.Effect) f) (keeps_formula context.Effect f) x h
 
 keeps_part_named : (named : Option ActionPart) (given : ActionParts) (f : Trees) → Keeps (part_named Strips named given f) (part_named Ipc named given f)
 unfolding part_named

@@ -266,14 +266,14 @@ unfolding is_negated_in negated_in
 negated_in_list scope k f = refl
 
 pub negated_in_atom : (scope : Scope) (w : List ℕ) (f : Trees) → literal_head scope w (begins_with_list f) ≡ head.Atom →
-    is_negated_in scope (word w f) ≡ are_words (is_term scope.place) f
+    is_negated_in scope (word w f) ≡ are_words (is_term scope.context) f
 unfolding is_negated_in negated_in
-negated_in_atom scope w f h = rw h (some_atom false (is_term scope.place) w f)
+negated_in_atom scope w f h = rw h (some_atom false (is_term scope.context) w f)
 
 pub negated_in_equality : (scope : Scope) (w : List ℕ) (f : Trees) → literal_head scope w (begins_with_list f) ≡ head.Equality →
-    is_negated_in scope (word w f) ≡ is_equality (is_term scope.place) f
+    is_negated_in scope (word w f) ≡ is_equality (is_term scope.context) f
 unfolding is_negated_in negated_in is_equality
-negated_in_equality scope w f h = rw h (is_some-option_map _ (equality_of (is_term scope.place) f))
+negated_in_equality scope w f h = rw h (is_some-option_map _ (equality_of (is_term scope.context) f))
 
 pub negated_in_not : (scope : Scope) (w : List ℕ) (f : Trees) → literal_head scope w (begins_with_list f) ≡ head.Not → is_negated_in scope (word w f) ≡ false
 unfolding is_negated_in negated_in
@@ -325,28 +325,28 @@ negated_alone scope k (list j f) e = cc
 pub ruleset negated_steps = (negated_no_list, negated_refused, negated_more, negated_alone)
 
 pub literal_atom : (scope : Scope) (w : List ℕ) (f : Trees) → literal_head scope w (begins_with_list f) ≡ head.Atom →
-    is_literal scope w f ≡ are_words (is_term scope.place) f
+    is_literal scope w f ≡ are_words (is_term scope.context) f
 unfolding is_literal literal_of
-literal_atom scope w f h = rw h (some_atom true (is_term scope.place) w f)
+literal_atom scope w f h = rw h (some_atom true (is_term scope.context) w f)
 
 pub literal_not : (scope : Scope) (w : List ℕ) (f : Trees) → literal_head scope w (begins_with_list f) ≡ head.Not → is_literal scope w f ≡ is_negated scope f
 unfolding is_literal is_negated literal_of
 literal_not scope w f h = rw h refl
 
 pub literal_equality : (scope : Scope) (w : List ℕ) (f : Trees) → literal_head scope w (begins_with_list f) ≡ head.Equality →
-    is_literal scope w f ≡ is_equality (is_term scope.place) f
+    is_literal scope w f ≡ is_equality (is_term scope.context) f
 unfolding is_literal literal_of is_equality
-literal_equality scope w f h = rw h (is_some-option_map _ (equality_of (is_term scope.place) f))
+literal_equality scope w f h = rw h (is_some-option_map _ (equality_of (is_term scope.context) f))
 
 pub literal_value : (scope : Scope) (w : List ℕ) (f : Trees) → literal_head scope w (begins_with_list f) ≡ head.Value →
-    is_literal scope w f ≡ is_value (is_term scope.place) f
+    is_literal scope w f ≡ is_value (is_term scope.context) f
 unfolding is_literal literal_of is_value
-literal_value scope w f h = rw h (is_some-option_map _ (value_of (is_term scope.place) f))
+literal_value scope w f h = rw h (is_some-option_map _ (value_of (is_term scope.context) f))
 
 pub literal_increase : (scope : Scope) (w : List ℕ) (f : Trees) → literal_head scope w (begins_with_list f) ≡ head.Increase →
-    is_literal scope w f ≡ is_increase (is_term scope.place) f
+    is_literal scope w f ≡ is_increase (is_term scope.context) f
 unfolding is_literal literal_of is_increase
-literal_increase scope w f h = rw h (is_some-option_map _ (increase_of (is_term scope.place) f))
+literal_increase scope w f h = rw h (is_some-option_map _ (increase_of (is_term scope.context) f))
 
 pub literal_reserved : (scope : Scope) (w : List ℕ) (f : Trees) → literal_head scope w (begins_with_list f) ≡ head.Reserved → is_literal scope w f ≡ false
 unfolding is_literal literal_of

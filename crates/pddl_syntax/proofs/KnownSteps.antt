@@ -317,15 +317,15 @@ pub negated_atom : (scope : Scope) (w : List ℕ) (f : Trees) → literal_head s
     negated_in scope (word w f) ≡ option_map (atom_literal false) (atom_of is_any w f)
 unfolding negated_in
 negated_atom scope w f e h =
-    let there : IsSome (option_map (atom_literal false) (atom_of (is_term scope.place) w f)) = rw e at h in
-    rw e (ap (option_map (atom_literal false)) (any_atom (is_term scope.place) w f (mapped_there (atom_literal false) (atom_of (is_term scope.place) w f) there)))
+    let there : IsSome (option_map (atom_literal false) (atom_of (is_term scope.context) w f)) = rw e at h in
+    rw e (ap (option_map (atom_literal false)) (any_atom (is_term scope.context) w f (mapped_there (atom_literal false) (atom_of (is_term scope.context) w f) there)))
 
 pub negated_equality : (scope : Scope) (w : List ℕ) (f : Trees) → literal_head scope w (begins_with_list f) ≡ head.Equality → IsSome (negated_in scope (word w f)) →
     negated_in scope (word w f) ≡ option_map (equality_literal false) (equality_of is_any f)
 unfolding negated_in
 negated_equality scope w f e h =
-    let there : IsSome (option_map (equality_literal false) (equality_of (is_term scope.place) f)) = rw e at h in
-    rw e (ap (option_map (equality_literal false)) (any_equality (is_term scope.place) f (mapped_there (equality_literal false) (equality_of (is_term scope.place) f) there)))
+    let there : IsSome (option_map (equality_literal false) (equality_of (is_term scope.context) f)) = rw e at h in
+    rw e (ap (option_map (equality_literal false)) (any_equality (is_term scope.context) f (mapped_there (equality_literal false) (equality_of (is_term scope.context) f) there)))
 
 pub no_negated_not : (scope : Scope) (w : List ℕ) (f : Trees) → literal_head scope w (begins_with_list f) ≡ head.Not →
     negated_in scope (word w f) ≡ None
@@ -378,15 +378,15 @@ pub literal_atom : (scope : Scope) (w : List ℕ) (f : Trees) → literal_head s
     literal_of scope w f ≡ option_map (atom_literal true) (atom_of is_any w f)
 unfolding literal_of
 literal_atom scope w f e h =
-    let there : IsSome (option_map (atom_literal true) (atom_of (is_term scope.place) w f)) = rw e at h in
-    rw e (ap (option_map (atom_literal true)) (any_atom (is_term scope.place) w f (mapped_there (atom_literal true) (atom_of (is_term scope.place) w f) there)))
+    let there : IsSome (option_map (atom_literal true) (atom_of (is_term scope.context) w f)) = rw e at h in
+    rw e (ap (option_map (atom_literal true)) (any_atom (is_term scope.context) w f (mapped_there (atom_literal true) (atom_of (is_term scope.context) w f) there)))
 
 pub literal_equality : (scope : Scope) (w : List ℕ) (f : Trees) → literal_head scope w (begins_with_list f) ≡ head.Equality → IsSome (literal_of scope w f) →
     literal_of scope w f ≡ option_map (equality_literal true) (equality_of is_any f)
 unfolding literal_of
 literal_equality scope w f e h =
-    let there : IsSome (option_map (equality_literal true) (equality_of (is_term scope.place) f)) = rw e at h in
-    rw e (ap (option_map (equality_literal true)) (any_equality (is_term scope.place) f (mapped_there (equality_literal true) (equality_of (is_term scope.place) f) there)))
+    let there : IsSome (option_map (equality_literal true) (equality_of (is_term scope.context) f)) = rw e at h in
+    rw e (ap (option_map (equality_literal true)) (any_equality (is_term scope.context) f (mapped_there (equality_literal true) (equality_of (is_term scope.context) f) there)))
 
 pub literal_not : (scope : Scope) (w : List ℕ) (f : Trees) → literal_head scope w (begins_with_list f) ≡ head.Not →
     literal_of scope w f ≡ negated_of scope f
@@ -397,15 +397,15 @@ pub literal_value : (scope : Scope) (w : List ℕ) (f : Trees) → literal_head 
     literal_of scope w f ≡ option_map value_literal (value_of is_any f)
 unfolding literal_of
 literal_value scope w f e h =
-    let there : IsSome (option_map value_literal (value_of (is_term scope.place) f)) = rw e at h in
-    rw e (ap (option_map value_literal) (any_value (is_term scope.place) f (mapped_there value_literal (value_of (is_term scope.place) f) there)))
+    let there : IsSome (option_map value_literal (value_of (is_term scope.context) f)) = rw e at h in
+    rw e (ap (option_map value_literal) (any_value (is_term scope.context) f (mapped_there value_literal (value_of (is_term scope.context) f) there)))
 
 pub literal_increase : (scope : Scope) (w : List ℕ) (f : Trees) → literal_head scope w (begins_with_list f) ≡ head.Increase → IsSome (literal_of scope w f) →
     literal_of scope w f ≡ option_map increase_literal (increase_of is_any f)
 unfolding literal_of
 literal_increase scope w f e h =
-    let there : IsSome (option_map increase_literal (increase_of (is_term scope.place) f)) = rw e at h in
-    rw e (ap (option_map increase_literal) (any_increase (is_term scope.place) f (mapped_there increase_literal (increase_of (is_term scope.place) f) there)))
+    let there : IsSome (option_map increase_literal (increase_of (is_term scope.context) f)) = rw e at h in
+    rw e (ap (option_map increase_literal) (any_increase (is_term scope.context) f (mapped_there increase_literal (increase_of (is_term scope.context) f) there)))
 
 pub no_literal_reserved : (scope : Scope) (w : List ℕ) (f : Trees) → literal_head scope w (begins_with_list f) ≡ head.Reserved →
     literal_of scope w f ≡ None

@@ -5,7 +5,7 @@ use Rattle.std.proofs.lemmas.List.{append-nil}
 use Rattle.std.specs.Option.{option_map}
 use Rattle.pddl_syntax.specs.declared.fault.ReadFault.{ReadFault}
 use Rattle.pddl_syntax.specs.declared.heads.Scope.{Scope}
-use Rattle.pddl_syntax.specs.declared.heads.Place.TheVariants as place
+use Rattle.pddl_syntax.specs.declared.heads.Context.TheVariants as context
 use Rattle.pddl_syntax.specs.declared.dialect.Dialect.{Dialect}
 use Rattle.pddl_syntax.specs.declared.syntax.LiteralSyntax.{LiteralSyntax}
 use Rattle.pddl_syntax.specs.Forms.{literal_form}
@@ -208,64 +208,64 @@ no_formula scope f h = nothing_there (formula_in scope f) h
 
 pub ruleset formula_steps = (formula_kept, formula_so, no_formula)
 
-and_no_literal : (dialect : Dialect) (w : List ℕ) (f : Trees) → is_and w ≡ true → literal_of (scope_at dialect place.Initial) w f ≡ None
+and_no_literal : (dialect : Dialect) (w : List ℕ) (f : Trees) → is_and w ≡ true → literal_of (scope_at dialect context.Initial) w f ≡ None
 unfolding is_and literal_of formula_head literal_head
 and_no_literal dialect w f e = rw e refl
 
 -- no initial atom begins with `and`
-absurd_and : (dialect : Dialect) {A : Type 0} (w : List ℕ) (f : Trees) (l : LiteralForm) → is_and w ≡ true → literal_of (scope_at dialect place.Initial) w f ≡ Some l → A
-absurd_and dialect w f l e h = none_some (literal_of (scope_at dialect place.Initial) w f) (and_no_literal dialect w f e) h
+absurd_and : (dialect : Dialect) {A : Type 0} (w : List ℕ) (f : Trees) (l : LiteralForm) → is_and w ≡ true → literal_of (scope_at dialect context.Initial) w f ≡ Some l → A
+absurd_and dialect w f l e h = none_some (literal_of (scope_at dialect context.Initial) w f) (and_no_literal dialect w f e) h
   where
     none_some : {A : Type 0} (read : Option LiteralForm) → read ≡ None → read ≡ Some l → A
     none_some None e h = cc
     none_some (Some m) e h = cc
 
 -- an initial atom is a formula, which gives it alone
-initial_formula : (dialect : Dialect) (k : Trees) (l : LiteralForm) → init_item_in dialect k ≡ Some l → formula_in (scope_at dialect place.Initial) k ≡ Some (l ∷ [])
+initial_formula : (dialect : Dialect) (k : Trees) (l : LiteralForm) → init_item_in dialect k ≡ Some l → formula_in (scope_at dialect context.Initial) k ≡ Some (l ∷ [])
 unfolding init_item_in formula_in
 initial_formula dialect none l h = cc
 initial_formula dialect (word w f) l h = by (is_and w) refl
   where
-    by : (test : Bool) → is_and w ≡ test → (if test then conjuncts_of (scope_at dialect place.Initial) f else option_map alone (literal_of (scope_at dialect place.Initial) w f)) ≡ Some (l ∷ [])
+    by : (test : Bool) → is_and w ≡ test → (if test then conjuncts_of (scope_at dialect context.Initial) f else option_map alone (literal_of (scope_at dialect context.Initial) w f)) ≡ Some (l ∷ [])
     by true e = absurd_and dialect w f l e h
     by false e = rw h refl
 initial_formula dialect (list j f) l h = cc
 
-initial_conjuncts : (dialect : Dialect) (f : Trees) (ls : List LiteralForm) → lists_of (init_item_in dialect) f ≡ Some ls → conjuncts_of (scope_at dialect place.Initial) f ≡ Some ls
+initial_conjuncts : (dialect : Dialect) (f : Trees) (ls : List LiteralForm) → lists_of (init_item_in dialect) f ≡ Some ls → conjuncts_of (scope_at dialect context.Initial) f ≡ Some ls
 unfolding lists_of conjuncts_of followed_by joined with_front
 initial_conjuncts dialect none ls h = h
 initial_conjuncts dialect (word w f) ls h = cc
 initial_conjuncts dialect (list k f) ls h = by (init_item_in dialect k) (lists_of (init_item_in dialect) f) refl refl (λ more. initial_conjuncts dialect f more) h
   where
     by : (item : Option LiteralForm) (others : Option (List LiteralForm)) → init_item_in dialect k ≡ item → lists_of (init_item_in dialect) f ≡ others →
-        ((more : List LiteralForm) → lists_of (init_item_in dialect) f ≡ Some more → conjuncts_of (scope_at dialect place.Initial) f ≡ Some more) →
-        followed_by item others ≡ Some ls → joined (formula_in (scope_at dialect place.Initial) k) (conjuncts_of (scope_at dialect place.Initial) f) ≡ Some ls
+        ((more : List LiteralForm) → lists_of (init_item_in dialect) f ≡ Some more → conjuncts_of (scope_at dialect context.Initial) f ≡ Some more) →
+        followed_by item others ≡ Some ls → joined (formula_in (scope_at dialect context.Initial) k) (conjuncts_of (scope_at dialect context.Initial) f) ≡ Some ls
     by None others e i rest h = cc
     by (Some l) None e i rest h = cc
     by (Some l) (Some more) e i rest h = rw (initial_formula dialect k l e, rest more i) h
 
-initial_left : (dialect : Dialect) (f : Trees) → IsSome (lists_of (init_item_in dialect) f) → literals_in (scope_at dialect place.Initial) f ≡ lists_of (init_item_in dialect) f
+initial_left : (dialect : Dialect) (f : Trees) → IsSome (lists_of (init_item_in dialect) f) → literals_in (scope_at dialect context.Initial) f ≡ lists_of (init_item_in dialect) f
 initial_left dialect f h = by (lists_of (init_item_in dialect) f) refl h
   where
-    by : (read : Option (List LiteralForm)) → lists_of (init_item_in dialect) f ≡ read → IsSome read → literals_in (scope_at dialect place.Initial) f ≡ read
+    by : (read : Option (List LiteralForm)) → lists_of (init_item_in dialect) f ≡ read → IsSome read → literals_in (scope_at dialect context.Initial) f ≡ read
     by None e h = cc
     by (Some ls) e h =
         let conjuncts = initial_conjuncts dialect f ls e in
-        conjuncts_left (scope_at dialect place.Initial) f (rw conjuncts refl) ∙ conjuncts
+        conjuncts_left (scope_at dialect context.Initial) f (rw conjuncts refl) ∙ conjuncts
 
-pub initial_kept : (dialect : Dialect) (f : Trees) → are_initial dialect f ≡ true → IsSome (literals_in (scope_at dialect place.Initial) f)
+pub initial_kept : (dialect : Dialect) (f : Trees) → are_initial dialect f ≡ true → IsSome (literals_in (scope_at dialect context.Initial) f)
 unfolding are_initial
 initial_kept dialect f h = by (lists_of (init_item_in dialect) f) h (initial_left dialect f)
   where
-    by : (read : Option (List LiteralForm)) → is_some read ≡ true → (IsSome read → literals_in (scope_at dialect place.Initial) f ≡ read) → IsSome (literals_in (scope_at dialect place.Initial) f)
+    by : (read : Option (List LiteralForm)) → is_some read ≡ true → (IsSome read → literals_in (scope_at dialect context.Initial) f ≡ read) → IsSome (literals_in (scope_at dialect context.Initial) f)
     by None h same = cc
     by (Some ls) h same = rw (same refl) refl
 
-pub initial_so : (dialect : Dialect) (f : Trees) → are_initial dialect f ≡ true → lists_of (init_item_in dialect) f ≡ literals_in (scope_at dialect place.Initial) f
+pub initial_so : (dialect : Dialect) (f : Trees) → are_initial dialect f ≡ true → lists_of (init_item_in dialect) f ≡ literals_in (scope_at dialect context.Initial) f
 unfolding are_initial
 initial_so dialect f h = by (lists_of (init_item_in dialect) f) h (initial_left dialect f)
   where
-    by : (read : Option (List LiteralForm)) → is_some read ≡ true → (IsSome read → literals_in (scope_at dialect place.Initial) f ≡ read) → read ≡ literals_in (scope_at dialect place.Initial) f
+    by : (read : Option (List LiteralForm)) → is_some read ≡ true → (IsSome read → literals_in (scope_at dialect context.Initial) f ≡ read) → read ≡ literals_in (scope_at dialect context.Initial) f
     by None h same = cc
     by (Some ls) h same = sym (same refl)
 

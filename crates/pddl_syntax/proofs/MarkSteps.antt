@@ -5,7 +5,7 @@ use Rattle.std.specs.List.{prefix_len}
 use Rattle.pddl_tokens.specs.Bytes.{class_of, is_other_blank}
 use Rattle.pddl_tokens.specs.Cut.{is_line_end_class, is_comment_byte}
 use Rattle.pddl_tokens.specs.Front.{pieces_at}
-use Rattle.pddl_tokens.specs.Tokens.{Place, between, in_word, pieces_from, begins, place_after}
+use Rattle.pddl_tokens.specs.Tokens.{ScanState, between, in_word, pieces_from, begins, state_after}
 use Rattle.pddl_tokens.proofs.Steps.{line_end_step, blank_step, comment_step, left_step, right_step, bad_step, run_not_empty}
 use Rattle.pddl_syntax.specs.declared.fault.FaultKind.TheVariants.{BadText, Unbalanced, TooDeep}
 use Rattle.pddl_syntax.specs.declared.marks.Mark.TheVariants.{Plain, Left, Right, Semicolon, Bad}
@@ -48,15 +48,15 @@ sorted b h1 h2 h3 h4 h5 h6 h7 =
     h1 h2 h3 h4 h5 h6 h7
 
 -- the pieces behind the first byte, by another byte of its class
-first_byte : (place : Place) (at b k : ℕ) (bytes : List ℕ) → class_of b ≡ class_of k →
-    pieces_from place at (b ∷ bytes) ≡ begins place (class_of k) at (b ∷ bytes) ++ pieces_from (place_after place (class_of k)) (at + 1) bytes
+first_byte : (state : ScanState) (at b k : ℕ) (bytes : List ℕ) → class_of b ≡ class_of k →
+    pieces_from state at (b ∷ bytes) ≡ begins state (class_of k) at (b ∷ bytes) ++ pieces_from (state_after state (class_of k)) (at + 1) bytes
 unfolding pieces_from
-first_byte place at b k bytes is = ap (λ class. begins place class at (b ∷ bytes) ++ pieces_from (place_after place class) (at + 1) bytes) is
+first_byte state at b k bytes is = ap (λ class. begins state class at (b ∷ bytes) ++ pieces_from (state_after state class) (at + 1) bytes) is
 
 -- within a word the fault is that between tokens
 alike : (end depth at b k : ℕ) (bytes : List ℕ) → class_of b ≡ class_of k →
-    begins in_word (class_of k) at (b ∷ bytes) ++ pieces_from (place_after in_word (class_of k)) (at + 1) bytes
-    ≡ begins between (class_of k) at (b ∷ bytes) ++ pieces_from (place_after between (class_of k)) (at + 1) bytes →
+    begins in_word (class_of k) at (b ∷ bytes) ++ pieces_from (state_after in_word (class_of k)) (at + 1) bytes
+    ≡ begins between (class_of k) at (b ∷ bytes) ++ pieces_from (state_after between (class_of k)) (at + 1) bytes →
     fault_from end depth (pieces_from in_word at (b ∷ bytes)) ≡ fault_from end depth (pieces_from between at (b ∷ bytes))
 alike end depth at b k bytes is e = ap (fault_from end depth) (first_byte in_word at b k bytes is ∙ e ∙ sym (first_byte between at b k bytes is))
 

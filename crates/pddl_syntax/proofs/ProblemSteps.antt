@@ -4,7 +4,7 @@ use Rattle.std.proofs.Common.{◌≡◌, ℕ, ◌&&◌, Bool, true, false, List,
 use Rattle.std.specs.Global.{Vec}
 use Rattle.std.specs.Option.{option_map, option_and_then}
 use Rattle.pddl_syntax.specs.declared.dialect.Dialect.{Dialect}
-use Rattle.pddl_syntax.specs.declared.heads.Place.TheVariants as place
+use Rattle.pddl_syntax.specs.declared.heads.Context.TheVariants as context
 use Rattle.pddl_syntax.specs.declared.heads.ProblemSection.{ProblemSection}
 use Rattle.pddl_syntax.specs.declared.heads.ProblemSection.TheVariants.{Domain, Requirements, Objects, Init, Goal, Metric, Length}
 use Rattle.pddl_syntax.specs.declared.syntax.NameGroup as groups
@@ -25,7 +25,7 @@ pub init_item_list : (dialect : Dialect) (k f : Trees) → is_init_item dialect 
 unfolding is_init_item init_item_in
 init_item_list dialect k f = refl
 
-pub init_item_word : (dialect : Dialect) (w : List ℕ) (f : Trees) → is_init_item dialect (word w f) ≡ is_literal (scope_at dialect place.Initial) w f
+pub init_item_word : (dialect : Dialect) (w : List ℕ) (f : Trees) → is_init_item dialect (word w f) ≡ is_literal (scope_at dialect context.Initial) w f
 unfolding is_init_item is_literal init_item_in
 init_item_word dialect w f = refl
 
@@ -63,7 +63,7 @@ goal_no_list dialect none h = refl
 goal_no_list dialect (word w f) h = refl
 goal_no_list dialect (list k f) h = cc
 
-pub goal_refused : (dialect : Dialect) (k f : Trees) → formula_in (scope_at dialect place.Goal) k ≡ None → goal_of dialect (list k f) ≡ None
+pub goal_refused : (dialect : Dialect) (k f : Trees) → formula_in (scope_at dialect context.Goal) k ≡ None → goal_of dialect (list k f) ≡ None
 unfolding goal_of ended
 goal_refused dialect k none h = h
 goal_refused dialect k (word w f) h = refl
@@ -75,7 +75,7 @@ goal_more dialect k none h = cc
 goal_more dialect k (word w f) h = refl
 goal_more dialect k (list j f) h = refl
 
-pub goal_alone : (dialect : Dialect) (k f : Trees) → end_of f ≡ Some tt → goal_of dialect (list k f) ≡ formula_in (scope_at dialect place.Goal) k
+pub goal_alone : (dialect : Dialect) (k f : Trees) → end_of f ≡ Some tt → goal_of dialect (list k f) ≡ formula_in (scope_at dialect context.Goal) k
 unfolding goal_of end_of ended
 goal_alone dialect k none h = refl
 goal_alone dialect k (word w f) h = cc

@@ -7,8 +7,8 @@ use Rattle.pddl_words.specs.declared.WordKind.TheVariants.{Name, Variable, Keywo
 use Rattle.pddl_words.specs.Kinds.{is_same_word, kind_of_word}
 use Rattle.pddl_syntax.specs.declared.dialect.Dialect.{Dialect}
 use Rattle.pddl_syntax.specs.declared.dialect.Dialect.TheVariants as dialect
-use Rattle.pddl_syntax.specs.declared.heads.Place.{Place}
-use Rattle.pddl_syntax.specs.declared.heads.Place.TheVariants as place
+use Rattle.pddl_syntax.specs.declared.heads.Context.{Context}
+use Rattle.pddl_syntax.specs.declared.heads.Context.TheVariants as context
 use Rattle.pddl_syntax.specs.declared.heads.Scope.{Scope}
 use Rattle.pddl_syntax.specs.declared.heads.FormulaHead.{FormulaHead}
 use Rattle.pddl_syntax.specs.declared.heads.FormulaHead.TheVariants as formula
@@ -59,15 +59,15 @@ unfoldable pub is_variable : List ℕ → Bool
 is_variable w = is_variable_kind (kind_of_word w)
 
 -- where a literal is, in a text of a dialect
-abbrev pub scope_at : Dialect → Place → Scope
-scope_at dialect place = record { dialect = dialect; place = place }
+abbrev pub scope_at : Dialect → Context → Scope
+scope_at dialect context = record { dialect = dialect; context = context }
 
 -- Term = N | V in actions, N in problems
-unfoldable pub is_term : Place → List ℕ → Bool
-is_term place.Precondition w = is_name w || is_variable w
-is_term place.Effect w = is_name w || is_variable w
-is_term place.Initial w = is_name w
-is_term place.Goal w = is_name w
+unfoldable pub is_term : Context → List ℕ → Bool
+is_term context.Precondition w = is_name w || is_variable w
+is_term context.Effect w = is_name w || is_variable w
+is_term context.Initial w = is_name w
+is_term context.Goal w = is_name w
 
 -- what a word heads where a formula, an effect, an initial atom, a function or the declaration of a predicate or a function is due
 unfoldable pub formula_head : List ℕ → FormulaHead
@@ -79,30 +79,30 @@ formula_head w =
     else formula.Other)))
 
 -- what `=` heads, if a list follows or not: terms are compared in preconditions and goals, and functions get their values among the initial atoms
-abbrev pub equals_head : Dialect → Place → Bool → LiteralHead
-equals_head dialect.Strips place opens = head.Reserved
-equals_head dialect.Ipc place.Precondition opens = head.Equality
-equals_head dialect.Ipc place.Goal opens = head.Equality
-equals_head dialect.Ipc place.Initial opens = (if opens then head.Value else head.Reserved)
-equals_head dialect.Ipc place.Effect opens = head.Reserved
+abbrev pub equals_head : Dialect → Context → Bool → LiteralHead
+equals_head dialect.Strips context opens = head.Reserved
+equals_head dialect.Ipc context.Precondition opens = head.Equality
+equals_head dialect.Ipc context.Goal opens = head.Equality
+equals_head dialect.Ipc context.Initial opens = (if opens then head.Value else head.Reserved)
+equals_head dialect.Ipc context.Effect opens = head.Reserved
 
 -- whether numbers may be changed here
-abbrev pub has_changes : Dialect → Place → Bool
-has_changes dialect.Strips place = false
-has_changes dialect.Ipc place.Precondition = false
-has_changes dialect.Ipc place.Effect = true
-has_changes dialect.Ipc place.Initial = false
-has_changes dialect.Ipc place.Goal = false
+abbrev pub has_changes : Dialect → Context → Bool
+has_changes dialect.Strips context = false
+has_changes dialect.Ipc context.Precondition = false
+has_changes dialect.Ipc context.Effect = true
+has_changes dialect.Ipc context.Initial = false
+has_changes dialect.Ipc context.Goal = false
 
 -- what a name heads, if a list follows or not: it is a predicate, unless it changes a number, which a list after it names
 abbrev pub name_head : Scope → List ℕ → Bool → LiteralHead
 name_head scope w opens =
-    if has_changes scope.dialect scope.place && (is_change w && opens) then (if is_same_word w increase_word then head.Increase else head.Reserved)
+    if has_changes scope.dialect scope.context && (is_change w && opens) then (if is_same_word w increase_word then head.Increase else head.Reserved)
     else head.Atom
 
 -- what a reserved word besides `and` and `not` heads, if a list follows or not
 abbrev pub reserved_head : Scope → List ℕ → Bool → LiteralHead
-reserved_head scope w opens = if is_same_word w equals_word then equals_head scope.dialect scope.place opens else head.Reserved
+reserved_head scope w opens = if is_same_word w equals_word then equals_head scope.dialect scope.context opens else head.Reserved
 
 -- what a word heads where a literal is due, from what it heads elsewhere
 abbrev pub head_by : FormulaHead → Scope → List ℕ → Bool → LiteralHead

@@ -16,7 +16,7 @@ use Rattle.pddl_syntax.specs.declared.heads.ProblemSection.{ProblemSection}
 use Rattle.pddl_syntax.specs.declared.heads.ProblemSection.TheVariants as problem
 use Rattle.pddl_syntax.specs.Keywords.{define_word, domain_word, problem_word, either_word, object_word, total_cost_word, number_word}
 use Rattle.pddl_syntax.specs.declared.dialect.Dialect.{Dialect}
-use Rattle.pddl_syntax.specs.declared.heads.Place.TheVariants as place
+use Rattle.pddl_syntax.specs.declared.heads.Context.TheVariants as context
 use Rattle.pddl_syntax.specs.declared.heads.Scope.{Scope}
 use Rattle.pddl_syntax.specs.declared.heads.LiteralHead.{LiteralHead}
 use Rattle.pddl_syntax.specs.declared.heads.LiteralHead.TheVariants as head
@@ -328,7 +328,7 @@ signed_by positive head.Other test w others = None
 -- what is in the parentheses after `not`: an atom or an equality
 unfoldable pub negated_in : Scope → Trees → Option LiteralForm
 negated_in scope none = None
-negated_in scope (word w others) = signed_by false (literal_head scope w (begins_with_list others)) (is_term scope.place) w others
+negated_in scope (word w others) = signed_by false (literal_head scope w (begins_with_list others)) (is_term scope.context) w others
 negated_in scope (list inside others) = None
 
 -- what `not` negates
@@ -339,11 +339,11 @@ negated_of scope (list inside others) = ended others (negated_in scope inside)
 
 -- the literal that a word heads, where a literal may be
 abbrev pub literal_by : LiteralHead → Scope → List ℕ → Trees → Option LiteralForm
-literal_by head.Atom scope w others = signed_by true head.Atom (is_term scope.place) w others
-literal_by head.Equality scope w others = signed_by true head.Equality (is_term scope.place) w others
+literal_by head.Atom scope w others = signed_by true head.Atom (is_term scope.context) w others
+literal_by head.Equality scope w others = signed_by true head.Equality (is_term scope.context) w others
 literal_by head.Not scope w others = negated_of scope others
-literal_by head.Value scope w others = option_map value_literal (value_of (is_term scope.place) others)
-literal_by head.Increase scope w others = option_map increase_literal (increase_of (is_term scope.place) others)
+literal_by head.Value scope w others = option_map value_literal (value_of (is_term scope.context) others)
+literal_by head.Increase scope w others = option_map increase_literal (increase_of (is_term scope.context) others)
 literal_by head.Reserved scope w others = None
 literal_by head.Other scope w others = None
 
@@ -355,7 +355,7 @@ literal_of scope w others = literal_by (literal_head scope w (begins_with_list o
 -- InitItem = Literal
 unfoldable pub init_item_in : Dialect → Trees → Option LiteralForm
 init_item_in dialect none = None
-init_item_in dialect (word w others) = literal_of (scope_at dialect place.Initial) w others
+init_item_in dialect (word w others) = literal_of (scope_at dialect context.Initial) w others
 init_item_in dialect (list inside others) = None
 
 -- a literal as a conjunction
@@ -426,8 +426,8 @@ is_part_given part.Effect given = is_some given.effect
 -- the parts with this one, whose value is the list
 unfoldable pub part_by : Dialect → ActionPart → ActionParts → Trees → Option ActionParts
 part_by dialect part.Parameters given value = option_map (with_parameters given) (typed_variables [] value)
-part_by dialect part.Precondition given value = option_map (with_precondition given) (formula_in (scope_at dialect place.Precondition) value)
-part_by dialect part.Effect given value = option_map (with_effect given) (formula_in (scope_at dialect place.Effect) value)
+part_by dialect part.Precondition given value = option_map (with_precondition given) (formula_in (scope_at dialect context.Precondition) value)
+part_by dialect part.Effect given value = option_map (with_effect given) (formula_in (scope_at dialect context.Effect) value)
 
 -- the parts with the one that a word names, each at most once
 unfoldable pub part_named : Dialect → Option ActionPart → ActionParts → Trees → Option ActionParts
@@ -593,7 +593,7 @@ with_goal given value = record given { goal = Some value }
 unfoldable pub goal_of : Dialect → Trees → Option (List LiteralForm)
 goal_of dialect none = None
 goal_of dialect (word w others) = None
-goal_of dialect (list inside others) = ended others (formula_in (scope_at dialect place.Goal) inside)
+goal_of dialect (list inside others) = ended others (formula_in (scope_at dialect context.Goal) inside)
 
 -- whether a section is given already
 unfoldable pub is_problem_section_given : ProblemSection → ProblemSections → Bool

@@ -42,7 +42,7 @@ pub(crate) enum LiteralHead {
 
 /// Where a literal is.
 #[derive(Clone, Copy, Debug)]
-pub(crate) enum Place {
+pub(crate) enum Context {
     Precondition,
     Effect,
     Initial,
@@ -53,7 +53,7 @@ pub(crate) enum Place {
 #[derive(Clone, Copy, Debug)]
 pub(crate) struct Scope {
     pub(crate) dialect: Dialect,
-    pub(crate) place: Place,
+    pub(crate) context: Context,
 }
 
 /// The sections of a domain.
@@ -141,14 +141,14 @@ pub fn is_variable(word: &[u8]) -> bool
 
 /// Whether the word may be a term. Variables may be terms only in actions.
 #[tactic(auto, unfolding(crate::specs::Heads::is_term))]
-pub(crate) fn is_term(place: Place, word: &[u8]) -> bool
-    ensures { result ≡ is_term place word.now }
+pub(crate) fn is_term(context: Context, word: &[u8]) -> bool
+    ensures { result ≡ is_term context word.now }
 {
-    match place {
-        Place::Precondition => is_name(word) || is_variable(word),
-        Place::Effect => is_name(word) || is_variable(word),
-        Place::Initial => is_name(word),
-        Place::Goal => is_name(word),
+    match context {
+        Context::Precondition => is_name(word) || is_variable(word),
+        Context::Effect => is_name(word) || is_variable(word),
+        Context::Initial => is_name(word),
+        Context::Goal => is_name(word),
     }
 }
 
@@ -172,36 +172,36 @@ pub(crate) fn formula_head(word: &[u8]) -> FormulaHead
 
 /// What `=` heads. The walk is right after it.
 fn equals_head(scope: Scope, walk: &Walk<'_>) -> LiteralHead
-    ensures { result ≡ equals_head scope.dialect scope.place (begins_with_list (here walk.now.cursor).top) }
+    ensures { result ≡ equals_head scope.dialect scope.context (begins_with_list (here walk.now.cursor).top) }
 {
     match scope.dialect {
         Dialect::Strips => LiteralHead::Reserved,
-        Dialect::Ipc => match scope.place {
-            Place::Precondition => LiteralHead::Equality,
-            Place::Goal => LiteralHead::Equality,
-            Place::Initial => {
+        Dialect::Ipc => match scope.context {
+            Context::Precondition => LiteralHead::Equality,
+            Context::Goal => LiteralHead::Equality,
+            Context::Initial => {
                 if walk.begins_with_list() {
                     LiteralHead::Value
                 } else {
                     LiteralHead::Reserved
                 }
             }
-            Place::Effect => LiteralHead::Reserved,
+            Context::Effect => LiteralHead::Reserved,
         },
     }
 }
 
 /// Whether numbers may be changed here.
 fn has_changes(scope: Scope) -> bool
-    ensures { result ≡ has_changes scope.dialect scope.place }
+    ensures { result ≡ has_changes scope.dialect scope.context }
 {
     match scope.dialect {
         Dialect::Strips => false,
-        Dialect::Ipc => match scope.place {
-            Place::Effect => true,
-            Place::Precondition => false,
-            Place::Initial => false,
-            Place::Goal => false,
+        Dialect::Ipc => match scope.context {
+            Context::Effect => true,
+            Context::Precondition => false,
+            Context::Initial => false,
+            Context::Goal => false,
         },
     }
 }

@@ -4,9 +4,9 @@ use Rattle.std.proofs.Common.{ℕ, ◌+◌, ◌≤◌, List, [], ◌∷◌, leng
 use Rattle.pddl_tokens.specs.declared.bytes.ByteClass.{ByteClass}
 use Rattle.pddl_tokens.specs.declared.bytes.ByteClass.TheVariants as c
 use Rattle.pddl_tokens.specs.Bytes.{class_of}
-use Rattle.pddl_tokens.specs.Tokens.{Place, between, in_word, in_comment, stopped, place_after, begins, pieces_from, pieces}
+use Rattle.pddl_tokens.specs.Tokens.{ScanState, between, in_word, in_comment, stopped, state_after, begins, pieces_from, pieces}
 
-one_begins : (place : Place) (class : ByteClass) (at : ℕ) (bytes : List ℕ) → length (begins place class at bytes) ≤ 1
+one_begins : (state : ScanState) (class : ByteClass) (at : ℕ) (bytes : List ℕ) → length (begins state class at bytes) ≤ 1
 one_begins between c.LineEnd at bytes = omega arith
 one_begins between c.Blank at bytes = omega arith
 one_begins between c.Left at bytes = omega arith
@@ -24,13 +24,13 @@ one_begins in_word c.Bad at bytes = omega arith
 one_begins in_comment class at bytes = omega arith
 one_begins stopped class at bytes = omega arith
 
-few_from : (place : Place) (at : ℕ) (bytes : List ℕ) → length (pieces_from place at bytes) ≤ length bytes
+few_from : (state : ScanState) (at : ℕ) (bytes : List ℕ) → length (pieces_from state at bytes) ≤ length bytes
 unfolding pieces_from
-few_from place at [] = omega arith
-few_from place at (b ∷ bytes) =
-    let first = begins place (class_of b) at (b ∷ bytes) in
-    let more = pieces_from (place_after place (class_of b)) (at + 1) bytes in
-    omega (arith, length-append first more, one_begins place (class_of b) at (b ∷ bytes), few_from (place_after place (class_of b)) (at + 1) bytes)
+few_from state at [] = omega arith
+few_from state at (b ∷ bytes) =
+    let first = begins state (class_of b) at (b ∷ bytes) in
+    let more = pieces_from (state_after state (class_of b)) (at + 1) bytes in
+    omega (arith, length-append first more, one_begins state (class_of b) at (b ∷ bytes), few_from (state_after state (class_of b)) (at + 1) bytes)
 
 -- each piece of a text has a byte of its own
 pub few_pieces : (text : List ℕ) → length (pieces text) ≤ length text

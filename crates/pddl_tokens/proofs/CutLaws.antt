@@ -14,12 +14,12 @@ use Rattle.pddl_tokens.specs.Front.{pieces_at}
 use Rattle.pddl_tokens.proofs.Steps.{end_step, line_end_step, blank_step, comment_step, left_step, right_step, word_step, bad_step, run_not_empty}
 use Rattle.pddl_tokens.proofs.Classes.{line_end_is, blank_is, blank_no_semicolon, left_is, right_is, semicolon_is, bad_no_blank, bad_not_visible, word_byte_no_semicolon, no_comment_line_end, comment_byte_no_line_end, line_end_class, line_end_no_word}
 
--- no comment is open before a place between tokens, and no word goes on over it
+-- no comment is open before an offset between tokens, and no word goes on over it
 pub record IsFresh (text : List ℕ) (at : ℕ) : Type 0 where
   pub no_open : (j : ℕ) → j < at → get_or text j 0 ≡ 59 → ((k : ℕ) → j ≤ k → k < at → get_or text k 0 ≢ 10) → ⊥
   pub no_word : 0 < at → at < length text → is_word_byte (get_or text at 0) ≡ true → is_word_byte (get_or text (at - 1) 0) ≡ false
 
--- at such a place a byte lies in a comment only where it begins one
+-- at such an offset a byte lies in a comment only where it begins one
 outside_here : (text : List ℕ) (at : ℕ) → IsFresh text at → get_or text at 0 ≢ 59 → LiesInComment text at → ⊥
 outside_here text at fresh no_semicolon comment =
     ⊎_elim
@@ -53,12 +53,12 @@ gap_more text from at gap lt here = record {
 no_gap : (text : List ℕ) (at : ℕ) → at ≤ length text → IsGap text at at
 no_gap text at le = record { ordered = omega arith; within = le; skipped = λ k low high. absurd (omega arith) }
 
--- a run from a place on: each of its bytes passes, and the byte behind it does not
+-- a run from an offset on: each of its bytes passes, and the byte behind it does not
 run_passes : (p : ℕ → Bool) (text : List ℕ) (at n : ℕ) → n ≡ prefix_len p (drop at text) → (k : ℕ) → at ≤ k → k < at + n → p (get_or text k 0) ≡ true
 run_passes p text at n run k low high =
     let inside : k - at < prefix_len p (drop at text) = omega (arith, run) in
-    let place : at + (k - at) ≡ k = omega arith in
-    ap (λ (i : ℕ). p (get_or text i 0)) (sym place) ∙ ap p (sym (get_or-drop at text (k - at) 0)) ∙ prefix_len_passes p (drop at text) (k - at) 0 inside
+    let offset : at + (k - at) ≡ k = omega arith in
+    ap (λ (i : ℕ). p (get_or text i 0)) (sym offset) ∙ ap p (sym (get_or-drop at text (k - at) 0)) ∙ prefix_len_passes p (drop at text) (k - at) 0 inside
 
 run_stops : (p : ℕ → Bool) (text : List ℕ) (at n : ℕ) → n ≡ prefix_len p (drop at text) → at + n < length text → p (get_or text (at + n) 0) ≡ false
 run_stops p text at n run lt =
@@ -125,7 +125,7 @@ line_fresh text at line_end no_word = record {
   no_word = λ above lt is. let same : at + 1 - 1 ≡ at = omega arith in ap (λ (i : ℕ). is_word_byte (get_or text i 0)) same ∙ no_word;
 }
 
--- what is left to cut from a place on, with so many bytes at most
+-- what is left to cut from an offset on, with so many bytes at most
 abbrev pub CutsRest : ℕ → List ℕ → Type 0
 CutsRest fuel text = (from at : ℕ) → length text ≤ at + fuel → at ≤ length text → IsGap text from at → IsFresh text at → IsCutInto text from (pieces_at text at)
 

@@ -1,7 +1,7 @@
 pub mod Steps
 mod Classes
 pub mod CutLaws
-pub mod Places
+pub mod Within
 mod Table
 mod OnlyCut
 pub mod PlainRows

@@ -38,9 +38,9 @@ token_head text Word start end is outside = head_by text start end is.not_empty 
 bad_head : (text : List ℕ) (at : ℕ) → IsBadByte text at → IsOutsideComments text at (at + 1) → IsHead text at
 bad_head text at is outside = head_by text at (at + 1) (omega arith) (omega (arith, is.within)) is.no_blank outside
 
--- two first pieces stand at one place
-same_place : (text : List ℕ) (from a b : ℕ) → IsGap text from a → IsGap text from b → IsHead text a → IsHead text b → a ≡ b
-same_place text from a b gap_a gap_b head_a head_b =
+-- two first pieces stand at one offset
+same_offset : (text : List ℕ) (from a b : ℕ) → IsGap text from a → IsGap text from b → IsHead text a → IsHead text b → a ≡ b
+same_offset text from a b gap_a gap_b head_a head_b =
     let le : a ≤ b = gap_stops text from a b gap_a gap_b.ordered head_b in
     let ge : b ≤ a = gap_stops text from b a gap_b gap_a.ordered head_a in
     omega arith
@@ -51,7 +51,7 @@ no_piece text from at gap gap_at head =
     let le : length text ≤ at = gap_stops text from (length text) at gap gap_at.ordered head in
     omega (arith, head.within)
 
--- two longest runs from one place end at one place
+-- two longest runs from one offset end at one offset
 run_ends : (text : List ℕ) (start a b : ℕ) → IsLongestRun text start a → IsLongestRun text start b → a < b → ⊥
 run_ends text start a b run_a run_b lt =
     let word : is_word_byte (get_or text a 0) ≡ true = run_b.each a (omega (arith, run_a.not_empty)) lt in
@@ -68,7 +68,7 @@ same_end text start a b run_a run_b =
 word_byte : (text : List ℕ) (start end : ℕ) → IsLongestRun text start end → is_word_byte (get_or text start 0) ≡ true
 word_byte text start end run = run.each start (omega arith) run.not_empty
 
--- two tokens at one place are one
+-- two tokens at one offset are one
 same_token : (text : List ℕ) (k l : TokenKind) (start a b : ℕ) → IsTokenAt k text start a → IsTokenAt l text start b → (k ≡ l) × (a ≡ b)
 same_token text Left Left start a b x y = (refl, omega (arith, x.one, y.one))
 same_token text Left Right start a b x y = absurd (omega (arith, x.is, y.is))
@@ -95,17 +95,17 @@ only_cut text [] (token k s b ∷ qs) from x y = absurd (no_piece text from s.st
 only_cut text (bad at ∷ ps) [] from x y = absurd (no_piece text from at y x.0 (bad_head text at x.1 x.2))
 only_cut text (token k s b ∷ ps) [] from x y = absurd (no_piece text from s.start y x.0 (token_head text k s.start s.end x.1 x.2))
 only_cut text (bad a ∷ ps) (bad b ∷ qs) from x y =
-    let same : a ≡ b = same_place text from a b x.0 y.0 (bad_head text a x.1 x.2) (bad_head text b y.1 y.2) in
+    let same : a ≡ b = same_offset text from a b x.0 y.0 (bad_head text a x.1 x.2) (bad_head text b y.1 y.2) in
     let rest : ps ≡ qs = x.3 ∙ sym y.3 in
     λ i. bad (same i) ∷ rest i
 only_cut text (bad a ∷ ps) (token k s b ∷ qs) from x y =
-    let same : a ≡ s.start = same_place text from a s.start x.0 y.0 (bad_head text a x.1 x.2) (token_head text k s.start s.end y.1 y.2) in
+    let same : a ≡ s.start = same_offset text from a s.start x.0 y.0 (bad_head text a x.1 x.2) (token_head text k s.start s.end y.1 y.2) in
     absurd (bad_no_token text k s.start s.end (subst (IsBadByte text) same x.1) y.1)
 only_cut text (token k s b ∷ ps) (bad a ∷ qs) from x y =
-    let same : a ≡ s.start = same_place text from a s.start y.0 x.0 (bad_head text a y.1 y.2) (token_head text k s.start s.end x.1 x.2) in
+    let same : a ≡ s.start = same_offset text from a s.start y.0 x.0 (bad_head text a y.1 y.2) (token_head text k s.start s.end x.1 x.2) in
     absurd (bad_no_token text k s.start s.end (subst (IsBadByte text) same y.1) x.1)
 only_cut text (token k s b ∷ ps) (token l t c ∷ qs) from x y =
-    let start : t.start ≡ s.start = same_place text from t.start s.start y.0 x.0 (token_head text l t.start t.end y.1 y.2) (token_head text k s.start s.end x.1 x.2) in
+    let start : t.start ≡ s.start = same_offset text from t.start s.start y.0 x.0 (token_head text l t.start t.end y.1 y.2) (token_head text k s.start s.end x.1 x.2) in
     let both = same_token text k l s.start s.end t.end x.1 (subst (λ (n : ℕ). IsTokenAt l text n t.end) start y.1) in
     let bytes : b ≡ c = x.3 ∙ (λ i. slice_range text (sym start i) (both.1 i)) ∙ sym y.3 in
     let rest : ps ≡ qs = only_cut text ps qs s.end x.4 (subst (λ (n : ℕ). IsCutInto text n qs) (sym both.1) y.4) in

@@ -114,7 +114,7 @@ blank_by text at c.Bad lt is blank = absurd cc
 pub behind_blank : (text : List ℕ) (at : ℕ) → at < length text → is_blank_class (class_of (get_or text at 0)) ≡ true → pieces_at text at ≡ pieces_at text (at + 1)
 behind_blank text at lt blank = blank_by text at (class_of (get_or text at 0)) lt refl blank
 
--- a `(` stands at a place, and so many bytes behind it a `)`
+-- a `(` stands at an offset, and so many bytes behind it a `)`
 pub group_at : (text inside : List ℕ) (at size : ℕ) → at < length text → get_or text at 0 ≡ 40 → inside ≡ drop (at + 1) text → size < length inside → get_or inside size 0 ≡ 41 → IsPlain (take size inside) → pieces_at text at ≡ group_pieces at (take size inside) ++ pieces_at text (at + 1 + size + 1)
 group_at text inside at size lt left same within right plain =
     let row = take size inside in
@@ -126,8 +126,8 @@ group_at text inside at size lt left same within right plain =
     byte_at text at lt ∙ ap (λ (b : ℕ). b ∷ drop (at + 1) text) left ∙ ap (λ (bytes : List ℕ). 40 ∷ bytes) (sym same ∙ sym whole)
     in
     let long : length row ≡ size = length-take-le size inside (omega arith) in
-    let place : at + 1 + (size + 1) ≡ at + 1 + size + 1 = omega arith in
-    let behind_it : rest ≡ drop (at + 1 + size + 1) text = ap (drop (size + 1)) same ∙ drop-drop (size + 1) (at + 1) text ∙ ap (λ (n : ℕ). drop n text) place in
+    let offset : at + 1 + (size + 1) ≡ at + 1 + size + 1 = omega arith in
+    let behind_it : rest ≡ drop (at + 1 + size + 1) text = ap (drop (size + 1)) same ∙ drop-drop (size + 1) (at + 1) text ∙ ap (λ (n : ℕ). drop n text) offset in
     ap (pieces_from between at) front
     ∙ group_first at row rest plain
     ∙ ap (λ (n : ℕ). group_pieces at row ++ pieces_from between (at + 1 + n + 1) rest) long

@@ -8,13 +8,13 @@ use Rattle.pddl_tokens.specs.declared.bytes.ByteClass.TheVariants as c
 use Rattle.pddl_tokens.specs.declared.spans.TokenKind.TheVariants.{Left, Right, Word}
 use Rattle.pddl_tokens.specs.Bytes.{class_of, is_word_class, is_word_byte}
 use Rattle.pddl_tokens.specs.Cut.{is_line_end_class, is_comment_byte}
-use Rattle.pddl_tokens.specs.Tokens.{Piece, token, bad, span, Place, between, in_word, in_comment, stopped, pieces_from, begins, place_after, word_at}
+use Rattle.pddl_tokens.specs.Tokens.{Piece, token, bad, span, ScanState, between, in_word, in_comment, stopped, pieces_from, begins, state_after, word_at}
 use Rattle.pddl_tokens.specs.Front.{pieces_at}
 
 -- the pieces behind the first byte, by its class
-pub first_byte : (place : Place) (at b : ℕ) (bytes : List ℕ) (class : ByteClass) → class_of b ≡ class → pieces_from place at (b ∷ bytes) ≡ begins place class at (b ∷ bytes) ++ pieces_from (place_after place class) (at + 1) bytes
+pub first_byte : (state : ScanState) (at b : ℕ) (bytes : List ℕ) (class : ByteClass) → class_of b ≡ class → pieces_from state at (b ∷ bytes) ≡ begins state class at (b ∷ bytes) ++ pieces_from (state_after state class) (at + 1) bytes
 unfolding pieces_from
-first_byte place at b bytes class is = ap (λ (k : ByteClass). begins place k at (b ∷ bytes) ++ pieces_from (place_after place k) (at + 1) bytes) is
+first_byte state at b bytes class is = ap (λ (k : ByteClass). begins state k at (b ∷ bytes) ++ pieces_from (state_after state k) (at + 1) bytes) is
 
 -- how far a run of bytes that pass goes, by its first byte
 pub run_goes : (p : ℕ → Bool) (b : ℕ) (bytes : List ℕ) → p b ≡ true → prefix_len p (b ∷ bytes) ≡ 1 + prefix_len p bytes
@@ -44,12 +44,12 @@ abbrev pub continues_comment : ByteClass → Bool
 continues_comment class = not (is_line_end_class class)
 
 -- a run goes on with its first byte
-goes : (place : Place) (p : ℕ → Bool) (at b : ℕ) (bytes : List ℕ) → pieces_from place at (b ∷ bytes) ≡ pieces_from place (at + 1) bytes → p b ≡ true → pieces_from place (at + 1) bytes ≡ behind (prefix_len p bytes) (at + 1) bytes → pieces_from place at (b ∷ bytes) ≡ behind (prefix_len p (b ∷ bytes)) at (b ∷ bytes)
-goes place p at b bytes step passes rest = step ∙ rest ∙ sym (behind_more (prefix_len p bytes) at b bytes) ∙ ap (λ (n : ℕ). behind n at (b ∷ bytes)) (sym (run_goes p b bytes passes))
+goes : (state : ScanState) (p : ℕ → Bool) (at b : ℕ) (bytes : List ℕ) → pieces_from state at (b ∷ bytes) ≡ pieces_from state (at + 1) bytes → p b ≡ true → pieces_from state (at + 1) bytes ≡ behind (prefix_len p bytes) (at + 1) bytes → pieces_from state at (b ∷ bytes) ≡ behind (prefix_len p (b ∷ bytes)) at (b ∷ bytes)
+goes state p at b bytes step passes rest = step ∙ rest ∙ sym (behind_more (prefix_len p bytes) at b bytes) ∙ ap (λ (n : ℕ). behind n at (b ∷ bytes)) (sym (run_goes p b bytes passes))
 
 -- a run ends before its first byte
-ends : (place : Place) (p : ℕ → Bool) (at b : ℕ) (bytes : List ℕ) → pieces_from place at (b ∷ bytes) ≡ pieces_from between at (b ∷ bytes) → p b ≡ false → pieces_from place at (b ∷ bytes) ≡ behind (prefix_len p (b ∷ bytes)) at (b ∷ bytes)
-ends place p at b bytes same fails = same ∙ sym (behind_zero at (b ∷ bytes)) ∙ ap (λ (n : ℕ). behind n at (b ∷ bytes)) (sym (run_ends p b bytes fails))
+ends : (state : ScanState) (p : ℕ → Bool) (at b : ℕ) (bytes : List ℕ) → pieces_from state at (b ∷ bytes) ≡ pieces_from between at (b ∷ bytes) → p b ≡ false → pieces_from state at (b ∷ bytes) ≡ behind (prefix_len p (b ∷ bytes)) at (b ∷ bytes)
+ends state p at b bytes same fails = same ∙ sym (behind_zero at (b ∷ bytes)) ∙ ap (λ (n : ℕ). behind n at (b ∷ bytes)) (sym (run_ends p b bytes fails))
 
 -- in a word, the next piece is behind its last byte
 word_rest_by : (at b : ℕ) (bytes : List ℕ) (class : ByteClass) → class_of b ≡ class → pieces_from in_word (at + 1) bytes ≡ behind (prefix_len is_word_byte bytes) (at + 1) bytes → pieces_from in_word at (b ∷ bytes) ≡ behind (prefix_len is_word_byte (b ∷ bytes)) at (b ∷ bytes)
@@ -91,11 +91,11 @@ word_whole at b bytes is =
 comment_whole : (at b : ℕ) (bytes : List ℕ) → class_of b ≡ c.Semicolon → pieces_from between at (b ∷ bytes) ≡ behind (prefix_len is_comment_byte (b ∷ bytes)) at (b ∷ bytes)
 comment_whole at b bytes is = first_byte between at b bytes _ is ∙ sym (first_byte in_comment at b bytes _ is) ∙ comment_rest at (b ∷ bytes)
 
--- a place before the end is at a byte
+-- an offset before the end is that of a byte
 pub byte_at : (text : List ℕ) (at : ℕ) → at < length text → drop at text ≡ get_or text at 0 ∷ drop (at + 1) text
 byte_at text at lt = rw add-one (drop-cons text at 0 lt)
 
--- the pieces from a place on, where the bytes there are known
+-- the pieces from an offset on, where the bytes there are known
 from_byte : (text : List ℕ) (at : ℕ) → at < length text → pieces_at text at ≡ pieces_from between at (get_or text at 0 ∷ drop (at + 1) text)
 from_byte text at lt = ap (pieces_from between at) (byte_at text at lt)
 

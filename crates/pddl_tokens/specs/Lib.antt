@@ -4,4 +4,4 @@ pub mod Front
 pub mod Lines
 pub mod Cut
 pub mod Groups
-pub mod Places
+pub mod Within

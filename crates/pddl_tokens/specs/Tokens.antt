@@ -17,34 +17,34 @@ pub data Piece : Type 0 where
   bad : ℕ → Piece
 
 -- where a walk is in a text: between tokens, in a word, in a comment, or after the first bad byte
-pub data Place : Type 0 where
-  between : Place
-  in_word : Place
-  in_comment : Place
-  stopped : Place
+pub data ScanState : Type 0 where
+  between : ScanState
+  in_word : ScanState
+  in_comment : ScanState
+  stopped : ScanState
 
 -- the half-open range from `start` to `end`
 abbrev pub span : ℕ → ℕ → Span
 span start end = record { start = start; end = end }
 
 -- where a walk is after a byte outside comments
-abbrev pub place_behind : ByteClass → Place
-place_behind c.WordByte = in_word
-place_behind c.Semicolon = in_comment
-place_behind c.Bad = stopped
-place_behind _ = between
+abbrev pub state_outside : ByteClass → ScanState
+state_outside c.WordByte = in_word
+state_outside c.Semicolon = in_comment
+state_outside c.Bad = stopped
+state_outside _ = between
 
 -- where a walk is after a byte in a comment, which ends with its line's LF
-abbrev pub comment_behind : ByteClass → Place
-comment_behind c.LineEnd = between
-comment_behind _ = in_comment
+abbrev pub state_in_comment : ByteClass → ScanState
+state_in_comment c.LineEnd = between
+state_in_comment _ = in_comment
 
 -- where a walk is after a byte
-abbrev pub place_after : Place → ByteClass → Place
-place_after between class = place_behind class
-place_after in_word class = place_behind class
-place_after in_comment class = comment_behind class
-place_after stopped class = stopped
+abbrev pub state_after : ScanState → ByteClass → ScanState
+state_after between class = state_outside class
+state_after in_word class = state_outside class
+state_after in_comment class = state_in_comment class
+state_after stopped class = stopped
 
 -- the word at the front of the bytes, if no byte of a word is before them: the longest run of bytes of words
 abbrev pub word_at : ℕ → List ℕ → Piece
@@ -65,17 +65,17 @@ piece_at c.WordByte at bytes = word_at at bytes ∷ []
 piece_at class at bytes = mark_at class at bytes
 
 -- the piece that begins with the first byte, if one does, by where the walk is
-abbrev pub begins : Place → ByteClass → ℕ → List ℕ → List Piece
+abbrev pub begins : ScanState → ByteClass → ℕ → List ℕ → List Piece
 begins between class at bytes = piece_at class at bytes
 begins in_word class at bytes = mark_at class at bytes
 begins in_comment class at bytes = []
 begins stopped class at bytes = []
 
 -- the pieces of the bytes, which are at the offset `at` of their text, by where the walk is
-unfoldable pub pieces_from : Place → ℕ → List ℕ → List Piece
-pieces_from place at [] = []
-pieces_from place at (b ∷ bytes) =
-    begins place (class_of b) at (b ∷ bytes) ++ pieces_from (place_after place (class_of b)) (at + 1) bytes
+unfoldable pub pieces_from : ScanState → ℕ → List ℕ → List Piece
+pieces_from state at [] = []
+pieces_from state at (b ∷ bytes) =
+    begins state (class_of b) at (b ∷ bytes) ++ pieces_from (state_after state (class_of b)) (at + 1) bytes
 
 -- the tokens of a text in order, up to its first bad byte outside comments, which is the last piece if there is one
 unfoldable pub pieces : List ℕ → List Piece

@@ -52,33 +52,33 @@ one_is_undefined (Some amount ∷ amounts) e =
     let found = one_is_undefined amounts (undefined_rest amount (sum_of amounts) e) in (suc (found.0), omega (arith, found.1), found.2)
 
 -- all amounts come to what was added up, and those of the items that are left
-pub record IsSummed {X : Type 0} (f : X → Option ℕ) (all : Option ℕ) (sum : ℕ) (xs : List X) (place : ℕ) : Type 0 where
-  pub rest : all ≡ added (Some sum) (sum_of (map f (drop place xs)))
+pub record IsSummed {X : Type 0} (f : X → Option ℕ) (all : Option ℕ) (sum : ℕ) (xs : List X) (index : ℕ) : Type 0 where
+  pub rest : all ≡ added (Some sum) (sum_of (map f (drop index xs)))
 
 module _ {X : Type 0} (f : X → Option ℕ) where
   -- at first all are left
   pub summed_none : (xs : List X) → IsSummed f (sum_of (map f xs)) 0 xs 0
   summed_none xs = record { rest = sym (added-nothing (sum_of (map f xs))) }
 
-  module _ (all : Option ℕ) (sum : ℕ) (xs : List X) (place : ℕ) (summed : IsSummed f all sum xs place) where
+  module _ (all : Option ℕ) (sum : ℕ) (xs : List X) (index : ℕ) (summed : IsSummed f all sum xs index) where
     -- at last none is
-    pub summed_all : length xs ≤ place → all ≡ Some sum
-    summed_all past = summed.rest ∙ ap (λ l. added (Some sum) (sum_of (map f l))) (drop_all place xs past) ∙ ap Some (add-zero sum)
+    pub summed_all : length xs ≤ index → all ≡ Some sum
+    summed_all past = summed.rest ∙ ap (λ l. added (Some sum) (sum_of (map f l))) (drop_all index xs past) ∙ ap Some (add-zero sum)
 
-    module _ (x : X) (lt : place < length xs) (is : x ≡ get_or xs place x) where
-      split : all ≡ added (Some sum) (added (f x) (sum_of (map f (drop (place + 1) xs))))
-      split = summed.rest ∙ ap (λ l. added (Some sum) (sum_of (map f l))) (left xs place x lt is)
+    module _ (x : X) (lt : index < length xs) (is : x ≡ get_or xs index x) where
+      split : all ≡ added (Some sum) (added (f x) (sum_of (map f (drop (index + 1) xs))))
+      split = summed.rest ∙ ap (λ l. added (Some sum) (sum_of (map f l))) (left xs index x lt is)
 
       -- an undefined amount makes all undefined
       pub undefined_here : None ≡ f x → all ≡ None
-      undefined_here none = split ∙ ap (λ a. added (Some sum) (added a (sum_of (map f (drop (place + 1) xs))))) (sym none)
+      undefined_here none = split ∙ ap (λ a. added (Some sum) (added a (sum_of (map f (drop (index + 1) xs))))) (sym none)
 
       -- another one is added
-      pub summed_more : (amount : ℕ) → Some amount ≡ f x → IsSummed f all (sum + amount) xs (place + 1)
+      pub summed_more : (amount : ℕ) → Some amount ≡ f x → IsSummed f all (sum + amount) xs (index + 1)
       summed_more amount some = record {
         rest = split
-            ∙ ap (λ a. added (Some sum) (added a (sum_of (map f (drop (place + 1) xs))))) (sym some)
-            ∙ added_assoc (Some sum) (Some amount) (sum_of (map f (drop (place + 1) xs)));
+            ∙ ap (λ a. added (Some sum) (added a (sum_of (map f (drop (index + 1) xs))))) (sym some)
+            ∙ added_assoc (Some sum) (Some amount) (sum_of (map f (drop (index + 1) xs)));
       }
 
 -- and so they are behind a first amount

@@ -65,8 +65,8 @@ fn steps_cost(
 {
     let mut scratch = CostScratch::new(alloc);
     let mut sum = u128::from(costs.initial_cost(alloc));
-    for place in 0..steps.len() {
-        match step_cost(task, costs, steps.get(place), &mut scratch)? {
+    for index in 0..steps.len() {
+        match step_cost(task, costs, steps.get(index), &mut scratch)? {
             Some(cost) => sum += cost,
             None => return Ok(None),
         }

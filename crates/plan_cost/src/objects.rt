@@ -41,8 +41,8 @@ fn find_objects(task: &Task, step: StepView<'_>, objects: &mut Vec<u16>) -> Resu
     ensures { OnOk result (objects.new.items ≡ objects_named task.now (step_shown step.entry).args) }
 {
     objects.clear();
-    for place in 0..step.arg_count() {
-        if let Some(object) = task.object_named(step.arg(place)) {
+    for index in 0..step.arg_count() {
+        if let Some(object) = task.object_named(step.arg(index)) {
             objects.push(object)?;
         }
     }
@@ -63,7 +63,7 @@ pub(crate) fn ground(
     atom.args.clear();
     for term in terms {
         let object = match term {
-            Term::Param(place) => objects.get(*place as usize).copied().unwrap_or(0),
+            Term::Param(index) => objects.get(*index as usize).copied().unwrap_or(0),
             Term::Object(object) => *object,
         };
         atom.args.push(object)?;

@@ -48,47 +48,47 @@ parts_line : (t : Bool) (text : List ℕ) (size : ℕ) → lines text ≡ take s
 unfolding parts
 parts_line t text size first is = ap (λ (ls : List (List ℕ)). map concat (slice_split is_separator ls)) first ∙ parts_by t (take size text) (lines (drop size text)) is
 
--- the lines of a text up to a place are no separators
+-- the lines of a text up to an offset are no separators
 abbrev pub IsOnePartTo : List ℕ → ℕ → Type 0
-IsOnePartTo text place = parts text ≡ onto_part (take place text) (parts (drop place text))
+IsOnePartTo text offset = parts text ≡ onto_part (take offset text) (parts (drop offset text))
 
 pub one_part_start : (text : List ℕ) → IsOnePartTo text 0
 one_part_start text = sym (onto_part-none (parts text) (omega (arith, length-parts text)))
 
-one_part_more : (text : List ℕ) (place size : ℕ) → IsOnePartTo text place → lines (drop place text) ≡ take size (drop place text) ∷ lines (drop size (drop place text)) → is_separator (take size (drop place text)) ≡ false → IsOnePartTo text (place + size)
-one_part_more text place size before first is =
-    before ∙ ap (onto_part (take place text)) (parts_line false (drop place text) size first is)
-    ∙ onto_part-twice (take place text) (take size (drop place text)) (parts (drop size (drop place text)))
-    ∙ ap (λ (front : List ℕ). onto_part front (parts (drop size (drop place text)))) (sym (take-add place size text))
-    ∙ ap (λ (rest : List ℕ). onto_part (take (place + size) text) (parts rest)) (drop-drop size place text)
+one_part_more : (text : List ℕ) (offset size : ℕ) → IsOnePartTo text offset → lines (drop offset text) ≡ take size (drop offset text) ∷ lines (drop size (drop offset text)) → is_separator (take size (drop offset text)) ≡ false → IsOnePartTo text (offset + size)
+one_part_more text offset size before first is =
+    before ∙ ap (onto_part (take offset text)) (parts_line false (drop offset text) size first is)
+    ∙ onto_part-twice (take offset text) (take size (drop offset text)) (parts (drop size (drop offset text)))
+    ∙ ap (λ (front : List ℕ). onto_part front (parts (drop size (drop offset text)))) (sym (take-add offset size text))
+    ∙ ap (λ (rest : List ℕ). onto_part (take (offset + size) text) (parts rest)) (drop-drop size offset text)
 
-parted : (text : List ℕ) (place size : ℕ) → IsOnePartTo text place → lines (drop place text) ≡ take size (drop place text) ∷ lines (drop size (drop place text)) → is_separator (take size (drop place text)) ≡ true → parts text ≡ take place text ∷ parts (drop (place + size) text)
-parted text place size before first is =
-    before ∙ ap (onto_part (take place text)) (parts_line true (drop place text) size first is)
-    ∙ ap (λ (part : List ℕ). part ∷ parts (drop size (drop place text))) (append-nil (take place text))
-    ∙ ap (λ (rest : List ℕ). take place text ∷ parts rest) (drop-drop size place text)
+parted : (text : List ℕ) (offset size : ℕ) → IsOnePartTo text offset → lines (drop offset text) ≡ take size (drop offset text) ∷ lines (drop size (drop offset text)) → is_separator (take size (drop offset text)) ≡ true → parts text ≡ take offset text ∷ parts (drop (offset + size) text)
+parted text offset size before first is =
+    before ∙ ap (onto_part (take offset text)) (parts_line true (drop offset text) size first is)
+    ∙ ap (λ (part : List ℕ). part ∷ parts (drop size (drop offset text))) (append-nil (take offset text))
+    ∙ ap (λ (rest : List ℕ). take offset text ∷ parts rest) (drop-drop size offset text)
 
-pub one_part : (text : List ℕ) (place : ℕ) → length text ≤ place → IsOnePartTo text place → parts text ≡ text ∷ []
-one_part text place all before =
-    before ∙ ap (λ (rest : List ℕ). onto_part (take place text) (parts rest)) (drop_all place text all)
-    ∙ ap (onto_part (take place text)) no_text
-    ∙ ap (λ (part : List ℕ). part ∷ []) (append-nil (take place text) ∙ take_all place text all)
+pub one_part : (text : List ℕ) (offset : ℕ) → length text ≤ offset → IsOnePartTo text offset → parts text ≡ text ∷ []
+one_part text offset all before =
+    before ∙ ap (λ (rest : List ℕ). onto_part (take offset text) (parts rest)) (drop_all offset text all)
+    ∙ ap (onto_part (take offset text)) no_text
+    ∙ ap (λ (part : List ℕ). part ∷ []) (append-nil (take offset text) ∙ take_all offset text all)
 
 -- a separator behind lines that are none
-pub at_separator : (text rest : List ℕ) (place size : ℕ) → rest ≡ drop place text → place < length text → IsOnePartTo text place → CutsLine rest size → is_separator (take size rest) ≡ true → IsFirstSeparator (Some (record { start = place; end = place + size })) text
-at_separator text rest place size same within before cut is =
-    let here : CutsLine (drop place text) size = subst (λ (r : List ℕ). CutsLine r size) same cut in
-    let some : 0 < length (drop place text) = omega (arith, length-drop place text) in (
+pub at_separator : (text rest : List ℕ) (offset size : ℕ) → rest ≡ drop offset text → offset < length text → IsOnePartTo text offset → CutsLine rest size → is_separator (take size rest) ≡ true → IsFirstSeparator (Some (record { start = offset; end = offset + size })) text
+at_separator text rest offset size same within before cut is =
+    let here : CutsLine (drop offset text) size = subst (λ (r : List ℕ). CutsLine r size) same cut in
+    let some : 0 < length (drop offset text) = omega (arith, length-drop offset text) in (
       omega arith,
-      omega (arith, here.within, length-drop place text),
-      parted text place size before (here.first some) (subst (λ (r : List ℕ). is_separator (take size r) ≡ true) same is),
+      omega (arith, here.within, length-drop offset text),
+      parted text offset size before (here.first some) (subst (λ (r : List ℕ). is_separator (take size r) ≡ true) same is),
     )
 
 -- one more line that is no separator
-pub behind_line : (text rest : List ℕ) (place size : ℕ) → rest ≡ drop place text → place < length text → IsOnePartTo text place → CutsLine rest size → is_separator (take size rest) ≡ false → (place + size ≤ length text) × IsOnePartTo text (place + size)
-behind_line text rest place size same within before cut is =
-    let here : CutsLine (drop place text) size = subst (λ (r : List ℕ). CutsLine r size) same cut in
-    let some : 0 < length (drop place text) = omega (arith, length-drop place text) in (
-      omega (arith, here.within, length-drop place text),
-      one_part_more text place size before (here.first some) (subst (λ (r : List ℕ). is_separator (take size r) ≡ false) same is),
+pub behind_line : (text rest : List ℕ) (offset size : ℕ) → rest ≡ drop offset text → offset < length text → IsOnePartTo text offset → CutsLine rest size → is_separator (take size rest) ≡ false → (offset + size ≤ length text) × IsOnePartTo text (offset + size)
+behind_line text rest offset size same within before cut is =
+    let here : CutsLine (drop offset text) size = subst (λ (r : List ℕ). CutsLine r size) same cut in
+    let some : 0 < length (drop offset text) = omega (arith, length-drop offset text) in (
+      omega (arith, here.within, length-drop offset text),
+      one_part_more text offset size before (here.first some) (subst (λ (r : List ℕ). is_separator (take size r) ≡ false) same is),
     )

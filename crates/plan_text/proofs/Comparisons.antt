@@ -119,21 +119,21 @@ pub record HasWalked (text : List ℕ) (steps : List StepText) (count : ℕ) (wa
   pub within : count ≤ length steps
   pub passed : HasPassed walk (take count steps)
 
--- the element at a place is the first of what is left there
-first_at : {A : Type 0} (xs : List A) (place : ℕ) (x : A) → slice_get xs place ≡ Some x → drop place xs ≡ x ∷ drop (suc place) xs
-first_at [] place x is = absurd cc
+-- the element at an index is the first of what is left there
+first_at : {A : Type 0} (xs : List A) (index : ℕ) (x : A) → slice_get xs index ≡ Some x → drop index xs ≡ x ∷ drop (suc index) xs
+first_at [] index x is = absurd cc
 first_at (y ∷ xs) zero x is = let e : y ≡ x = cc in ap (λ z. z ∷ xs) e
-first_at (y ∷ xs) (suc place) x is = first_at xs place x is
+first_at (y ∷ xs) (suc index) x is = first_at xs index x is
 
-one_more : (place : ℕ) → suc place ≡ place + 1
-one_more place = omega arith
+one_more : (index : ℕ) → suc index ≡ index + 1
+one_more index = omega arith
 
--- the arguments from a place on, by the first of them
-pub args_go_on : (args : List (List ℕ)) (place : ℕ) (arg word : List ℕ) (words rest : List (List ℕ)) (t : Bool) → slice_get args place ≡ Some arg → words ≡ word ∷ rest → t ≡ bytes_eq arg (folded word) → pointwise bytes_eq (drop place args) (map folded words) ≡ (t && pointwise bytes_eq (drop (place + 1) args) (map folded rest))
-args_go_on args place arg word words rest t at is test =
-    ap (λ (ws : List (List ℕ)). pointwise bytes_eq (drop place args) (map folded ws)) is
-    ∙ ap (λ (others : List (List ℕ)). pointwise bytes_eq others (folded word ∷ map folded rest)) (first_at args place arg at ∙ ap (λ (n : ℕ). arg ∷ drop n args) (one_more place))
-    ∙ ap (λ (b : Bool). b && pointwise bytes_eq (drop (place + 1) args) (map folded rest)) (sym test)
+-- the arguments from an index on, by the first of them
+pub args_go_on : (args : List (List ℕ)) (index : ℕ) (arg word : List ℕ) (words rest : List (List ℕ)) (t : Bool) → slice_get args index ≡ Some arg → words ≡ word ∷ rest → t ≡ bytes_eq arg (folded word) → pointwise bytes_eq (drop index args) (map folded words) ≡ (t && pointwise bytes_eq (drop (index + 1) args) (map folded rest))
+args_go_on args index arg word words rest t at is test =
+    ap (λ (ws : List (List ℕ)). pointwise bytes_eq (drop index args) (map folded ws)) is
+    ∙ ap (λ (others : List (List ℕ)). pointwise bytes_eq others (folded word ∷ map folded rest)) (first_at args index arg at ∙ ap (λ (n : ℕ). arg ∷ drop n args) (one_more index))
+    ∙ ap (λ (b : Bool). b && pointwise bytes_eq (drop (index + 1) args) (map folded rest)) (sym test)
 
 pub step_words_by : (t : Bool) (name action word : List ℕ) → name ≡ action → t ≡ bytes_eq name (folded word) → t ≡ bytes_eq action (folded word)
 step_words_by t name action word is test = test ∙ ap (λ (n : List ℕ). bytes_eq n (folded word)) is
@@ -148,59 +148,59 @@ step_by_words step word words rest t is test =
 pub walk_starts : (text : List ℕ) (steps : List StepText) (walk : Walk) → walk.text ≡ text → HasPassed walk [] → HasWalked text steps 0 walk
 walk_starts text steps walk same passed = record { same = same; within = omega arith; passed = passed }
 
-taken_by : {A : Type 0} (xs : List A) (place : ℕ) (x : A) → slice_get xs place ≡ Some x → take (suc place) xs ≡ take place xs ++ x ∷ []
-taken_by [] place x is = absurd cc
+taken_by : {A : Type 0} (xs : List A) (index : ℕ) (x : A) → slice_get xs index ≡ Some x → take (suc index) xs ≡ take index xs ++ x ∷ []
+taken_by [] index x is = absurd cc
 taken_by (y ∷ xs) zero x is = let e : y ≡ x = cc in ap (λ z. z ∷ []) e
-taken_by (y ∷ xs) (suc place) x is = ap (λ zs. y ∷ zs) (taken_by xs place x is)
+taken_by (y ∷ xs) (suc index) x is = ap (λ zs. y ∷ zs) (taken_by xs index x is)
 
-taken_more : {A : Type 0} (xs : List A) (place : ℕ) (x : A) → slice_get xs place ≡ Some x → take (place + 1) xs ≡ take place xs ++ x ∷ []
-taken_more xs place x at = ap (λ (n : ℕ). take n xs) (sym (one_more place)) ∙ taken_by xs place x at
+taken_more : {A : Type 0} (xs : List A) (index : ℕ) (x : A) → slice_get xs index ≡ Some x → take (index + 1) xs ≡ take index xs ++ x ∷ []
+taken_more xs index x at = ap (λ (n : ℕ). take n xs) (sym (one_more index)) ∙ taken_by xs index x at
 
-stands : {A : Type 0} (xs : List A) (place : ℕ) (x : A) → slice_get xs place ≡ Some x → place + 1 ≤ length xs
-stands [] place x is = absurd cc
+stands : {A : Type 0} (xs : List A) (index : ℕ) (x : A) → slice_get xs index ≡ Some x → index + 1 ≤ length xs
+stands [] index x is = absurd cc
 stands (y ∷ xs) zero x is = omega arith
-stands (y ∷ xs) (suc place) x is = let rest : place + 1 ≤ length xs = stands xs place x is in omega arith
+stands (y ∷ xs) (suc index) x is = let rest : index + 1 ≤ length xs = stands xs index x is in omega arith
 
-pub walk_takes : (text : List ℕ) (steps : List StepText) (place : ℕ) (old new : Walk) (step shown : StepText) → HasWalked text steps place old → GoesBehind old new step → slice_get steps place ≡ Some shown → step_eq shown step ≡ true → HasWalked text steps (place + 1) new
-walk_takes text steps place old new step shown before goes at is = record {
+pub walk_takes : (text : List ℕ) (steps : List StepText) (index : ℕ) (old new : Walk) (step shown : StepText) → HasWalked text steps index old → GoesBehind old new step → slice_get steps index ≡ Some shown → step_eq shown step ≡ true → HasWalked text steps (index + 1) new
+walk_takes text steps index old new step shown before goes at is = record {
   same = goes.text ∙ before.same;
-  within = stands steps place shown at;
+  within = stands steps index shown at;
   passed =
-      subst (HasPassed new) (ap (λ (s : StepText). take place steps ++ s ∷ []) (sym ((step_decides shown step).0 is)) ∙ sym (taken_more steps place shown at))
-      (goes.passed (take place steps) before.passed);
+      subst (HasPassed new) (ap (λ (s : StepText). take index steps ++ s ∷ []) (sym ((step_decides shown step).0 is)) ∙ sym (taken_more steps index shown at))
+      (goes.passed (take index steps) before.passed);
 }
 
 -- a text whose next step is another, or that has one step more
-pub other_step : (text : List ℕ) (steps : List StepText) (place : ℕ) (old new : Walk) (step shown : StepText) → HasWalked text steps place old → GoesBehind old new step → slice_get steps place ≡ Some shown → step_eq shown step ≡ false → ◌≡◌ {A = Plan} (Steps steps) (plan_of text) → ⊥
-other_step text steps place old new step shown before goes at is same =
-    let begins = walk_begins new (take place steps ++ step ∷ []) steps (goes.passed (take place steps) before.passed) (ap plan_of (goes.text ∙ before.same) ∙ sym same) in
-    let whole : (take place steps ++ shown ∷ []) ++ drop (suc place) steps ≡ steps =
-    append_assoc (take place steps) (shown ∷ []) (drop (suc place) steps) ∙ ap (λ (ss : List StepText). take place steps ++ ss) (sym (first_at steps place shown at)) ∙ take-append-drop place steps
+pub other_step : (text : List ℕ) (steps : List StepText) (index : ℕ) (old new : Walk) (step shown : StepText) → HasWalked text steps index old → GoesBehind old new step → slice_get steps index ≡ Some shown → step_eq shown step ≡ false → ◌≡◌ {A = Plan} (Steps steps) (plan_of text) → ⊥
+other_step text steps index old new step shown before goes at is same =
+    let begins = walk_begins new (take index steps ++ step ∷ []) steps (goes.passed (take index steps) before.passed) (ap plan_of (goes.text ∙ before.same) ∙ sym same) in
+    let whole : (take index steps ++ shown ∷ []) ++ drop (suc index) steps ≡ steps =
+    append_assoc (take index steps) (shown ∷ []) (drop (suc index) steps) ∙ ap (λ (ss : List StepText). take index steps ++ ss) (sym (first_at steps index shown at)) ∙ take-append-drop index steps
     in
-    let e : shown ≡ step = first_left (take place steps) (drop (suc place) steps) begins.more shown step (whole ∙ begins.is) in
+    let e : shown ≡ step = first_left (take index steps) (drop (suc index) steps) begins.more shown step (whole ∙ begins.is) in
     let yes : step_eq shown step ≡ true = (step_decides shown step).1 e in
     let no = is in
     cc
 
-pub one_step_more : (text : List ℕ) (steps : List StepText) (place : ℕ) (old new : Walk) (step : StepText) → HasWalked text steps place old → GoesBehind old new step → place ≡ length steps → ◌≡◌ {A = Plan} (Steps steps) (plan_of text) → ⊥
-one_step_more text steps place old new step before goes end same =
-    let begins = walk_begins new (take place steps ++ step ∷ []) steps (goes.passed (take place steps) before.passed) (ap plan_of (goes.text ∙ before.same) ∙ sym same) in
-    let size : length steps ≡ length ((take place steps ++ step ∷ []) ++ begins.more) = ap length begins.is in
-    omega (arith, size, length-append (take place steps ++ step ∷ []) begins.more, length-append (take place steps) (step ∷ []), length-take-le place steps (omega arith), end)
+pub one_step_more : (text : List ℕ) (steps : List StepText) (index : ℕ) (old new : Walk) (step : StepText) → HasWalked text steps index old → GoesBehind old new step → index ≡ length steps → ◌≡◌ {A = Plan} (Steps steps) (plan_of text) → ⊥
+one_step_more text steps index old new step before goes end same =
+    let begins = walk_begins new (take index steps ++ step ∷ []) steps (goes.passed (take index steps) before.passed) (ap plan_of (goes.text ∙ before.same) ∙ sym same) in
+    let size : length steps ≡ length ((take index steps ++ step ∷ []) ++ begins.more) = ap length begins.is in
+    omega (arith, size, length-append (take index steps ++ step ∷ []) begins.more, length-append (take index steps) (step ∷ []), length-take-le index steps (omega arith), end)
 
 -- a text that ends
-ends_by : (t : Bool) (text : List ℕ) (steps : List StepText) (place : ℕ) → place ≤ length steps → plan_of text ≡ Steps (take place steps) → (place == length steps) ≡ t → t ≡ plan_eq (Steps steps) (plan_of text)
-ends_by true text steps place within ends is =
-    let end : place ≡ length steps = (unsigned_Decides place (length steps)).0 is in
-    plans_same (Steps steps) (plan_of text) (sym (ends ∙ ap Steps (take_all place steps (omega (arith, end)))))
-ends_by false text steps place within ends is =
+ends_by : (t : Bool) (text : List ℕ) (steps : List StepText) (index : ℕ) → index ≤ length steps → plan_of text ≡ Steps (take index steps) → (index == length steps) ≡ t → t ≡ plan_eq (Steps steps) (plan_of text)
+ends_by true text steps index within ends is =
+    let end : index ≡ length steps = (unsigned_Decides index (length steps)).0 is in
+    plans_same (Steps steps) (plan_of text) (sym (ends ∙ ap Steps (take_all index steps (omega (arith, end)))))
+ends_by false text steps index within ends is =
     plans_differ (Steps steps) (plan_of text) (λ same.
-    let size : length steps ≡ length (take place steps) = ap length (same_steps steps (take place steps) (same ∙ ends)) in
-    let end : place ≡ length steps = omega (arith, size, length-take-le place steps within) in
-    let yes : (place == length steps) ≡ true = (unsigned_Decides place (length steps)).1 end in
+    let size : length steps ≡ length (take index steps) = ap length (same_steps steps (take index steps) (same ∙ ends)) in
+    let end : index ≡ length steps = omega (arith, size, length-take-le index steps within) in
+    let yes : (index == length steps) ≡ true = (unsigned_Decides index (length steps)).1 end in
     let no = is in
     cc)
 
-pub walk_ends : (text : List ℕ) (steps : List StepText) (place : ℕ) (walk : Walk) → HasWalked text steps place walk → ((all : List StepText) → HasPassed walk all → plan_of walk.text ≡ Steps all) → (place == length steps) ≡ plan_eq (Steps steps) (plan_of text)
-walk_ends text steps place walk before ends =
-    ends_by (place == length steps) text steps place before.within (ap plan_of (sym before.same) ∙ ends (take place steps) before.passed) refl
+pub walk_ends : (text : List ℕ) (steps : List StepText) (index : ℕ) (walk : Walk) → HasWalked text steps index walk → ((all : List StepText) → HasPassed walk all → plan_of walk.text ≡ Steps all) → (index == length steps) ≡ plan_eq (Steps steps) (plan_of text)
+walk_ends text steps index walk before ends =
+    ends_by (index == length steps) text steps index before.within (ap plan_of (sym before.same) ∙ ends (take index steps) before.passed) refl

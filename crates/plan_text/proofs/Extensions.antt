@@ -14,6 +14,7 @@ use Rattle.plan_text.specs.declared.want.Want.TheVariants.{Step, Number, Opening
 use Rattle.plan_text.specs.MarkedNumbers.{number_before}
 use Rattle.plan_text.specs.PlanGrammar.{Symbol, left, right, word, symbol_of}
 use Rattle.plan_text.specs.PlanReading.{Reading, then_want, begun, risen, stamped, numbered, followed, named, by_want, read_on, at_end, behind, plan_from}
+use Rattle.strips_task.specs.declared.steps.TheConstants.{MOST_STEPS}
 
 -- steps begin with these
 pub record BeginsWith (steps first : List StepText) : Type 0 where
@@ -47,7 +48,7 @@ keeps_risen r None = tt
 keeps_risen r (Some value) = keeps_if (nat_le r.least value) r.steps (Some (record { want = Opening; least = value + 1; steps = r.steps; words = r.words })) (itself r.steps)
 
 keeps_stamped : (r : Reading) (text : List ℕ) → Keeps r.steps (stamped r text)
-keeps_stamped r text = keeps_if (nat_lt (length r.steps) 1000000) r.steps (risen r (number_before 58 text)) (keeps_risen r (number_before 58 text))
+keeps_stamped r text = keeps_if (nat_lt (length r.steps) MOST_STEPS) r.steps (risen r (number_before 58 text)) (keeps_risen r (number_before 58 text))
 
 keeps_numbered : (r : Reading) (value : Option ℕ) → Keeps r.steps (numbered r value)
 keeps_numbered r None = tt
@@ -61,7 +62,7 @@ keeps_named : (r : Reading) (text : List ℕ) → Keeps r.steps (named r text)
 keeps_named r text = keeps_if (is_name text) r.steps (Some (record { want = Argument; least = r.least; steps = r.steps; words = r.words ++ folded text ∷ [] })) (itself r.steps)
 
 keeps_begun : (r : Reading) → Keeps r.steps (begun r (Some (then_want Action r)))
-keeps_begun r = keeps_if (nat_lt (length r.steps) 1000000) r.steps (Some (then_want Action r)) (itself r.steps)
+keeps_begun r = keeps_if (nat_lt (length r.steps) MOST_STEPS) r.steps (Some (then_want Action r)) (itself r.steps)
 
 keeps_by : (want : Want) (r : Reading) (s : Symbol) → Keeps r.steps (by_want want r s)
 keeps_by Step r left = keeps_begun r

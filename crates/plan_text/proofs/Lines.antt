@@ -9,7 +9,7 @@ is_not : (t : Bool) → (t ≡ true → ⊥) → t ≡ false
 is_not true other = absurd (other refl)
 is_not false other = refl
 
--- the byte at a place is an LF
+-- the byte at an offset is an LF
 abbrev pub IsLf : List ℕ → ℕ → Type 0
 IsLf text k = (get_or text k 0 == 10) ≡ true
 

@@ -11,16 +11,16 @@ use Rattle.plan_text.specs.declared.want.Want.{Want}
 use Rattle.plan_text.specs.declared.want.Want.TheVariants.{Step, Number, Opening, Action, Argument}
 use Rattle.plan_text.specs.PlanGrammar.{Symbol, symbol_of, symbols, IsPlanText, IsViable}
 use Rattle.plan_text.specs.PlanReading.{Reading, nothing_read, read_on, at_end, behind, unreadable, plan_from, plan_of}
-use Rattle.plan_text.specs.PlanFaults.{AreTokens, place_of, Refuses, IsFaultAt, EndsTooEarly, IsFaultLine, IsPlanOf}
+use Rattle.plan_text.specs.PlanFaults.{AreTokens, offset_of, Refuses, IsFaultAt, EndsTooEarly, IsFaultLine, IsPlanOf}
 use Rattle.plan_text.specs.Walks.{IsBetween}
 use Rattle.plan_text.proofs.Runs.{reading, run, run-append, run_plan}
 use Rattle.plan_text.proofs.Reached.{IsReached, reached_start, reached_on, viable_reached, plan_reached}
 use Rattle.plan_text.proofs.Steps.{plan_bad, plan_refused, plan_too_long, plan_short}
 
 -- tokens that are read lead to where reading them leads
-reads_by : (text : List ℕ) (place : ℕ) (before ps : List Piece) (end : Reading) (o : Option Reading) → option_and_then (λ next. run next (symbols before)) o ≡ Some end → ((next : Reading) → run next (symbols before) ≡ Some end → plan_from text next (before ++ ps) ≡ plan_from text end ps) → behind text place (λ next. plan_from text next (before ++ ps)) o ≡ plan_from text end ps
-reads_by text place before ps end None ran rest = absurd cc
-reads_by text place before ps end (Some next) ran rest = rest next ran
+reads_by : (text : List ℕ) (offset : ℕ) (before ps : List Piece) (end : Reading) (o : Option Reading) → option_and_then (λ next. run next (symbols before)) o ≡ Some end → ((next : Reading) → run next (symbols before) ≡ Some end → plan_from text next (before ++ ps) ≡ plan_from text end ps) → behind text offset (λ next. plan_from text next (before ++ ps)) o ≡ plan_from text end ps
+reads_by text offset before ps end None ran rest = absurd cc
+reads_by text offset before ps end (Some next) ran rest = rest next ran
 
 reads_to : (text : List ℕ) (before ps : List Piece) (r end : Reading) → AreTokens before → run r (symbols before) ≡ Some end → plan_from text r (before ++ ps) ≡ plan_from text end ps
 unfolding plan_from symbols
@@ -64,7 +64,7 @@ refused_by : (tokens : List Symbol) (r : Reading) (s : Symbol) (o : Option Readi
 refused_by tokens r s None is reached refused = refl
 refused_by tokens r s (Some next) is reached refused = absurd (refused (viable_reached _ next (reached_on r tokens s next reached is)))
 
-fault_read : (text : List ℕ) (tokens : List Symbol) (r : Reading) (fault : Piece) (ps : List Piece) → run nothing_read tokens ≡ Some r → Refuses tokens fault → plan_from text r (fault ∷ ps) ≡ unreadable text (place_of fault)
+fault_read : (text : List ℕ) (tokens : List Symbol) (r : Reading) (fault : Piece) (ps : List Piece) → run nothing_read tokens ≡ Some r → Refuses tokens fault → plan_from text r (fault ∷ ps) ≡ unreadable text (offset_of fault)
 fault_read text tokens r (bad at) ps ran refused = plan_bad text r at ps
 fault_read text tokens r (token kind span bytes) ps ran refused =
     plan_refused text r kind span bytes ps (refused_by tokens r (symbol_of kind bytes) (read_on r (symbol_of kind bytes)) refl (is_reached tokens r ran) refused)
@@ -90,8 +90,8 @@ unfolding plan_from
 reads_whole text end short tokens ran =
     sym (plan_short text short) ∙ ap (plan_from text nothing_read) (sym (append-nil (pieces text))) ∙ reads_to text (pieces text) [] nothing_read end tokens ran
 
-only_fault : (text : List ℕ) (place : ℕ) → length text < 2 ^ 31 → IsFaultAt text place → plan_of text ≡ unreadable text place
-only_fault text place short fault =
+only_fault : (text : List ℕ) (offset : ℕ) → length text < 2 ^ 31 → IsFaultAt text offset → plan_of text ≡ unreadable text offset
+only_fault text offset short fault =
     let at = viable_read (symbols fault.before) fault.viable in
     sym (plan_short text short) ∙ ap (plan_from text nothing_read) fault.split
     ∙ reads_to text fault.before (fault.fault ∷ fault.behind) nothing_read at.reading fault.tokens at.ran
@@ -104,11 +104,11 @@ only_end text short early =
     reads_whole text at.reading short early.tokens at.ran
     ∙ end_read text (symbols (pieces text)) at.reading.want at.reading.least at.reading.steps at.reading.words (is_reached _ at.reading at.ran) early.no_plan
 
-only_line : (text : List ℕ) (line : ℕ) (fault : IsFaultLine text line) → plan_of text ≡ unreadable text fault.place
+only_line : (text : List ℕ) (line : ℕ) (fault : IsFaultLine text line) → plan_of text ≡ unreadable text fault.offset
 only_line text line fault =
     ⊎_elim
-    (λ (at : IsFaultAt text fault.place). only_fault text fault.place fault.short at)
-    (λ (early : EndsTooEarly text × (fault.place ≡ length text)). only_end text fault.short early.0 ∙ ap (unreadable text) (sym early.1))
+    (λ (at : IsFaultAt text fault.offset). only_fault text fault.offset fault.short at)
+    (λ (early : EndsTooEarly text × (fault.offset ≡ length text)). only_end text fault.short early.0 ∙ ap (unreadable text) (sym early.1))
     fault.fault
 
 -- a text stands for the plan that is read of it, and for no other

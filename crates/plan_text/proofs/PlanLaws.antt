@@ -14,7 +14,7 @@ use Rattle.plan_text.specs.declared.want.Want.{Want}
 use Rattle.plan_text.specs.declared.want.Want.TheVariants.{Step, Number, Opening, Action, Argument}
 use Rattle.plan_text.specs.PlanGrammar.{Symbol, symbol_of, symbols, IsPlanText, IsViable}
 use Rattle.plan_text.specs.PlanReading.{Reading, nothing_read, read_on, at_end, behind, plan_from, plan_of}
-use Rattle.plan_text.specs.PlanFaults.{AreTokens, place_of, Refuses, IsFaultLine, IsPlanOf}
+use Rattle.plan_text.specs.PlanFaults.{AreTokens, offset_of, Refuses, IsFaultLine, IsPlanOf}
 use Rattle.plan_text.specs.Walks.{IsBetween}
 use Rattle.plan_text.proofs.Runs.{run}
 use Rattle.plan_text.proofs.Reached.{IsReached, reached_start, reached_on, viable_reached, plan_reached, not_viable, run_more, no_plan}
@@ -34,7 +34,7 @@ symbols-push : (before : List Piece) (kind : TokenKind) (span : Span) (bytes : L
 unfolding symbols
 symbols-push before kind span bytes tokens = symbols-append before (token kind span bytes ∷ []) tokens
 
--- what was read before a place of a text
+-- what was read before an offset of a text
 pub record IsReadBefore (text : List ℕ) (before ps : List Piece) (r : Reading) : Type 0 where
   pub short : length text < 2 ^ 31
   pub split : pieces text ≡ before ++ ps
@@ -48,7 +48,7 @@ ends_early text before r read unended =
     let all : before ≡ pieces text = sym (read.split ∙ append-nil before) in
     record {
       short = read.short;
-      place = length text;
+      offset = length text;
       fault = inr (
         record {
           tokens = subst AreTokens all read.tokens;
@@ -79,10 +79,10 @@ plan_at_end text before Action least steps words read = inr (ends_early text bef
 plan_at_end text before Argument least steps words read = inr (ends_early text before _ read (λ between. between))
 
 -- a piece that is refused
-fault_line : (text : List ℕ) (before : List Piece) (fault : Piece) (ps : List Piece) (r : Reading) → IsReadBefore text before (fault ∷ ps) r → Refuses (symbols before) fault → IsFaultLine text (line_of text (place_of fault))
+fault_line : (text : List ℕ) (before : List Piece) (fault : Piece) (ps : List Piece) (r : Reading) → IsReadBefore text before (fault ∷ ps) r → Refuses (symbols before) fault → IsFaultLine text (line_of text (offset_of fault))
 fault_line text before fault ps r read refused = record {
   short = read.short;
-  place = place_of fault;
+  offset = offset_of fault;
   fault = inl (record {
     before = before;
     fault = fault;

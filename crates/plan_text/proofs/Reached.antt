@@ -21,6 +21,7 @@ use Rattle.plan_text.proofs.DecimalLaws.{IsNumberWord, number_found}
 use Rattle.plan_text.proofs.Stamps.{least_after, RisesAt, Rises, least_at, increases, rises_push, least_push, want_after, want_at, want_push}
 use Rattle.plan_text.specs.Walks.{IsBetween}
 use Rattle.plan_text.proofs.Runs.{reading, run, run-append, run_plan}
+use Rattle.strips_task.specs.declared.steps.TheConstants.{MOST_STEPS}
 
 -- tokens are a plan text, behind which this may come, from this stamp on
 pub record IsWritten (tokens : List Symbol) (want : Want) (least : ℕ) (steps : List StepText) : Type 0 where
@@ -31,7 +32,7 @@ pub record IsWritten (tokens : List Symbol) (want : Want) (least : ℕ) (steps :
   pub wanted : want ≡ want_at Step written
   pub least_is : least ≡ least_at 0 written
   pub read : steps ≡ map meant written
-  pub few : length written ≤ 1000000
+  pub few : length written ≤ MOST_STEPS
 
 is_plan : (tokens : List Symbol) (want : Want) (least : ℕ) (steps : List StepText) → IsWritten tokens want least steps → IsPlanText tokens steps
 is_plan tokens want least steps w = record {
@@ -47,7 +48,7 @@ no_tokens : IsWritten [] Step 0 []
 no_tokens = record { written = []; spelled = refl; are_steps = All-nil IsStep; rising = tt; wanted = refl; least_is = refl; read = refl; few = omega arith }
 
 -- one more step
-written_more : (front tokens : List Symbol) (want : Want) (before least : ℕ) (steps after : List StepText) (s : WrittenStep) → IsWritten front want before steps → IsStep s → RisesAt before s.stamp → length steps < 1000000 → tokens ≡ front ++ step_symbols s → least ≡ least_after before s.stamp → after ≡ steps ++ meant s ∷ [] → IsWritten tokens (want_after s.number) least after
+written_more : (front tokens : List Symbol) (want : Want) (before least : ℕ) (steps after : List StepText) (s : WrittenStep) → IsWritten front want before steps → IsStep s → RisesAt before s.stamp → length steps < MOST_STEPS → tokens ≡ front ++ step_symbols s → least ≡ least_after before s.stamp → after ≡ steps ++ meant s ∷ [] → IsWritten tokens (want_after s.number) least after
 written_more front tokens want before least steps after s w is rise few spelled least_is read = record {
   written = w.written ++ s ∷ [];
   spelled =
@@ -72,7 +73,7 @@ pub record IsBehind (done first : List Symbol) (stamp : Option Decimal) (least :
   pub decimal : IfSome stamp IsDecimal
   pub rise : RisesAt before stamp
   pub least_is : least ≡ least_after before stamp
-  pub few : length steps < 1000000
+  pub few : length steps < MOST_STEPS
 
 behind_more : (done first begun : List Symbol) (s : Symbol) (stamp : Option Decimal) (least : ℕ) (steps : List StepText) → IsBehind done first stamp least steps → first ++ s ∷ [] ≡ begun → IsBehind (done ++ s ∷ []) begun stamp least steps
 behind_more done first begun s stamp least steps b same = record {
@@ -149,14 +150,14 @@ closed_written done least steps words c =
 
 -- one more token
 
-reached_left : (done : List Symbol) (want : Want) (least : ℕ) (steps : List StepText) (words : List (List ℕ)) → IsWritten done want least steps → words ≡ [] → length steps < 1000000 → IsOpened (done ++ left ∷ []) least steps words
+reached_left : (done : List Symbol) (want : Want) (least : ℕ) (steps : List StepText) (words : List (List ℕ)) → IsWritten done want least steps → words ≡ [] → length steps < MOST_STEPS → IsOpened (done ++ left ∷ []) least steps words
 reached_left done want least steps words w none few = record {
   stamp = None;
   behind = record { front = done; want = want; before = least; written = w; spelled = refl; decimal = tt; rise = tt; least_is = refl; few = few };
   none = none;
 }
 
-reached_stamp : (done : List Symbol) (want : Want) (least value : ℕ) (steps : List StepText) (words : List (List ℕ)) (text : List ℕ) → IsWritten done want least steps → words ≡ [] → length steps < 1000000 → IsNumberWord 58 text value → least ≤ value → IsStamped (done ++ word text ∷ []) (value + 1) steps words
+reached_stamp : (done : List Symbol) (want : Want) (least value : ℕ) (steps : List StepText) (words : List (List ℕ)) (text : List ℕ) → IsWritten done want least steps → words ≡ [] → length steps < MOST_STEPS → IsNumberWord 58 text value → least ≤ value → IsStamped (done ++ word text ∷ []) (value + 1) steps words
 reached_stamp done want least value steps words text w none few is rise = record {
   number = is.number;
   behind = record {
@@ -242,12 +243,12 @@ chosen : {A : Type 0} (b : Bool) (o : Option A) (next : A) → cond b o None ≡
 chosen true o next is = (refl, is)
 chosen false o next is = cc
 
-left_read : (done : List Symbol) (want : Want) (least : ℕ) (steps : List StepText) (words : List (List ℕ)) (next : Reading) → IsWritten done want least steps → words ≡ [] → cond (nat_lt (length steps) 1000000) (Some (reading Action least steps words)) None ≡ Some next → IsReached (done ++ left ∷ []) next
+left_read : (done : List Symbol) (want : Want) (least : ℕ) (steps : List StepText) (words : List (List ℕ)) (next : Reading) → IsWritten done want least steps → words ≡ [] → cond (nat_lt (length steps) MOST_STEPS) (Some (reading Action least steps words)) None ≡ Some next → IsReached (done ++ left ∷ []) next
 left_read done want least steps words next w none is =
-    let (few, same) = some_chosen (nat_lt (length steps) 1000000) (reading Action least steps words) next is in
+    let (few, same) = some_chosen (nat_lt (length steps) MOST_STEPS) (reading Action least steps words) next is in
     subst (IsReached (done ++ left ∷ [])) same (reached_left done want least steps words w none (ltb-true _ _ few))
 
-stamp_read_by : (done : List Symbol) (want : Want) (least : ℕ) (steps : List StepText) (words : List (List ℕ)) (text : List ℕ) (next : Reading) (o : Option ℕ) → IsWritten done want least steps → words ≡ [] → length steps < 1000000 → number_before 58 text ≡ o → risen (reading want least steps words) o ≡ Some next → IsReached (done ++ word text ∷ []) next
+stamp_read_by : (done : List Symbol) (want : Want) (least : ℕ) (steps : List StepText) (words : List (List ℕ)) (text : List ℕ) (next : Reading) (o : Option ℕ) → IsWritten done want least steps → words ≡ [] → length steps < MOST_STEPS → number_before 58 text ≡ o → risen (reading want least steps words) o ≡ Some next → IsReached (done ++ word text ∷ []) next
 stamp_read_by done want least steps words text next None w none few read is = absurd cc
 stamp_read_by done want least steps words text next (Some value) w none few read is =
     let (rise, same) = some_chosen (nat_le least value) (reading Opening (value + 1) steps words) next is in
@@ -255,7 +256,7 @@ stamp_read_by done want least steps words text next (Some value) w none few read
 
 stamp_read : (done : List Symbol) (want : Want) (least : ℕ) (steps : List StepText) (words : List (List ℕ)) (text : List ℕ) (next : Reading) → IsWritten done want least steps → words ≡ [] → stamped (reading want least steps words) text ≡ Some next → IsReached (done ++ word text ∷ []) next
 stamp_read done want least steps words text next w none is =
-    let (few, rest) = chosen (nat_lt (length steps) 1000000) (risen (reading want least steps words) (number_before 58 text)) next is in
+    let (few, rest) = chosen (nat_lt (length steps) MOST_STEPS) (risen (reading want least steps words) (number_before 58 text)) next is in
     stamp_read_by done want least steps words text next (number_before 58 text) w none (ltb-true _ _ few) refl rest
 
 number_read_by : (done : List Symbol) (least : ℕ) (steps : List StepText) (words : List (List ℕ)) (text : List ℕ) (next : Reading) (o : Option ℕ) → IsClosed done least steps words → number_before 93 text ≡ o → numbered (reading Number least steps words) o ≡ Some next → IsReached (done ++ word (91 ∷ text) ∷ []) next

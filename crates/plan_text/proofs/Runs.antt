@@ -20,6 +20,7 @@ use Rattle.plan_text.specs.Walks.{IsBetween}
 use Rattle.pddl_words.proofs.DecimalLaws.{no_bracket}
 use Rattle.plan_text.proofs.DecimalLaws.{number_read}
 use Rattle.plan_text.proofs.Stamps.{least_after, RisesAt, Rises, least_at, rises, want_after, want_at}
+use Rattle.strips_task.specs.declared.steps.TheConstants.{MOST_STEPS}
 
 abbrev pub reading : Want → ℕ → List StepText → List (List ℕ) → Reading
 reading want least steps words = record { want = want; least = least; steps = steps; words = words }
@@ -50,11 +51,11 @@ between_at want (s ∷ written) between = between_at (want_after s.number) writt
 pub read_name : (r : Reading) (text : List ℕ) → is_name text ≡ true → named r text ≡ Some (reading Argument r.least r.steps (r.words ++ folded text ∷ []))
 read_name r text is = ap (λ (t : Bool). cond t (Some (reading Argument r.least r.steps (r.words ++ folded text ∷ []))) None) is
 
-has_room : (r : Reading) (next : Option Reading) → length r.steps < 1000000 → begun r next ≡ next
-has_room r next few = ap (λ (t : Bool). cond t next None) (lt-ltb (length r.steps) 1000000 few)
+has_room : (r : Reading) (next : Option Reading) → length r.steps < MOST_STEPS → begun r next ≡ next
+has_room r next few = ap (λ (t : Bool). cond t next None) (lt-ltb (length r.steps) MOST_STEPS few)
 
 -- a `(` between steps is read on
-pub read_left : (want : Want) (least : ℕ) (steps : List StepText) → IsBetween want → length steps < 1000000 → read_on (reading want least steps []) left ≡ Some (reading Action least steps [])
+pub read_left : (want : Want) (least : ℕ) (steps : List StepText) → IsBetween want → length steps < MOST_STEPS → read_on (reading want least steps []) left ≡ Some (reading Action least steps [])
 unfolding read_on
 read_left Step least steps between few = has_room (reading Step least steps []) _ few
 read_left Number least steps between few = has_room (reading Number least steps []) _ few
@@ -63,7 +64,7 @@ read_left Action least steps between few = absurd between
 read_left Argument least steps between few = absurd between
 
 -- a stamp that rises is read on
-read_stamp : (r : Reading) (number : Decimal) → length r.steps < 1000000 → IsDecimal number → r.least ≤ billionths number → stamped r (stamp_word number) ≡ Some (reading Opening (billionths number + 1) r.steps r.words)
+read_stamp : (r : Reading) (number : Decimal) → length r.steps < MOST_STEPS → IsDecimal number → r.least ≤ billionths number → stamped r (stamp_word number) ≡ Some (reading Opening (billionths number + 1) r.steps r.words)
 read_stamp r number few is rise =
     has_room r _ few ∙ ap (risen r) (number_read 58 number is)
     ∙ ap (λ (t : Bool). cond t (Some (reading Opening (billionths number + 1) r.steps r.words)) None) (le-leb r.least (billionths number) rise)
@@ -74,7 +75,7 @@ stamp_follows r [] fraction is = absurd (omega (arith, is.some))
 stamp_follows r (b ∷ whole) fraction is =
     ap (λ (t : Bool). cond t (numbered r (number_before 93 ((whole ++ behind_whole fraction) ++ 58 ∷ []))) (stamped r ((b ∷ (whole ++ behind_whole fraction)) ++ 58 ∷ []))) (no_bracket b (All-head IsDigit b whole is.whole))
 
-read_stamp_between : (want : Want) (least : ℕ) (steps : List StepText) (number : Decimal) → IsBetween want → length steps < 1000000 → IsDecimal number → least ≤ billionths number → read_on (reading want least steps []) (word (stamp_word number)) ≡ Some (reading Opening (billionths number + 1) steps [])
+read_stamp_between : (want : Want) (least : ℕ) (steps : List StepText) (number : Decimal) → IsBetween want → length steps < MOST_STEPS → IsDecimal number → least ≤ billionths number → read_on (reading want least steps []) (word (stamp_word number)) ≡ Some (reading Opening (billionths number + 1) steps [])
 unfolding read_on
 read_stamp_between Step least steps number between few is rise = read_stamp (reading Step least steps []) number few is rise
 read_stamp_between Number least steps number between few is rise =
@@ -84,7 +85,7 @@ read_stamp_between Action least steps number between few is rise = absurd betwee
 read_stamp_between Argument least steps number between few is rise = absurd between
 
 -- the stamp and the `(` of a step are read on
-run_opening : (want : Want) (least : ℕ) (steps : List StepText) (stamp : Option Decimal) (more : List Symbol) → IsBetween want → length steps < 1000000 → IfSome stamp IsDecimal → RisesAt least stamp → run (reading want least steps []) (perhaps stamp_word stamp ++ left ∷ more) ≡ run (reading Action (least_after least stamp) steps []) more
+run_opening : (want : Want) (least : ℕ) (steps : List StepText) (stamp : Option Decimal) (more : List Symbol) → IsBetween want → length steps < MOST_STEPS → IfSome stamp IsDecimal → RisesAt least stamp → run (reading want least steps []) (perhaps stamp_word stamp ++ left ∷ more) ≡ run (reading Action (least_after least stamp) steps []) more
 unfolding read_on
 run_opening want least steps None more between few is rise = ap (option_and_then (λ next. run next more)) (read_left want least steps between few)
 run_opening want least steps (Some number) more between few is rise =
@@ -107,7 +108,7 @@ run_number least steps (Some number) more is =
     ap (λ (o : Option ℕ). option_and_then (λ next. run next more) (numbered (reading Number least steps []) o)) (number_read 93 number is)
 
 -- a step is read as what it means
-run_step : (want : Want) (least : ℕ) (steps : List StepText) (s : WrittenStep) (more : List Symbol) → IsBetween want → length steps < 1000000 → IsStep s → RisesAt least s.stamp → run (reading want least steps []) (step_symbols s ++ more) ≡ run (reading (want_after s.number) (least_after least s.stamp) (steps ++ meant s ∷ []) []) more
+run_step : (want : Want) (least : ℕ) (steps : List StepText) (s : WrittenStep) (more : List Symbol) → IsBetween want → length steps < MOST_STEPS → IsStep s → RisesAt least s.stamp → run (reading want least steps []) (step_symbols s ++ more) ≡ run (reading (want_after s.number) (least_after least s.stamp) (steps ++ meant s ∷ []) []) more
 unfolding read_on step_of
 run_step want least steps s more between few is rise =
     let behind = right ∷ perhaps bracket_word s.number in
@@ -120,7 +121,7 @@ run_step want least steps s more between few is rise =
     ∙ run_number next (steps ++ meant s ∷ []) s.number more is.number
 
 -- the steps of a plan are read as what they mean
-run_written : (want : Want) (least : ℕ) (steps : List StepText) (written : List WrittenStep) → IsBetween want → length steps + length written ≤ 1000000 → All IsStep written → Rises least written → run (reading want least steps []) (flat_map step_symbols written) ≡ Some (reading (want_at want written) (least_at least written) (steps ++ map meant written) [])
+run_written : (want : Want) (least : ℕ) (steps : List StepText) (written : List WrittenStep) → IsBetween want → length steps + length written ≤ MOST_STEPS → All IsStep written → Rises least written → run (reading want least steps []) (flat_map step_symbols written) ≡ Some (reading (want_at want written) (least_at least written) (steps ++ map meant written) [])
 run_written want least steps [] between few are rise = ap (λ (ss : List StepText). Some (reading want least ss [])) (sym (append-nil steps))
 run_written want least steps (s ∷ written) between few are rise =
     run_step want least steps s (flat_map step_symbols written) between (omega arith) (All-head IsStep s written are) rise.0

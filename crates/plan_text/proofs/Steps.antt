@@ -23,6 +23,7 @@ use Rattle.plan_text.specs.PlanReading.{Reading, then_want, begun, risen, stampe
 use Rattle.plan_text.specs.Wants.{takes_name}
 use Rattle.plan_text.specs.PlanSteps.{reading, IsReady, LeadsTo, ReadsOn, ReadsBetween}
 use Rattle.plan_text.proofs.MarkedNumbers.{no_last}
+use Rattle.strips_task.specs.declared.steps.TheConstants.{MOST_STEPS}
 
 pub plan_end : (text : List ℕ) (r : Reading) → plan_from text r [] ≡ at_end r.want text r.steps
 unfolding plan_from
@@ -66,7 +67,7 @@ reads_name (Ok next) expected plan new text takes leads =
     read_by expected.want expected plan new (word text) next refl (subst (LeadsTo next new) (sym (name_wanted expected.want (reading expected plan) text takes)) leads)
 reads_name (Err e) expected plan new text takes leads = tt
 
-pub room_for_name : (want : Want) (plan : OpenPlan) → takes_name want ≡ true → IsReady want plan → length plan.steps < 1000000
+pub room_for_name : (want : Want) (plan : OpenPlan) → takes_name want ≡ true → IsReady want plan → length plan.steps < MOST_STEPS
 room_for_name Step plan takes ready = absurd cc
 room_for_name Number plan takes ready = absurd cc
 room_for_name Opening plan takes ready = absurd cc
@@ -86,9 +87,9 @@ unfolding read_on
 word_refused expected plan text takes step number = no_word expected.want (reading expected plan) text takes step number
 
 -- a `(` between steps
-pub step_begins : (result : Option Expected) (expected next : Expected) (plan : OpenPlan) → next ≡ record { want = Action; least_stamp = expected.least_stamp } → plan.words ≡ [] → ((length plan.steps < 1000000 → IsReady next.want plan) → LeadsTo result plan (begun (reading next plan) (Some (reading next plan)))) → LeadsTo result plan (begun (reading expected plan) (Some (then_want Action (reading expected plan))))
+pub step_begins : (result : Option Expected) (expected next : Expected) (plan : OpenPlan) → next ≡ record { want = Action; least_stamp = expected.least_stamp } → plan.words ≡ [] → ((length plan.steps < MOST_STEPS → IsReady next.want plan) → LeadsTo result plan (begun (reading next plan) (Some (reading next plan)))) → LeadsTo result plan (begun (reading expected plan) (Some (then_want Action (reading expected plan))))
 step_begins result expected next plan same none leads =
-    subst (λ (n : Expected). (length plan.steps < 1000000 → IsReady n.want plan) → LeadsTo result plan (begun (reading n plan) (Some (reading n plan)))) same leads (λ few. (none, few))
+    subst (λ (n : Expected). (length plan.steps < MOST_STEPS → IsReady n.want plan) → LeadsTo result plan (begun (reading n plan) (Some (reading n plan)))) same leads (λ few. (none, few))
 
 -- between steps no word is open
 pub none_open : (want between : Want) (plan : OpenPlan) → want ≡ between → IsReady want plan → IsReady between plan
@@ -144,7 +145,7 @@ closed_reads expected next old new is same closes =
     )
 
 -- a name inside a step
-pub name_reads : (expected next : Expected) (old new : OpenPlan) (text : List ℕ) → length old.steps < 1000000 → is_name text ≡ true → next ≡ record { want = Argument; least_stamp = expected.least_stamp } → new ≡ record { steps = old.steps; words = old.words ++ folded text ∷ [] } → LeadsTo (Some next) new (named (reading expected old) text)
+pub name_reads : (expected next : Expected) (old new : OpenPlan) (text : List ℕ) → length old.steps < MOST_STEPS → is_name text ≡ true → next ≡ record { want = Argument; least_stamp = expected.least_stamp } → new ≡ record { steps = old.steps; words = old.words ++ folded text ∷ [] } → LeadsTo (Some next) new (named (reading expected old) text)
 name_reads expected next old new text few name same pushed =
     subst (λ (n : Expected). LeadsTo (Some n) new (named (reading expected old) text)) (sym same)
     (subst (λ (p : OpenPlan). LeadsTo (Some (record { want = Argument; least_stamp = expected.least_stamp })) p (named (reading expected old) text)) (sym pushed) (
@@ -162,7 +163,7 @@ begun_none true = refl
 begun_none false = refl
 
 pub no_stamp : (r : Reading) (text : List ℕ) → None ≡ number_before 58 text → stamped r text ≡ None
-no_stamp r text none = ap (λ (o : Option ℕ). begun r (risen r o)) (sym none) ∙ begun_none (nat_lt (length r.steps) 1000000)
+no_stamp r text none = ap (λ (o : Option ℕ). begun r (risen r o)) (sym none) ∙ begun_none (nat_lt (length r.steps) MOST_STEPS)
 
 followed_number : (r : Reading) (text number : List ℕ) → pointwise nat_eq (take 1 text) (91 ∷ []) ≡ true → number ≡ drop 1 text → followed r text ≡ numbered r (number_before 93 number)
 followed_number r [] number is same = absurd cc

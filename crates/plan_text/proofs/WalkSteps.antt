@@ -7,7 +7,7 @@ use Rattle.pddl_tokens.specs.declared.spans.Span.{Span}
 use Rattle.pddl_tokens.specs.declared.spans.TokenKind.{TokenKind}
 use Rattle.pddl_tokens.specs.declared.spans.TokenKind.TheVariants as k
 use Rattle.pddl_tokens.specs.Tokens.{Piece, token, bad}
-use Rattle.pddl_tokens.specs.Places.{AreWithin}
+use Rattle.pddl_tokens.specs.Within.{AreWithin}
 use Rattle.strips_task.specs.declared.steps.StepText.{StepText}
 use Rattle.strips_task.specs.OpenPlan.{OpenPlan}
 use Rattle.strips_task.specs.Steps.{step_of}
@@ -23,6 +23,7 @@ use Rattle.plan_text.specs.WalkFinds.{IsOpened, IsStuck, IsOpening, IsClosed, Is
 use Rattle.plan_text.specs.Wants.{takes_name}
 use Rattle.plan_text.proofs.Runs.{read_name}
 use Rattle.plan_text.proofs.Steps.{plan_end, plan_bad, plan_goes_on, plan_refused, unnamed_refused}
+use Rattle.strips_task.specs.declared.steps.TheConstants.{MOST_STEPS}
 
 -- an open plan of these steps
 abbrev pub plan_with : List StepText → OpenPlan
@@ -80,7 +81,7 @@ way_goes_on text first now next count old rest kind span bytes way reads outside
 }
 
 -- where a name may come and no word is open, a step was just opened
-just_opened : (want : Want) (steps : List StepText) → takes_name want ≡ true → IsReady want (plan_with steps) → (want ≡ Action) × (length steps < 1000000)
+just_opened : (want : Want) (steps : List StepText) → takes_name want ≡ true → IsReady want (plan_with steps) → (want ≡ Action) × (length steps < MOST_STEPS)
 just_opened Step steps takes ready = absurd cc
 just_opened Number steps takes ready = absurd cc
 just_opened Opening steps takes ready = absurd cc

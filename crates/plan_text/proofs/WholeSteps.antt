@@ -10,7 +10,7 @@ use Rattle.pddl_words.specs.Words.{is_name, folded}
 use Rattle.pddl_tokens.specs.declared.spans.TokenKind.TheVariants.{Left, Right, Word}
 use Rattle.pddl_tokens.specs.declared.scan.Group.{Group}
 use Rattle.pddl_tokens.specs.Tokens.{Piece, token, span}
-use Rattle.pddl_tokens.specs.Places.{AreWithin}
+use Rattle.pddl_tokens.specs.Within.{AreWithin}
 use Rattle.pddl_tokens.specs.Groups.{IsPlain, word_pieces, group_pieces}
 use Rattle.pddl_tokens.proofs.NamesArePlain.{names_are_plain}
 use Rattle.pddl_tokens.proofs.PlainRows.{row_has_words}
@@ -25,6 +25,7 @@ use Rattle.plan_text.specs.Walks.{Walk, RestsAt, GoesBehind, reading_behind, wor
 use Rattle.plan_text.specs.WalkFinds.{ComesNext, IsStepFound}
 use Rattle.plan_text.proofs.Runs.{reading, read_name, read_left}
 use Rattle.plan_text.proofs.Steps.{plan_goes_on}
+use Rattle.strips_task.specs.declared.steps.TheConstants.{MOST_STEPS}
 
 -- the names behind the first are read one by one
 other_names : (text : List ℕ) (least : ℕ) (steps : List StepText) (read words : List (List ℕ)) (at : ℕ) (rest : List Piece) → list_all is_name words ≡ true → plan_from text (reading Argument least steps read) (word_pieces at words ++ rest) ≡ plan_from text (reading Argument least steps (read ++ map folded words)) rest
@@ -45,7 +46,7 @@ all_names text least steps (word ∷ words) at rest some names =
     ∙ other_names text least steps (folded word ∷ []) words (at + length word + 1) rest others
 
 -- a `(` is read on wherever a walk rests
-left_comes : (want : Want) (least count : ℕ) (steps : List StepText) → RestsAt want count → length steps < 1000000 → read_on (reading want least steps []) left ≡ Some (reading Action least steps [])
+left_comes : (want : Want) (least count : ℕ) (steps : List StepText) → RestsAt want count → length steps < MOST_STEPS → read_on (reading want least steps []) left ≡ Some (reading Action least steps [])
 unfolding read_on
 left_comes Step least count steps rests few = read_left Step least steps tt few
 left_comes Number least count steps rests few = read_left Number least steps tt few
@@ -54,7 +55,7 @@ left_comes Action least count steps rests few = absurd rests
 left_comes Argument least count steps rests few = absurd rests
 
 -- a whole step is read
-whole_step : (text : List ℕ) (want : Want) (least count : ℕ) (steps : List StepText) (at : ℕ) (row : List ℕ) (rest : List Piece) → RestsAt want count → length steps < 1000000 → IsSpelled row → plan_from text (reading_behind want least steps) (group_pieces at row ++ rest) ≡ plan_from text (reading_behind Number least (steps ++ step_spelled row ∷ [])) rest
+whole_step : (text : List ℕ) (want : Want) (least count : ℕ) (steps : List StepText) (at : ℕ) (row : List ℕ) (rest : List Piece) → RestsAt want count → length steps < MOST_STEPS → IsSpelled row → plan_from text (reading_behind want least steps) (group_pieces at row ++ rest) ≡ plan_from text (reading_behind Number least (steps ++ step_spelled row ∷ [])) rest
 unfolding read_on
 whole_step text want least count steps at row rest rests few spelled =
     let close = token Right (span (at + 1 + length row) (at + 1 + length row + 1)) (41 ∷ []) in
@@ -72,7 +73,7 @@ behind_within size [] rest within = within
 behind_within size (piece ∷ front) rest within = behind_within size front rest within.1
 
 -- where a step may come, the next group does
-pub group_comes : (walk : Walk) (text : List ℕ) (rest : List Piece) (expected : Expected) (count : ℕ) (found : Option Group) → ◌≡◌ {A = Walk} (record { text = text; rest = rest; want = expected.want; least = expected.least_stamp; count = count }) walk → AreWithin (length text) rest → RestsAt expected.want count → count < 1000000 → IfSome found (λ group. IsPlain group.key.now → rest ≡ group_pieces group.start group.key.now ++ group.rest) → IfSome found (λ group. ComesNext walk group)
+pub group_comes : (walk : Walk) (text : List ℕ) (rest : List Piece) (expected : Expected) (count : ℕ) (found : Option Group) → ◌≡◌ {A = Walk} (record { text = text; rest = rest; want = expected.want; least = expected.least_stamp; count = count }) walk → AreWithin (length text) rest → RestsAt expected.want count → count < MOST_STEPS → IfSome found (λ group. IsPlain group.key.now → rest ≡ group_pieces group.start group.key.now ++ group.rest) → IfSome found (λ group. ComesNext walk group)
 group_comes walk text rest expected count None is within rests room first = tt
 group_comes walk text rest expected count (Some group) is within rests room first =
     subst (λ (w : Walk). ComesNext w group) is (record {

@@ -15,9 +15,9 @@ AreTokens (bad at ∷ ps) = ⊥
 AreTokens (token kind span bytes ∷ ps) = AreTokens ps
 
 -- where a piece begins
-abbrev pub place_of : Piece → ℕ
-place_of (bad at) = at
-place_of (token kind span bytes) = span.start
+abbrev pub offset_of : Piece → ℕ
+offset_of (bad at) = at
+offset_of (token kind span bytes) = span.start
 
 -- no plan text begins with these tokens and this piece: it is a bad byte, or a token with which they are no longer viable
 abbrev pub Refuses : List Symbol → Piece → Type 0
@@ -25,7 +25,7 @@ Refuses tokens (bad at) = Unit {0}
 Refuses tokens (token kind span bytes) = IsViable (tokens ++ symbol_of kind bytes ∷ []) → ⊥
 
 -- the first piece such that no plan text begins with the tokens up to and including it is at this offset
-pub record IsFaultAt (text : List ℕ) (place : ℕ) : Type 0 where
+pub record IsFaultAt (text : List ℕ) (offset : ℕ) : Type 0 where
   pub before : List Piece
   pub fault : Piece
   pub behind : List Piece
@@ -33,7 +33,7 @@ pub record IsFaultAt (text : List ℕ) (place : ℕ) : Type 0 where
   pub tokens : AreTokens before
   pub viable : IsViable (symbols before)
   pub refused : Refuses (symbols before) fault
-  pub begins : place ≡ place_of fault
+  pub begins : offset ≡ offset_of fault
 
 -- some plan text begins with the text's tokens, but they are not a plan text themselves
 pub record EndsTooEarly (text : List ℕ) : Type 0 where
@@ -50,9 +50,9 @@ pub record IsTextOf (text : List ℕ) (steps : List StepText) : Type 0 where
 -- the text is no plan text, and its fault is in this line: that of the first fault, or of the end of a text that ends too early
 pub record IsFaultLine (text : List ℕ) (line : ℕ) : Type 0 where
   pub short : length text < 2 ^ 31
-  pub place : ℕ
-  pub fault : IsFaultAt text place ⊎ (EndsTooEarly text × (place ≡ length text))
-  pub in_line : line ≡ line_of text place
+  pub offset : ℕ
+  pub fault : IsFaultAt text offset ⊎ (EndsTooEarly text × (offset ≡ length text))
+  pub in_line : line ≡ line_of text offset
 
 -- the text stands for this plan; one of 2^31 bytes or more is unreadable in its first line
 abbrev pub IsPlanOf : List ℕ → Plan → Type 0

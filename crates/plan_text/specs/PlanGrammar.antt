@@ -10,6 +10,7 @@ use Rattle.pddl_tokens.specs.declared.spans.TokenKind.TheVariants.{Left, Right, 
 use Rattle.pddl_tokens.specs.Tokens.{Piece, token, bad}
 use Rattle.pddl_words.specs.Decimals.{Decimal, IsDecimal, decimal_bytes, billionths}
 use Rattle.strips_task.specs.declared.steps.StepText.{StepText}
+use Rattle.strips_task.specs.declared.steps.TheConstants.{MOST_STEPS}
 
 -- a token without its span
 pub data Symbol : Type 0 where
@@ -77,7 +78,7 @@ pub record IsPlanText (tokens : List Symbol) (steps : List StepText) : Type 0 wh
   pub are_steps : All IsStep written
   pub rising : IsStrictlyIncreasing (stamps written)
   pub read : steps ≡ map meant written
-  pub few : length written ≤ 1000000
+  pub few : length written ≤ MOST_STEPS
 
 -- tokens are viable if some plan text begins with them
 pub record IsViable (tokens : List Symbol) : Type 0 where

@@ -12,6 +12,7 @@ use Rattle.plan_text.specs.declared.want.Want.{Want}
 use Rattle.plan_text.specs.declared.want.Want.TheVariants.{Step, Number, Opening, Action, Argument}
 use Rattle.plan_text.specs.MarkedNumbers.{number_before}
 use Rattle.plan_text.specs.PlanGrammar.{Symbol, left, right, word, symbol_of}
+use Rattle.strips_task.specs.declared.steps.TheConstants.{MOST_STEPS}
 
 -- what was read: what may come next, the least value of the next stamp in billionths, the finished steps, and the words of the open step
 pub record Reading : Type 0 where
@@ -30,7 +31,7 @@ then_want want r = record { want = want; least = r.least; steps = r.steps; words
 
 -- a step may begin, unless there are as many as there may be
 abbrev pub begun : Reading → Option Reading → Option Reading
-begun r next = if nat_lt (length r.steps) 1000000 then next else None
+begun r next = if nat_lt (length r.steps) MOST_STEPS then next else None
 
 -- after a stamp of this value: the next one must be larger
 abbrev pub risen : Reading → Option ℕ → Option Reading
@@ -84,7 +85,7 @@ read_on r symbol = by_want r.want r symbol
 
 -- the plan of a text that cannot be read on at this offset: unreadable in its line
 abbrev pub unreadable : List ℕ → ℕ → Plan
-unreadable text place = Unreadable (line_of text place)
+unreadable text offset = Unreadable (line_of text offset)
 
 -- the plan at the end of a text: no step may be open, and no stamp may wait for its step
 abbrev pub at_end : Want → List ℕ → List StepText → Plan
@@ -96,8 +97,8 @@ at_end Argument text steps = unreadable text (length text)
 
 -- the plan of a text, by whether the token at this offset could be read on
 abbrev pub behind : List ℕ → ℕ → (Reading → Plan) → Option Reading → Plan
-behind text place rest None = unreadable text place
-behind text place rest (Some r) = rest r
+behind text offset rest None = unreadable text offset
+behind text offset rest (Some r) = rest r
 
 -- the plan of the rest of a text
 unfoldable pub plan_from : List ℕ → Reading → List Piece → Plan

@@ -2,7 +2,7 @@
 
 use Rattle.std.specs.Prelude.{◌≡◌, ℕ, ◌<◌, ◌≤◌, List, [], ◌∷◌, length, take, drop, slice_range, Option, Some, None, IfSome}
 use Rattle.plan_text.specs.declared.parts.Line.{Line}
-use Rattle.plan_text.specs.declared.parts.PartPlace.{PartPlace}
+use Rattle.plan_text.specs.declared.parts.PartEnd.{PartEnd}
 use Rattle.plan_text.specs.Bundle.{lines, parts, parts_from, parts_behind}
 
 -- the first line of a text, if it has one, has this many bytes
@@ -18,11 +18,11 @@ IsFirstSeparator (Some line) text =
     (line.start ≤ line.end) × (line.end ≤ length text) × (parts text ≡ take line.start text ∷ parts (drop line.end text))
 
 -- where the first part of a bundle from an offset on ends, and where the other parts begin, if there are any
-pub record IsFirstPart (place : PartPlace) (bundle : List ℕ) (start : ℕ) : Type 0 where
-  pub ordered : start ≤ place.end
-  pub within : place.end ≤ length bundle
-  pub behind : IfSome place.next (λ next. next ≤ length bundle)
-  pub first : parts_from bundle start ≡ slice_range bundle start place.end ∷ parts_behind bundle place.next
+pub record IsFirstPart (part : PartEnd) (bundle : List ℕ) (start : ℕ) : Type 0 where
+  pub ordered : start ≤ part.end
+  pub within : part.end ≤ length bundle
+  pub behind : IfSome part.next (λ next. next ≤ length bundle)
+  pub first : parts_from bundle start ≡ slice_range bundle start part.end ∷ parts_behind bundle part.next
 
 -- the parts of what is left of a bundle; none if nothing is left, not even an empty part
 abbrev pub parts_left : Option (List ℕ) → List (List ℕ)

@@ -8,8 +8,8 @@ use Rattle.strips_task.specs.OpenPlan.{OpenPlan}
 
 -- the step with this index in a plan, counted from 0, if there is one; an unreadable plan has no step
 abbrev pub step_at : Plan → ℕ → Option StepText
-step_at (Steps steps) place = slice_get steps place
-step_at (Unreadable line) place = None
+step_at (Steps steps) index = slice_get steps index
+step_at (Unreadable line) index = None
 
 -- whether there is a step, which then is the only one of an open plan
 abbrev pub IsStepAt : Bool → Option StepText → OpenPlan → Type 0

@@ -8,7 +8,7 @@ use Rattle.pddl_tokens.specs.declared.spans.TokenKind.{TokenKind}
 use Rattle.pddl_tokens.specs.declared.spans.TokenKind.TheVariants.{Right, Word}
 use Rattle.pddl_tokens.specs.Tokens.{Piece}
 use Rattle.pddl_tokens.specs.Groups.{IsPlain, group_pieces}
-use Rattle.pddl_tokens.specs.Places.{AreWithin}
+use Rattle.pddl_tokens.specs.Within.{AreWithin}
 use Rattle.strips_task.specs.declared.plans.Plan.TheVariants.{Steps, Unreadable}
 use Rattle.strips_task.specs.declared.steps.StepText.{StepText}
 use Rattle.strips_task.specs.Steps.{step_of}
@@ -25,10 +25,11 @@ use Rattle.plan_text.specs.declared.walk.TextStep.TheVariants as t
 use Rattle.plan_text.specs.PlanGrammar.{symbol_of}
 use Rattle.plan_text.specs.PlanReading.{Reading, plan_from, plan_of, read_on, unreadable}
 use Rattle.plan_text.specs.Walks.{Walk, RestsAt, HasPassed, GoesBehind, reading_behind, words_before}
+use Rattle.strips_task.specs.declared.steps.TheConstants.{MOST_STEPS}
 
 -- a step may come next, and if its key is plain, this group comes next
 pub record ComesNext (walk : Walk) (group : Group) : Type 0 where
-  pub room : walk.count < 1000000
+  pub room : walk.count < MOST_STEPS
   pub rests : RestsAt walk.want walk.count
   pub first : IsPlain group.key.now → walk.rest ≡ group_pieces group.start group.key.now ++ group.rest
   pub within : IsPlain group.key.now → AreWithin (length walk.text) group.rest
@@ -47,7 +48,7 @@ IsFound (t.Unreadable line) old new = (new ≡ old) × ((steps : List StepText) 
 
 -- a step was opened: its stamp, if it has one, and its `(` were read
 pub record IsOpened (text : List ℕ) (expected : Expected) (count least : ℕ) (old new : List Piece) : Type 0 where
-  pub room : count < 1000000
+  pub room : count < MOST_STEPS
   pub shorter : length new < length old
   pub within : AreWithin (length text) new
   pub same :
@@ -55,17 +56,17 @@ pub record IsOpened (text : List ℕ) (expected : Expected) (count least : ℕ) 
       → plan_from text (reading_behind expected.want expected.least_stamp steps) old ≡ plan_from text (reading_behind w.Action least steps) new
 
 -- the text can't be read on at this offset, or ends there too early
-pub record IsStuck (text : List ℕ) (expected : Expected) (count place : ℕ) (old : List Piece) : Type 0 where
-  pub within : place ≤ length text
+pub record IsStuck (text : List ℕ) (expected : Expected) (count offset : ℕ) (old : List Piece) : Type 0 where
+  pub within : offset ≤ length text
   pub same :
       (steps : List StepText) → length steps ≡ count
-      → plan_from text (reading_behind expected.want expected.least_stamp steps) old ≡ unreadable text place
+      → plan_from text (reading_behind expected.want expected.least_stamp steps) old ≡ unreadable text offset
 
 -- what follows `count` steps, where `old` and `new` are the pieces that are left before and after it
 abbrev pub IsOpening : Opening → List ℕ → Expected → ℕ → List Piece → List Piece → Type 0
 IsOpening o.End text expected count old new =
     (steps : List StepText) → length steps ≡ count → plan_from text (reading_behind expected.want expected.least_stamp steps) old ≡ Steps steps
-IsOpening (o.Fault place) text expected count old new = IsStuck text expected count place old
+IsOpening (o.Fault offset) text expected count old new = IsStuck text expected count offset old
 IsOpening (o.Open least) text expected count old new = IsOpened text expected count least old new
 
 -- what the end of a text of this length means if no step is open
@@ -103,14 +104,14 @@ pub record IsClosed (text : List ℕ) (old new : List Piece) : Type 0 where
       ≡ plan_from text (reading_behind w.Number least (steps ++ step_of (map folded (words_before old)) ∷ [])) new
 
 -- a step can't be read on at this offset, or the text ends there too early
-pub record IsBroken (text : List ℕ) (place : ℕ) (old : List Piece) : Type 0 where
-  pub within : place ≤ length text
-  pub same : (least : ℕ) (steps : List StepText) → plan_from text (reading_behind w.Action least steps) old ≡ unreadable text place
+pub record IsBroken (text : List ℕ) (offset : ℕ) (old : List Piece) : Type 0 where
+  pub within : offset ≤ length text
+  pub same : (least : ℕ) (steps : List StepText) → plan_from text (reading_behind w.Action least steps) old ≡ unreadable text offset
 
 -- how an open step goes on
 abbrev pub IsEnding : Result (Unit {0}) ℕ → List ℕ → List Piece → List Piece → Type 0
 IsEnding (Ok u) text old new = IsClosed text old new
-IsEnding (Err place) text old new = IsBroken text place old
+IsEnding (Err offset) text old new = IsBroken text offset old
 
 -- the first word is taken, if there is one
 abbrev pub TakesWord : Option (List ℕ) → List (List ℕ) → List (List ℕ) → Type 0

@@ -9,6 +9,7 @@ ghost use Rattle.plan_text.specs.PlanGrammar.{left, word, symbol_of};
 ghost use Rattle.plan_text.specs.PlanReading.{begun, stamped, followed};
 ghost use Rattle.plan_text.specs.PlanSteps.{reading, IsReady, LeadsTo, ReadsBetween};
 ghost use Rattle.plan_text.specs.Wants.{takes_name};
+ghost use Rattle.strips_task.specs.declared.steps.TheConstants.{MOST_STEPS};
 
 use crate::marked::number_before;
 use crate::want::{Expected, Want};
@@ -58,7 +59,7 @@ pub(crate) fn read_number(steps: usize, expected: Expected, text: &[u8]) -> Opti
 
 /// A step begins, unless the plan has as many as it may have.
 fn begun(steps: usize, next: Expected) -> Option<Expected>
-    ensures { (plan : OpenPlan) → length plan.steps ≡ steps → (length plan.steps < 1000000 → IsReady next.want plan)
+    ensures { (plan : OpenPlan) → length plan.steps ≡ steps → (length plan.steps < MOST_STEPS → IsReady next.want plan)
         → LeadsTo result plan (begun (reading next plan) (Some (reading next plan))) }
 {
     if steps < MOST_STEPS { Some(next) } else { None }

@@ -153,19 +153,19 @@ fn are_steps_of(steps: &StepList, text: &[u8]) -> bool
     let Some(mut walk) = PlanSteps::new(text) else {
         return false;
     };
-    let mut place = 0;
+    let mut index = 0;
     'steps: loop {
         match walk.next_step() {
             TextStep::Step { words, key: _ } => {
-                if place == steps.len() {
+                if index == steps.len() {
                     return false;
                 }
-                if !is_step(steps.get(place), words) {
+                if !is_step(steps.get(index), words) {
                     return false;
                 }
-                place += 1;
+                index += 1;
             }
-            TextStep::End => return place == steps.len(),
+            TextStep::End => return index == steps.len(),
             TextStep::Unreadable { line: _ } => return false,
         }
     }
@@ -192,10 +192,10 @@ fn is_step(step: StepView<'_>, mut words: StepWords<'_>) -> bool
 fn are_args(step: StepView<'_>, mut words: StepWords<'_>) -> bool
     ensures { result ≡ pointwise bytes_eq (step_shown step.entry).args (map folded words.entry) }
 {
-    for place in 0..step.arg_count() {
+    for index in 0..step.arg_count() {
         match words.next() {
             Some(word) => {
-                if !is_folded(step.arg(place), word) {
+                if !is_folded(step.arg(index), word) {
                     return false;
                 }
             }

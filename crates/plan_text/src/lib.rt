@@ -53,7 +53,7 @@ mod walk;
 mod want;
 
 pub use compare::{is_plan_of, same_plans};
-pub use parts::{PartPlace, Parts, part_from};
+pub use parts::{PartEnd, Parts, part_from};
 pub use pddl_tokens::Group;
 pub use read::read_plan;
 pub use step_at::read_step_at;

@@ -63,7 +63,7 @@ impl<'a> Iterator for Parts<'a> {
 
 /// Where a part of a bundle ends, and where the next part begins, if there is one.
 #[derive(Clone, Copy, Debug)]
-pub struct PartPlace {
+pub struct PartEnd {
     /// The offset after the last byte of the part.
     pub end: usize,
     /// The offset of the first byte of the next part, which may be empty.
@@ -72,16 +72,16 @@ pub struct PartPlace {
 
 /// The part of a bundle that begins at the offset `start`. The first part begins at 0, and each part says where the next one begins, so that
 /// all parts together cost one pass over the bundle, and no memory.
-pub fn part_from(bundle: &[u8], start: usize) -> PartPlace
+pub fn part_from(bundle: &[u8], start: usize) -> PartEnd
     requires { start ≤ length bundle.now }
     ensures { IsFirstPart result bundle.now start }
 {
     match first_separator(&bundle[start..]) {
-        Some(line) => PartPlace {
+        Some(line) => PartEnd {
             end: start + line.start,
             next: Some(start + line.end),
         },
-        None => PartPlace {
+        None => PartEnd {
             end: bundle.len(),
             next: None,
         },

@@ -4,6 +4,7 @@ ghost use Rattle.std.specs.Prelude.{◌≡◌, ◌<◌, ◌≤◌, ◌^◌, leng
 ghost use Rattle.plan_text.specs.PlanGrammar.{right, word, symbol_of};
 ghost use Rattle.plan_text.specs.PlanReading.{plan_of, unreadable, at_end, named};
 ghost use Rattle.plan_text.specs.PlanSteps.{reading, IsReady, LeadsTo, ReadsOn};
+ghost use Rattle.strips_task.specs.declared.steps.TheConstants.{MOST_STEPS};
 
 use crate::between::{read_left, read_number};
 use crate::want::{Expected, Want};
@@ -94,7 +95,7 @@ fn push_name(
     expected: Expected,
     text: &[u8],
 ) -> Result<Option<Expected>, AllocError>
-    requires { length plan.old.steps < 1000000 }
+    requires { length plan.old.steps < MOST_STEPS }
     ensures { IfOk result (λ next. LeadsTo next plan.new (named (reading expected plan.old) text.now)) }
 {
     match word_kind(text) {
@@ -118,13 +119,13 @@ fn ended(plan: OpenSteps, want: Want, text: &[u8]) -> Plan
     }
 }
 
-/// A text with a fault at `place`.
-fn unreadable(text: &[u8], place: u32) -> Plan
-    requires within { place ≤ length text.now }
+/// A text with a fault at `offset`.
+fn unreadable(text: &[u8], offset: u32) -> Plan
+    requires within { offset ≤ length text.now }
     requires short { length text.now < 2 ^ 31 }
-    ensures { result ≡ unreadable text.now place }
+    ensures { result ≡ unreadable text.now offset }
 {
     Plan::Unreadable {
-        line: line_of(text, place),
+        line: line_of(text, offset),
     }
 }

@@ -7,13 +7,14 @@ ghost use Rattle.pddl_words.specs.Words.{is_name, folded};
 ghost use Rattle.pddl_tokens.specs.declared.spans.Span.{Span};
 ghost use Rattle.pddl_tokens.specs.declared.spans.TokenKind.TheVariants.{Left};
 ghost use Rattle.pddl_tokens.specs.Tokens.{Piece, token};
-ghost use Rattle.pddl_tokens.specs.Places.{AreWithin};
+ghost use Rattle.pddl_tokens.specs.Within.{AreWithin};
 ghost use Rattle.strips_task.specs.declared.plans.Plan.TheVariants.{Unreadable};
 ghost use Rattle.strips_task.specs.Spelled.{IsSpelled, step_spelled};
 ghost use Rattle.strips_task.specs.Steps.{step_of};
 ghost use Rattle.plan_text.specs.PlanReading.{plan_of};
 ghost use Rattle.plan_text.specs.Walks.{HasPassed, GoesBehind, GoesOn, RestsAt, words_before};
 ghost use Rattle.plan_text.specs.WalkFinds.{ComesNext, IsFound, IsOpened, IsOpening, IsInside, IsEnding, ended};
+ghost use Rattle.strips_task.specs.declared.steps.TheConstants.{MOST_STEPS};
 
 use crate::between::read_between;
 use crate::want::{Expected, Want};
@@ -33,7 +34,8 @@ pub struct PlanSteps<'a> {
 
 impl<'a> Model for PlanSteps<'a> {
     ghost use Rattle.std.specs.Prelude.{◌<◌, ◌≤◌, ◌^◌, length};
-    ghost use Rattle.pddl_tokens.specs.Places.{AreWithin};
+    ghost use Rattle.pddl_tokens.specs.Within.{AreWithin};
+    ghost use Rattle.strips_task.specs.declared.steps.TheConstants.{MOST_STEPS};
     ghost use Rattle.plan_text.specs.Walks.{Walk, RestsAt};
 
     ghost Value = { Walk };
@@ -47,7 +49,7 @@ impl<'a> Model for PlanSteps<'a> {
     } };
 
     ghost invariant = { λ w.
-        (length w.text.now < 2 ^ 31) × AreWithin (length w.text.now) w.cursor × RestsAt w.expected.want w.count × (w.count ≤ 1000000) };
+        (length w.text.now < 2 ^ 31) × AreWithin (length w.text.now) w.cursor × RestsAt w.expected.want w.count × (w.count ≤ MOST_STEPS) };
 }
 
 /// What a walk finds next.
@@ -253,8 +255,8 @@ impl<'a> PlanSteps<'a> {
         let mut cursor = self.cursor.fork();
         match open_step(self.text, &mut cursor, self.expected, self.count) {
             Opening::End => TextStep::End,
-            Opening::Fault { place } => TextStep::Unreadable {
-                line: line_of(self.text, place),
+            Opening::Fault { offset } => TextStep::Unreadable {
+                line: line_of(self.text, offset),
             },
             Opening::Open { least_stamp } => self.close_step(cursor, least_stamp),
         }
@@ -279,8 +281,8 @@ impl<'a> PlanSteps<'a> {
                 self.count += 1;
                 TextStep::Step { words, key: None }
             }
-            Err(place) => TextStep::Unreadable {
-                line: line_of(self.text, place),
+            Err(offset) => TextStep::Unreadable {
+                line: line_of(self.text, offset),
             },
         }
     }
@@ -315,7 +317,7 @@ enum Opening {
     /// The end of the text.
     End,
     /// A fault at this offset.
-    Fault { place: u32 },
+    Fault { offset: u32 },
     /// The `(` of a step. The next stamp after it must have at least this value.
     Open { least_stamp: u64 },
 }
@@ -340,10 +342,10 @@ fn open_step(text: &[u8], cursor: &mut Cursor<'_>, mut expected: Expected, steps
                     expected = next;
                 }
                 None => return Opening::Fault {
-                    place: token.span.start,
+                    offset: token.span.start,
                 },
             },
-            Err(byte) => return Opening::Fault { place: byte.at },
+            Err(byte) => return Opening::Fault { offset: byte.at },
         }
     }
 }
@@ -355,7 +357,7 @@ fn ended(want: Want, text: &[u8]) -> Opening
 {
     match want {
         Want::Opening => Opening::Fault {
-            place: text.len() as u32,
+            offset: text.len() as u32,
         },
         _ => Opening::End,
     }

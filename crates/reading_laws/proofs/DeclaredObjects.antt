@@ -8,7 +8,7 @@ use Rattle.std.specs.Map.{keys_of}
 use Rattle.std.specs.Option.{option_and_then, option_map}
 use Rattle.std.specs.Str.{bytes_eq}
 use Rattle.pddl_words.specs.Words.{folded}
-use Rattle.strips_task.specs.FirstPlaces.{first_places}
+use Rattle.strips_task.specs.FirstOccurrences.{first_occurrences}
 use Rattle.strips_task.specs.Names.{are_distinct}
 use Rattle.pddl_syntax.specs.Optional.{through}
 use Rattle.pddl_syntax.specs.Syntax.{NameGroup}
@@ -113,9 +113,9 @@ unlike same e (x ∷ xs) h =
     let parts = or_parts (bytes_eq e.0 x.0) (list_any (bytes_eq e.0) (keys_of xs)) h in
     ap (λ b. (b && same e.1 x.1) || list_any (is_same_entry same e) xs) parts.0 ∙ unlike same e xs parts.1
 
--- where names are distinct each entry stands at its first place
-first_distinct : {V : Type 0} (same : V → V → Bool) (table : List (List ℕ × V)) → are_distinct (keys_of table) ≡ true → first_places (is_same_entry same) table ≡ table
-unfolding first_places are_distinct
+-- where names are distinct each entry is its own first occurrence
+first_distinct : {V : Type 0} (same : V → V → Bool) (table : List (List ℕ × V)) → are_distinct (keys_of table) ≡ true → first_occurrences (is_same_entry same) table ≡ table
+unfolding first_occurrences are_distinct
 first_distinct same [] h = refl
 first_distinct same (e ∷ es) h =
     let parts = and_parts (not (list_any (bytes_eq e.0) (keys_of es))) (are_distinct (keys_of es)) h in

@@ -18,7 +18,7 @@ use Rattle.pddl_syntax.specs.Syntax.{PredicateForm, ActionForm}
 use Rattle.pddl_reader.specs.Declarations.{Predicates, may_declare, declared}
 use Rattle.pddl_reader.specs.Domain.{may_have, declared_predicate, with_predicate, predicates_from, with_function, functions_from, action_meant, no_actions, tables_with, declared_action, with_action_of, actions_from}
 use Rattle.pddl_reader.specs.Functions.{Vocabulary}
-use Rattle.pddl_reader.specs.Variables.{places_of}
+use Rattle.pddl_reader.specs.Variables.{argument_types_of}
 use Rattle.reading_laws.specs.DeclaredTables.{AreDeclared, predicate_entry, function_entry, action_entry, action_tables, ArePredicatesDeclared, AreFunctionsDeclared, AreActionsDeclared}
 use Rattle.reading_laws.proofs.ThroughLists.{through_same}
 use Rattle.pddl_reader.proofs.TableSteps.{may_if}
@@ -153,12 +153,12 @@ module _ {A V : Type 0} (entry : A → Option (List ℕ × V)) (most : ℕ) wher
 
 predicate_step : (types : List (List ℕ)) (table : Predicates) (p : PredicateForm) → with_predicate types table p ≡ declare (predicate_entry types) 4096 table p
 unfolding with_predicate declared_predicate predicate_entry declare declare_entry
-predicate_step types table p = by (places_of types p.variables)
+predicate_step types table p = by (argument_types_of types p.variables)
   where
-    by : (places : Option (List (List ℕ))) → declared_predicate table (folded p.name) places
-        ≡ declare_entry 4096 table (option_map (λ found. (folded p.name, found)) places)
+    by : (argument_types : Option (List (List ℕ))) → declared_predicate table (folded p.name) argument_types
+        ≡ declare_entry 4096 table (option_map (λ found. (folded p.name, found)) argument_types)
     by None = refl
-    by (Some places) = refl
+    by (Some argument_types) = refl
 
 pub predicates_declared : ArePredicatesDeclared
 unfolding predicates_from

@@ -12,7 +12,7 @@ use Rattle.std.specs.Map.{keys_of}
 use Rattle.std.specs.Option.{option_and_then}
 use Rattle.std.specs.Str.{bytes_eq}
 use Rattle.pddl_words.specs.Words.{folded}
-use Rattle.strips_task.specs.FirstPlaces.{first_places}
+use Rattle.strips_task.specs.FirstOccurrences.{first_occurrences}
 use Rattle.strips_task.specs.Names.{number_named, are_distinct}
 use Rattle.pddl_syntax.specs.declared.dialect.Dialect.{Dialect}
 use Rattle.pddl_syntax.specs.Keywords.{object_word}
@@ -175,11 +175,11 @@ filter_named word (w ∷ ws) = by (bytes_eq word w) (filter_named word ws)
     by true rest = rest
     by false rest = ap (λ l. named w ∷ l) rest
 
-first_named : (words : List (List ℕ)) → first_places (is_same_entry alike) (map named words) ≡ map named (first_places bytes_eq words)
-unfolding first_places
+first_named : (words : List (List ℕ)) → first_occurrences (is_same_entry alike) (map named words) ≡ map named (first_occurrences bytes_eq words)
+unfolding first_occurrences
 first_named [] = refl
 first_named (w ∷ ws) =
-    ap (λ l. named w ∷ l) (ap (filter (λ y. not (is_same_entry alike (named w) y))) (first_named ws) ∙ filter_named w (first_places bytes_eq ws))
+    ap (λ l. named w ∷ l) (ap (filter (λ y. not (is_same_entry alike (named w) y))) (first_named ws) ∙ filter_named w (first_occurrences bytes_eq ws))
 
 -- a test passes nothing that it filters out, and no more in fewer items
 none_left : {A : Type 0} (p : A → Bool) (xs : List A) → list_any p (filter (λ y. not (p y)) xs) ≡ false
@@ -206,23 +206,23 @@ distinct_filtered q (n ∷ ns) h =
     by true none rest = λ j. not (none j) && rest j
     by false none rest = rest
 
--- names at their first places are distinct
-pub first_are_distinct : (names : List (List ℕ)) → are_distinct (first_places bytes_eq names) ≡ true
-unfolding first_places are_distinct
+-- the first occurrences of names are distinct
+pub first_are_distinct : (names : List (List ℕ)) → are_distinct (first_occurrences bytes_eq names) ≡ true
+unfolding first_occurrences are_distinct
 first_are_distinct [] = refl
 first_are_distinct (n ∷ ns) =
-    λ j. not (none_left (bytes_eq n) (first_places bytes_eq ns) j) && distinct_filtered (λ y. not (bytes_eq n y)) (first_places bytes_eq ns) (first_are_distinct ns) j
+    λ j. not (none_left (bytes_eq n) (first_occurrences bytes_eq ns) j) && distinct_filtered (λ y. not (bytes_eq n y)) (first_occurrences bytes_eq ns) (first_are_distinct ns) j
 
 -- the tables have the declared names and parents, each once, and no type has two parents
 pub record AreTables (dialect : Dialect) (groups : List NameGroup) (tables : TypeTables) : Type 0 where
-  pub names : keys_of tables.names ≡ first_places bytes_eq (object_word ∷ flat_map group_types groups)
+  pub names : keys_of tables.names ≡ first_occurrences bytes_eq (object_word ∷ flat_map group_types groups)
   pub few : length tables.names ≤ 1025
-  pub parents : tables.parents ≡ first_places (is_same_entry bytes_eq) ((object_word, object_word) ∷ flat_map (group_parents dialect) groups)
+  pub parents : tables.parents ≡ first_occurrences (is_same_entry bytes_eq) ((object_word, object_word) ∷ flat_map (group_parents dialect) groups)
   pub one_parent : are_distinct (keys_of tables.parents) ≡ true
 
 -- types are declared exactly if they give such tables
 pub tables_declared : (dialect : Dialect) (groups : List NameGroup) (tables : TypeTables) → (types_declared dialect groups ≡ Some tables) ↔ AreTables dialect groups tables
-unfolding tables_of first_places are_distinct
+unfolding tables_of first_occurrences are_distinct
 tables_declared dialect groups tables = (gives, accepts)
   where
     gives : types_declared dialect groups ≡ Some tables → AreTables dialect groups tables
@@ -235,8 +235,8 @@ tables_declared dialect groups tables = (gives, accepts)
         (flat_map (group_parents dialect) groups) tables.parents refl refl tt parts.1 in
         record {
           names =
-              ap keys_of (names.0 ∙ ap (λ l. first_places (is_same_entry alike) (named object_word ∷ l)) (named_flat groups) ∙ first_named (object_word ∷ flat_map group_types groups))
-              ∙ keys_named (first_places bytes_eq (object_word ∷ flat_map group_types groups));
+              ap keys_of (names.0 ∙ ap (λ l. first_occurrences (is_same_entry alike) (named object_word ∷ l)) (named_flat groups) ∙ first_named (object_word ∷ flat_map group_types groups))
+              ∙ keys_named (first_occurrences bytes_eq (object_word ∷ flat_map group_types groups));
           few = names.2;
           parents = parents.0;
           one_parent = parents.1;
@@ -250,10 +250,10 @@ tables_declared dialect groups tables = (gives, accepts)
         ((all_accepted bytes_eq nat_list_eq_equiv (λ v w e. (bytes_eq-Decides v w).0 e) any (λ n. Unit {0}) any_bound ((object_word, object_word) ∷ []) (flat_map (group_parents dialect) groups)
         (subst (λ ps. are_distinct (keys_of ps) ≡ true) all.parents all.one_parent) tt ∙ ap Some (sym all.parents)) j))
       where
-        names : tables.names ≡ first_places (is_same_entry alike) (named object_word ∷ flat_map (λ g. map named (group_types g)) groups)
+        names : tables.names ≡ first_occurrences (is_same_entry alike) (named object_word ∷ flat_map (λ g. map named (group_types g)) groups)
         names =
             named_keys tables.names ∙ ap (map named) all.names ∙ sym (first_named (object_word ∷ flat_map group_types groups))
-            ∙ ap (λ l. first_places (is_same_entry alike) (named object_word ∷ l)) (sym (named_flat groups))
+            ∙ ap (λ l. first_occurrences (is_same_entry alike) (named object_word ∷ l)) (sym (named_flat groups))
 
         distinct : are_distinct (keys_of tables.names) ≡ true
         distinct = ap are_distinct all.names ∙ first_are_distinct (object_word ∷ flat_map group_types groups)

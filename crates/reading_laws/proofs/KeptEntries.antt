@@ -1,4 +1,4 @@
--- A table in which a name that is declared again keeps its value has each declared entry once, at its first place.
+-- A table in which a name that is declared again keeps its value has each declared entry once, where it first occurs.
 
 use Rattle.std.proofs.Common.{◌≡◌, ℕ, ◌+◌, ◌<◌, ◌≤◌, ◌++◌, ◌||◌, ◌&&◌, zero, suc, Bool, true, false, not, List, [], ◌∷◌, length, slice_get, Option, Some, None, is_some, refl, ap, sym, ◌∙◌, subst, arith, true≢false, append_assoc, append-nil, length-append, if◌then◌else◌}
 use Rattle.std.proofs.lemmas.Bool.{and_parts, or_parts, not-true}
@@ -11,9 +11,9 @@ use Rattle.std.specs.List.{list_any}
 use Rattle.std.specs.Map.{keys_of}
 use Rattle.std.specs.Option.{option_and_then}
 use Rattle.std.specs.Str.{bytes_eq}
-use Rattle.strips_task.specs.FirstPlaces.{first_places}
+use Rattle.strips_task.specs.FirstOccurrences.{first_occurrences}
 use Rattle.strips_task.specs.Names.{number_named, are_distinct}
-use Rattle.strips_task.proofs.FirstPlaces.{first_places-push}
+use Rattle.strips_task.proofs.FirstOccurrences.{first_occurrences-push}
 use Rattle.strips_task.proofs.NameNumbers.{entries_distinct}
 use Rattle.pddl_syntax.specs.Optional.{guard, through}
 use Rattle.pddl_syntax.proofs.Guards.{guard_held}
@@ -89,15 +89,15 @@ inserted {A} eq xs x = by (list_any (eq x) xs) refl
     by true e = ([], ap (λ c. if c then xs else xs ++ x ∷ []) e ∙ sym (append-nil xs))
     by false e = (x ∷ [], ap (λ c. if c then xs else xs ++ x ∷ []) e)
 
--- the first places of a longer list begin with those of a shorter one
-first_more : {A : Type 0} {eq : A → A → Bool} → IsEquivalence eq → (done xs : List A) → (more : List A) × (first_places eq (done ++ xs) ≡ first_places eq done ++ more)
-first_more {A} {eq} laws done [] = ([], ap (first_places eq) (append-nil done) ∙ sym (append-nil (first_places eq done)))
+-- the first occurrences of a longer list begin with those of a shorter one
+first_more : {A : Type 0} {eq : A → A → Bool} → IsEquivalence eq → (done xs : List A) → (more : List A) × (first_occurrences eq (done ++ xs) ≡ first_occurrences eq done ++ more)
+first_more {A} {eq} laws done [] = ([], ap (first_occurrences eq) (append-nil done) ∙ sym (append-nil (first_occurrences eq done)))
 first_more {A} {eq} laws done (x ∷ xs) =
     let rest = first_more laws (done ++ x ∷ []) xs in
-    let one = inserted eq (first_places eq done) x in (
+    let one = inserted eq (first_occurrences eq done) x in (
       one.0 ++ rest.0,
-      ap (first_places eq) (sym (append_assoc done (x ∷ []) xs)) ∙ rest.1
-          ∙ ap (λ l. l ++ rest.0) (first_places-push laws done x ∙ one.1) ∙ append_assoc (first_places eq done) one.0 rest.0,
+      ap (first_occurrences eq) (sym (append_assoc done (x ∷ []) xs)) ∙ rest.1
+          ∙ ap (λ l. l ++ rest.0) (first_occurrences-push laws done x ∙ one.1) ∙ append_assoc (first_occurrences eq done) one.0 rest.0,
     )
 
 -- a name with its value is put into a table, unless the name has another value there or there is no room
@@ -204,13 +204,13 @@ module _ {V : Type 0} (same : V → V → Bool) (laws : IsEquivalence same) (dec
               none_known q = cc
 
   -- entries that are put one after the other are there once each
-  pub all_put : (done table entries next : List (List ℕ × V)) → table ≡ first_places (is_same_entry same) done → are_distinct (keys_of table) ≡ true → Fits (length table) →
+  pub all_put : (done table entries next : List (List ℕ × V)) → table ≡ first_occurrences (is_same_entry same) done → are_distinct (keys_of table) ≡ true → Fits (length table) →
       through (put same room) table entries ≡ Some next →
-      (next ≡ first_places (is_same_entry same) (done ++ entries)) × (are_distinct (keys_of next) ≡ true) × Fits (length next)
+      (next ≡ first_occurrences (is_same_entry same) (done ++ entries)) × (are_distinct (keys_of next) ≡ true) × Fits (length next)
   unfolding through
   all_put done table [] next is distinct fits h =
       let same_table : table ≡ next = cc in (
-        sym same_table ∙ is ∙ ap (first_places (is_same_entry same)) (sym (append-nil done)),
+        sym same_table ∙ is ∙ ap (first_occurrences (is_same_entry same)) (sym (append-nil done)),
         subst (λ t. are_distinct (keys_of t) ≡ true) same_table distinct,
         subst (λ t. Fits (length t)) same_table fits,
       )
@@ -219,36 +219,36 @@ module _ {V : Type 0} (same : V → V → Bool) (laws : IsEquivalence same) (dec
     where
       by : (found : Option (List (List ℕ × V))) →
           ((t : List (List ℕ × V)) → found ≡ Some t → (t ≡ with_new (is_same_entry same) table e) × (are_distinct (keys_of t) ≡ true) × Fits (length t)) →
-          ((t : List (List ℕ × V)) → t ≡ first_places (is_same_entry same) (done ++ e ∷ []) → are_distinct (keys_of t) ≡ true → Fits (length t) →
+          ((t : List (List ℕ × V)) → t ≡ first_occurrences (is_same_entry same) (done ++ e ∷ []) → are_distinct (keys_of t) ≡ true → Fits (length t) →
           through (put same room) t entries ≡ Some next →
-          (next ≡ first_places (is_same_entry same) ((done ++ e ∷ []) ++ entries)) × (are_distinct (keys_of next) ≡ true) × Fits (length next)) →
+          (next ≡ first_occurrences (is_same_entry same) ((done ++ e ∷ []) ++ entries)) × (are_distinct (keys_of next) ≡ true) × Fits (length next)) →
           option_and_then (λ t. through (put same room) t entries) found ≡ Some next →
-          (next ≡ first_places (is_same_entry same) (done ++ e ∷ entries)) × (are_distinct (keys_of next) ≡ true) × Fits (length next)
+          (next ≡ first_occurrences (is_same_entry same) (done ++ e ∷ entries)) × (are_distinct (keys_of next) ≡ true) × Fits (length next)
       by None gives rest k = cc
       by (Some t) gives rest k =
           let one = gives t refl in
-          let all = rest t (one.0 ∙ ap (λ ks. with_new (is_same_entry same) ks e) is ∙ sym (first_places-push entry_laws done e)) one.1 one.2 k in
-          (all.0 ∙ ap (first_places (is_same_entry same)) (append_assoc done (e ∷ []) entries), all.1, all.2)
+          let all = rest t (one.0 ∙ ap (λ ks. with_new (is_same_entry same) ks e) is ∙ sym (first_occurrences-push entry_laws done e)) one.1 one.2 k in
+          (all.0 ∙ ap (first_occurrences (is_same_entry same)) (append_assoc done (e ∷ []) entries), all.1, all.2)
 
-  pub all_accepted : (done entries : List (List ℕ × V)) → are_distinct (keys_of (first_places (is_same_entry same) (done ++ entries))) ≡ true →
-      Fits (length (first_places (is_same_entry same) (done ++ entries))) →
-      through (put same room) (first_places (is_same_entry same) done) entries ≡ Some (first_places (is_same_entry same) (done ++ entries))
+  pub all_accepted : (done entries : List (List ℕ × V)) → are_distinct (keys_of (first_occurrences (is_same_entry same) (done ++ entries))) ≡ true →
+      Fits (length (first_occurrences (is_same_entry same) (done ++ entries))) →
+      through (put same room) (first_occurrences (is_same_entry same) done) entries ≡ Some (first_occurrences (is_same_entry same) (done ++ entries))
   unfolding through
-  all_accepted done [] distinct fits = ap (λ l. Some (first_places (is_same_entry same) l)) (sym (append-nil done))
+  all_accepted done [] distinct fits = ap (λ l. Some (first_occurrences (is_same_entry same) l)) (sym (append-nil done))
   all_accepted done (e ∷ entries) distinct fits =
       let shift : (done ++ e ∷ []) ++ entries ≡ done ++ e ∷ entries = append_assoc done (e ∷ []) entries in
-      let distinct_all : are_distinct (keys_of (first_places (is_same_entry same) ((done ++ e ∷ []) ++ entries))) ≡ true =
-      subst (λ l. are_distinct (keys_of (first_places (is_same_entry same) l)) ≡ true) (sym shift) distinct in
-      let fits_all : Fits (length (first_places (is_same_entry same) ((done ++ e ∷ []) ++ entries))) = subst (λ l. Fits (length (first_places (is_same_entry same) l))) (sym shift) fits in
+      let distinct_all : are_distinct (keys_of (first_occurrences (is_same_entry same) ((done ++ e ∷ []) ++ entries))) ≡ true =
+      subst (λ l. are_distinct (keys_of (first_occurrences (is_same_entry same) l)) ≡ true) (sym shift) distinct in
+      let fits_all : Fits (length (first_occurrences (is_same_entry same) ((done ++ e ∷ []) ++ entries))) = subst (λ l. Fits (length (first_occurrences (is_same_entry same) l))) (sym shift) fits in
       let behind = first_more entry_laws (done ++ e ∷ []) entries in
       let before = first_more entry_laws done (e ∷ []) in
-      let distinct_next = distinct_front (first_places (is_same_entry same) (done ++ e ∷ [])) behind.0 (subst (λ t. are_distinct (keys_of t) ≡ true) behind.1 distinct_all) in
-      let distinct_now = distinct_front (first_places (is_same_entry same) done) before.0 (subst (λ t. are_distinct (keys_of t) ≡ true) before.1 distinct_next) in
-      let long : length (first_places (is_same_entry same) ((done ++ e ∷ []) ++ entries)) ≡ length (first_places (is_same_entry same) (done ++ e ∷ [])) + length behind.0 =
-      ap length behind.1 ∙ length-append (first_places (is_same_entry same) (done ++ e ∷ [])) behind.0 in
-      let fits_next : Fits (length (first_places (is_same_entry same) (done ++ e ∷ []))) = bound.fewer
-      (length (first_places (is_same_entry same) (done ++ e ∷ []))) (length (first_places (is_same_entry same) ((done ++ e ∷ []) ++ entries))) (omega (arith, long)) fits_all in
+      let distinct_next = distinct_front (first_occurrences (is_same_entry same) (done ++ e ∷ [])) behind.0 (subst (λ t. are_distinct (keys_of t) ≡ true) behind.1 distinct_all) in
+      let distinct_now = distinct_front (first_occurrences (is_same_entry same) done) before.0 (subst (λ t. are_distinct (keys_of t) ≡ true) before.1 distinct_next) in
+      let long : length (first_occurrences (is_same_entry same) ((done ++ e ∷ []) ++ entries)) ≡ length (first_occurrences (is_same_entry same) (done ++ e ∷ [])) + length behind.0 =
+      ap length behind.1 ∙ length-append (first_occurrences (is_same_entry same) (done ++ e ∷ [])) behind.0 in
+      let fits_next : Fits (length (first_occurrences (is_same_entry same) (done ++ e ∷ []))) = bound.fewer
+      (length (first_occurrences (is_same_entry same) (done ++ e ∷ []))) (length (first_occurrences (is_same_entry same) ((done ++ e ∷ []) ++ entries))) (omega (arith, long)) fits_all in
       ap (option_and_then (λ t. through (put same room) t entries))
-      (put_accepts (first_places (is_same_entry same) done) e (first_places (is_same_entry same) (done ++ e ∷ [])) (first_places-push entry_laws done e) distinct_now distinct_next fits_next)
+      (put_accepts (first_occurrences (is_same_entry same) done) e (first_occurrences (is_same_entry same) (done ++ e ∷ [])) (first_occurrences-push entry_laws done e) distinct_now distinct_next fits_next)
       ∙ all_accepted (done ++ e ∷ []) entries distinct_all fits_all
-      ∙ ap (λ l. Some (first_places (is_same_entry same) l)) shift
+      ∙ ap (λ l. Some (first_occurrences (is_same_entry same) l)) shift

@@ -12,7 +12,7 @@ use Rattle.std.specs.Map.{keys_of}
 use Rattle.std.specs.Option.{option_map}
 use Rattle.std.specs.Str.{bytes_eq}
 use Rattle.pddl_words.specs.Words.{folded}
-use Rattle.strips_task.specs.FirstPlaces.{first_places}
+use Rattle.strips_task.specs.FirstOccurrences.{first_occurrences}
 use Rattle.strips_task.specs.Names.{number_named, are_distinct}
 use Rattle.pddl_syntax.specs.declared.dialect.Dialect.{Dialect}
 use Rattle.pddl_syntax.specs.Keywords.{object_word}
@@ -47,24 +47,24 @@ filtered_any {A} p q (x ∷ xs) h = by (q x) (filtered_any p q xs) h
     by true rest k = or_both (p x) (list_any p (filter q xs)) (p x) (list_any p xs) (λ e. e) rest k
     by false rest k = or_right (p x) (list_any p xs) (rest k)
 
--- and so was what passes it at a first place
-first_any : {A : Type 0} (p : A → Bool) (eq : A → A → Bool) (xs : List A) → list_any p (first_places eq xs) ≡ true → list_any p xs ≡ true
-unfolding first_places
+-- and so was what passes it where it first occurs
+first_any : {A : Type 0} (p : A → Bool) (eq : A → A → Bool) (xs : List A) → list_any p (first_occurrences eq xs) ≡ true → list_any p xs ≡ true
+unfolding first_occurrences
 first_any p eq [] h = h
 first_any p eq (x ∷ xs) h =
-    or_both (p x) (list_any p (filter (λ y. not (eq x y)) (first_places eq xs))) (p x) (list_any p xs) (λ e. e)
-    (λ k. first_any p eq xs (filtered_any p (λ y. not (eq x y)) (first_places eq xs) k)) h
+    or_both (p x) (list_any p (filter (λ y. not (eq x y)) (first_occurrences eq xs))) (p x) (list_any p xs) (λ e. e)
+    (λ k. first_any p eq xs (filtered_any p (λ y. not (eq x y)) (first_occurrences eq xs) k)) h
 
--- a name that is there is at its first place
-any_first : (word : List ℕ) (words : List (List ℕ)) → list_any (bytes_eq word) words ≡ true → list_any (bytes_eq word) (first_places bytes_eq words) ≡ true
-unfolding first_places
+-- a name that is there is where it first occurs
+any_first : (word : List ℕ) (words : List (List ℕ)) → list_any (bytes_eq word) words ≡ true → list_any (bytes_eq word) (first_occurrences bytes_eq words) ≡ true
+unfolding first_occurrences
 any_first word [] h = h
 any_first word (w ∷ ws) h = by (bytes_eq word w) refl (any_first word ws) h
   where
-    by : (b : Bool) → bytes_eq word w ≡ b → (list_any (bytes_eq word) ws ≡ true → list_any (bytes_eq word) (first_places bytes_eq ws) ≡ true) →
-        (b || list_any (bytes_eq word) ws) ≡ true → (b || list_any (bytes_eq word) (filter (λ y. not (bytes_eq w y)) (first_places bytes_eq ws))) ≡ true
+    by : (b : Bool) → bytes_eq word w ≡ b → (list_any (bytes_eq word) ws ≡ true → list_any (bytes_eq word) (first_occurrences bytes_eq ws) ≡ true) →
+        (b || list_any (bytes_eq word) ws) ≡ true → (b || list_any (bytes_eq word) (filter (λ y. not (bytes_eq w y)) (first_occurrences bytes_eq ws))) ≡ true
     by true e rest k = refl
-    by false e rest k = any-filter_same (bytes_eq word) (λ y. not (bytes_eq w y)) true apart (first_places bytes_eq ws) ∙ rest k
+    by false e rest k = any-filter_same (bytes_eq word) (λ y. not (bytes_eq w y)) true apart (first_occurrences bytes_eq ws) ∙ rest k
       where
         apart : (y : List ℕ) → bytes_eq word y ≡ true → not (bytes_eq w y) ≡ true
         apart y same = let is : word ≡ y = (bytes_eq-Decides word y).0 same in ap not (ap (bytes_eq w) (sym is) ∙ nat_list_eq_equiv.symm w word ∙ e)
@@ -181,7 +181,7 @@ module _ (dialect : Dialect) (groups : List NameGroup) (tables : TypeTables) (al
   distinct : are_distinct (keys_of tables.names) ≡ true
   distinct = ap are_distinct all.names ∙ first_are_distinct (object_word ∷ flat_map group_types groups)
 
-  -- the number of a name is its place
+  -- the number of a name is its index
   name_numbered : (number : ℕ) (word : List ℕ) → slice_get (keys_of tables.names) number ≡ Some word → number_named tables.names word ≡ Some number
   unfolding number_named
   name_numbered number word h =

@@ -5,7 +5,7 @@ use Rattle.std.specs.Map.{keys_of}
 use Rattle.std.specs.Option.{option_map}
 use Rattle.std.specs.Str.{bytes_eq}
 use Rattle.pddl_words.specs.Words.{folded}
-use Rattle.strips_task.specs.FirstPlaces.{first_places}
+use Rattle.strips_task.specs.FirstOccurrences.{first_occurrences}
 use Rattle.strips_task.specs.Names.{are_distinct}
 use Rattle.strips_task.specs.Types.{IsTypeTree}
 use Rattle.strips_task.specs.WellFormed.{most_types, most_objects}
@@ -30,7 +30,7 @@ pub record AreObjectsFrom (types : List (List ℕ)) (before : Objects) (groups :
   -- the type of each group is known, and these are the objects of each
   pub known : map (group_objects types) groups ≡ map Some declared
   -- each object is listed where it is declared first
-  pub once : objects ≡ first_places (is_same_entry nat_eq) (before ++ flat_map (λ os. os) declared)
+  pub once : objects ≡ first_occurrences (is_same_entry nat_eq) (before ++ flat_map (λ os. os) declared)
   -- no object is declared with two types
   pub one_type : IsTrue (are_distinct (keys_of objects))
   -- and there are no more than the limit
@@ -54,11 +54,11 @@ group_parents dialect group = (if counts_as_parent dialect (folded group.type) t
 pub record AreTypesFrom (dialect : Dialect) (groups : List NameGroup) (types : KnownTypes) : Type 0 where
   pub declared : TypeParents
   -- each type is listed where it is named first, and `object` before all others
-  pub names : keys_of types.names ≡ first_places bytes_eq (object_word ∷ flat_map group_types groups)
+  pub names : keys_of types.names ≡ first_occurrences bytes_eq (object_word ∷ flat_map group_types groups)
   -- there are no more than the limit
   pub few : length types.names ≤ most_types
   -- each declaration of a parent counts once, and before all others `object` is under itself
-  pub parents : declared ≡ first_places (is_same_entry bytes_eq) ((object_word, object_word) ∷ flat_map (group_parents dialect) groups)
+  pub parents : declared ≡ first_occurrences (is_same_entry bytes_eq) ((object_word, object_word) ∷ flat_map (group_parents dialect) groups)
   -- no type is declared under two parents
   pub one_parent : IsTrue (are_distinct (keys_of declared))
   -- each type has the number of a parent

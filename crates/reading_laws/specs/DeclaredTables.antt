@@ -11,7 +11,7 @@ use Rattle.pddl_syntax.specs.Syntax.{PredicateForm, ActionForm}
 use Rattle.pddl_reader.specs.Declarations.{Predicates}
 use Rattle.pddl_reader.specs.Domain.{may_have, predicates_from, functions_from, action_meant, no_actions, actions_from}
 use Rattle.pddl_reader.specs.Functions.{Vocabulary}
-use Rattle.pddl_reader.specs.Variables.{places_of}
+use Rattle.pddl_reader.specs.Variables.{argument_types_of}
 use Rattle.reading_laws.specs.ReadTables.{ActionTables, CostedAction}
 
 -- the table is what the declarations declare: an entry for each, in text order, with no name twice and no more entries than the limit
@@ -25,7 +25,7 @@ pub record AreDeclared {A V : Type 0} (entry : A → Option (List ℕ × V)) (mo
 
 -- a predicate's name in lower case and the types of its variables, if there are such variables
 unfoldable pub predicate_entry : List (List ℕ) → PredicateForm → Option (List ℕ × List (List ℕ))
-predicate_entry types predicate = option_map (λ places. (folded predicate.name, places)) (places_of types predicate.variables)
+predicate_entry types predicate = option_map (λ argument_types. (folded predicate.name, argument_types)) (argument_types_of types predicate.variables)
 
 -- the same for a function; `total-cost` has no variables
 unfoldable pub function_entry : List (List ℕ) → PredicateForm → Option (List ℕ × List (List ℕ))

@@ -45,8 +45,8 @@ fn replayed(alloc: Global, task: &CostedTask, steps: StepsToRun) -> Seen {
 
 /// Whether these are the first replies to the steps.
 fn are_first(replies: &[Reply]) -> bool {
-    for (place, reply) in replies.iter().enumerate() {
-        if !is_reply(place, reply) {
+    for (index, reply) in replies.iter().enumerate() {
+        if !is_reply(index, reply) {
             return false;
         }
     }
@@ -54,8 +54,8 @@ fn are_first(replies: &[Reply]) -> bool {
 }
 
 /// Whether this is the reply to the step with an index.
-fn is_reply(place: usize, reply: &Reply) -> bool {
-    match (place, reply) {
+fn is_reply(index: usize, reply: &Reply) -> bool {
+    match (index, reply) {
         (0, Reply::Accepted(0)) => true,
         (1, Reply::Accepted(1)) => true,
         (2, Reply::Taken(0)) => true,

@@ -7,7 +7,7 @@ use Rattle.plan_cost.specs.declared.costs.Cost.TheVariants.{NotCounted, Undefine
 -- the last digits of a number, as many as the first number says, with zeros in front if it has fewer: the last five of 325 are `00325`
 unfoldable pub last_digits : ℕ → ℕ → List ℕ
 last_digits zero number = []
-last_digits (suc place) number = (48 + number / 10 ^ place % 10) ∷ last_digits place number
+last_digits (suc index) number = (48 + number / 10 ^ index % 10) ∷ last_digits index number
 
 -- a digit in front of others; a zero with none after it is left out
 abbrev pub unless_end_zero : ℕ → List ℕ → List ℕ

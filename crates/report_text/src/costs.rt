@@ -44,10 +44,10 @@ fn push_digits(text: &mut Text, number: u32) -> Result<(), AllocError>
     ensures { OnOk result (text.new ≡ text.old ++ without_end_zeros (last_digits 9 number)) }
 {
     let mut left = number;
-    let mut places = 9;
+    let mut indexes = 9;
     while left > 0 {
-        places -= 1;
-        let unit = 10u32.pow(places);
+        indexes -= 1;
+        let unit = 10u32.pow(indexes);
         text.push(&[b'0' + (left / unit) as u8])?;
         left %= unit;
     }

@@ -186,9 +186,9 @@ fn push_step(text: &mut Text, step: &StepView) -> Result<(), AllocError>
 fn push_arguments(text: &mut Text, step: &StepView) -> Result<(), AllocError>
     ensures { OnOk result (text.new ≡ text.old ++ after_commas (map json_string (step_shown step.now).args)) }
 {
-    for place in 0..step.arg_count() {
+    for index in 0..step.arg_count() {
         text.push(b",")?;
-        push_string(text, step.arg(place))?;
+        push_string(text, step.arg(index))?;
     }
     Ok(())
 }

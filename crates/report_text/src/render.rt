@@ -120,9 +120,9 @@ pub fn push_step(text: &mut Text, step: &StepView) -> Result<(), AllocError>
 pub(crate) fn push_arguments(text: &mut Text, step: &StepView) -> Result<(), AllocError>
     ensures { OnOk result (text.new ≡ text.old ++ spaced (step_shown step.now).args) }
 {
-    for place in 0..step.arg_count() {
+    for index in 0..step.arg_count() {
         text.push(b" ")?;
-        text.push(step.arg(place))?;
+        text.push(step.arg(index))?;
     }
     Ok(())
 }
@@ -131,9 +131,9 @@ pub(crate) fn push_arguments(text: &mut Text, step: &StepView) -> Result<(), All
 pub(crate) fn push_argument(text: &mut Text, step: &StepView, number: u32) -> Result<(), AllocError>
     ensures { OnOk result (text.new ≡ text.old ++ name_at (step_shown step.now).args (number - 1)) }
 {
-    let place = number.saturating_sub(1) as usize;
-    if place < step.arg_count() {
-        return text.push(step.arg(place));
+    let index = number.saturating_sub(1) as usize;
+    if index < step.arg_count() {
+        return text.push(step.arg(index));
     }
     Ok(())
 }
@@ -201,10 +201,10 @@ pub(crate) fn push_failing_step(
 ) -> Result<(), AllocError>
     ensures { OnOk result (text.new ≡ text.old ++ failure_in format task.now (step_at plan.now (number - 1)) why.now) }
 {
-    let place = number.saturating_sub(1) as usize;
+    let index = number.saturating_sub(1) as usize;
     match plan.form() {
-        Form::Read(plan) => push_failure_of_plan(text, format, task, plan, place, why),
-        Form::Text(bytes) => push_failure_of_text(text, format, task, bytes, place, why),
+        Form::Read(plan) => push_failure_of_plan(text, format, task, plan, index, why),
+        Form::Text(bytes) => push_failure_of_text(text, format, task, bytes, index, why),
     }
 }
 
@@ -214,14 +214,14 @@ fn push_failure_of_plan(
     format: Format,
     task: &Task,
     plan: &Plan,
-    place: usize,
+    index: usize,
     why: &Why,
 ) -> Result<(), AllocError>
-    ensures { OnOk result (text.new ≡ text.old ++ failure_in format task.now (step_at plan.now place) why.now) }
+    ensures { OnOk result (text.new ≡ text.old ++ failure_in format task.now (step_at plan.now index) why.now) }
 {
     match plan {
-        Plan::Steps(steps) if place < steps.len() => {
-            push_failure_in(text, format, task, &steps.get(place), why)
+        Plan::Steps(steps) if index < steps.len() => {
+            push_failure_in(text, format, task, &steps.get(index), why)
         }
         _ => Ok(()),
     }
@@ -233,13 +233,13 @@ fn push_failure_of_text(
     format: Format,
     task: &Task,
     bytes: &[u8],
-    place: usize,
+    index: usize,
     why: &Why,
 ) -> Result<(), AllocError>
-    ensures { OnOk result (text.new ≡ text.old ++ failure_in format task.now (step_at (plan_of bytes.now) place) why.now) }
+    ensures { OnOk result (text.new ≡ text.old ++ failure_in format task.now (step_at (plan_of bytes.now) index) why.now) }
 {
     let mut step = OpenSteps::new(text.alloc());
-    if read_step_at(bytes, place, &mut step)? {
+    if read_step_at(bytes, index, &mut step)? {
         push_failure_in(text, format, task, &step.get(0), why)?;
     }
     Ok(())

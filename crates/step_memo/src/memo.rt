@@ -15,7 +15,7 @@ use strips_judge::StepCode;
 use strips_task::Seed;
 
 /// How many slots a table has at first.
-const FIRST_PLACES: usize = 64;
+const FIRST_SLOTS: usize = 64;
 
 /// What is in an empty slot. It is the number of no step.
 const EMPTY: u32 = u32::MAX;
@@ -52,7 +52,7 @@ pub(crate) struct Memo {
     numbers: Vec<u32>,
     entries: Vec<Entry>,
     /// The slots of the table: in the slot of its hash, or in the next free one, the number of an entry. Their count is a power of two.
-    places: Vec<u32>,
+    slots: Vec<u32>,
 }
 
 impl Model for Memo {
@@ -77,7 +77,7 @@ impl Memo {
             bytes: Vec::new(alloc),
             numbers: Vec::new(alloc),
             entries: Vec::new(alloc),
-            places: Vec::new(alloc),
+            slots: Vec::new(alloc),
         }
     }
 
@@ -86,7 +86,7 @@ impl Memo {
         ensures { self.new ≡ [] }
     {
         self.entries.clear();
-        self.places.clear();
+        self.slots.clear();
         self.bytes.clear();
         self.numbers.clear();
     }
@@ -97,7 +97,7 @@ impl Memo {
             × (slice_get self.now number ≡ Some (record { key = key.now; code = code_shown known.code; amount = known.amount }))) }
     {
         let hash = hash_of(self.seed, key);
-        match find_entry(hash, key, &self.places, &self.entries, &self.bytes) {
+        match find_entry(hash, key, &self.slots, &self.entries, &self.bytes) {
             Some(number) => Some(known_step(&self.entries[number], &self.numbers)),
             None => None,
         }
@@ -133,8 +133,8 @@ impl Memo {
         self.bytes.reserve(key.len())?;
         self.numbers.reserve((entry.end - entry.start) as usize)?;
         self.entries.reserve(1)?;
-        make_places(&mut self.places, &self.entries)?;
-        put(&mut self.places, hash, self.entries.len() as u32);
+        make_slots(&mut self.slots, &self.entries)?;
+        put(&mut self.slots, hash, self.entries.len() as u32);
         append(&mut self.bytes, key);
         append_code(&mut self.numbers, code);
         self.entries.push_reserved(entry);
@@ -153,7 +153,7 @@ fn hash_of(seed: Seed, key: &[u8]) -> u64 {
 fn find_entry(
     hash: u64,
     key: &[u8],
-    places: &[u32],
+    slots: &[u32],
     entries: &[Entry],
     bytes: &[u8],
 ) -> Option<usize>
@@ -162,10 +162,10 @@ fn find_entry(
     ensures key { IfSome result (λ number. (entry : Entry) → slice_get entries.now number ≡ Some entry
         → slice_range bytes.now entry.key_start entry.key_end ≡ key.now) }
 {
-    let mask = places.len().wrapping_sub(1);
-    let mut place = hash as usize;
-    for _ in 0..places.len() {
-        let number = *places.get(place & mask)? as usize;
+    let mask = slots.len().wrapping_sub(1);
+    let mut slot = hash as usize;
+    for _ in 0..slots.len() {
+        let number = *slots.get(slot & mask)? as usize;
         if number >= entries.len() {
             return None;
         }
@@ -173,7 +173,7 @@ fn find_entry(
         if entry.hash == hash && key_of(entry, bytes) == key {
             return Some(number);
         }
-        place = place.wrapping_add(1);
+        slot = slot.wrapping_add(1);
     }
     None
 }
@@ -250,32 +250,32 @@ fn end_of(start: u32, len: usize, most: usize) -> Option<u32>
 }
 
 /// Makes the table large enough for one more entry: at least twice as many slots as entries.
-fn make_places(places: &mut Vec<u32>, entries: &[Entry]) -> Result<(), AllocError>
+fn make_slots(slots: &mut Vec<u32>, entries: &[Entry]) -> Result<(), AllocError>
     requires { length entries.now < 2 ^ 32 }
 {
-    if places.len() / 2 > entries.len() {
+    if slots.len() / 2 > entries.len() {
         return Ok(());
     }
-    let count = places.len().saturating_mul(2).max(FIRST_PLACES);
-    places.clear();
-    places.resize(count, EMPTY)?;
+    let count = slots.len().saturating_mul(2).max(FIRST_SLOTS);
+    slots.clear();
+    slots.resize(count, EMPTY)?;
     for number in 0..entries.len() {
-        put(places, entries[number].hash, number as u32);
+        put(slots, entries[number].hash, number as u32);
     }
     Ok(())
 }
 
 /// Puts the number of an entry into the first empty slot from that of its hash on.
-fn put(places: &mut [u32], hash: u64, number: u32) {
-    let mask = places.len().wrapping_sub(1);
-    let mut place = hash as usize;
-    for _ in 0..places.len() {
-        let here = place & mask;
-        if here < places.len() && places[here] == EMPTY {
-            places[here] = number;
+fn put(slots: &mut [u32], hash: u64, number: u32) {
+    let mask = slots.len().wrapping_sub(1);
+    let mut slot = hash as usize;
+    for _ in 0..slots.len() {
+        let here = slot & mask;
+        if here < slots.len() && slots[here] == EMPTY {
+            slots[here] = number;
             return;
         }
-        place = place.wrapping_add(1);
+        slot = slot.wrapping_add(1);
     }
 }
 

@@ -15,7 +15,7 @@ is_not false other = refl
 abbrev pub is_lf : ℕ → Bool
 is_lf b = b == 10
 
--- the byte at a place is an LF
+-- the byte at an index is an LF
 abbrev pub IsLf : List ℕ → ℕ → Type 0
 IsLf text k = is_lf (get_or text k 0) ≡ true
 

@@ -1,4 +1,4 @@
--- Where no byte passes a test, the place of the first that does is the length.
+-- Where no byte passes a test, the index of the first that does is the length.
 
 use Rattle.std.proofs.Common.{◌≡◌, ℕ, ◌≤◌, Bool, true, false, List, length, Some, None, refl, sym, arith}
 use Rattle.std.specs.Prelude.{nat_lt, cond}

@@ -7,6 +7,6 @@ use Rattle.steps_text.specs.Lines as lines
 
 -- the meaning of a line as the definitions see it
 abbrev pub shown : Meaning → lines.Meaning
-shown (kept.Desk planners places) = lines.desk planners places
+shown (kept.Desk planners slots) = lines.desk planners slots
 shown (kept.Step step) = lines.step (asked step)
 shown kept.Strange = lines.strange

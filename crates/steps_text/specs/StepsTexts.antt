@@ -17,8 +17,8 @@ abbrev pub most_planners : ℕ
 most_planners = 64
 
 -- how many slots an intake may have
-abbrev pub most_places : ℕ
-most_places = 65536
+abbrev pub most_slots : ℕ
+most_slots = 65536
 
 -- how many steps a steps file may have
 abbrev pub most_steps : ℕ
@@ -27,7 +27,7 @@ most_steps = 100000
 -- how large an intake is, and the steps that are to be run on it
 pub record StepsValue : Type 0 where
   pub planners : ℕ
-  pub places : ℕ
+  pub slots : ℕ
   pub steps : List Asked
 
 -- a line that is not skipped, with its number
@@ -79,17 +79,17 @@ steps_of lines = filter_map (λ line. asked_in line.meaning) lines
 
 -- the steps of a text, or its fault
 abbrev pub answer : ℕ → ℕ → List Asked → Option StepsFault → Result StepsValue StepsFault
-answer planners places steps None = Ok (record { planners = planners; places = places; steps = steps })
-answer planners places steps (Some found) = Err found
+answer planners slots steps None = Ok (record { planners = planners; slots = slots; steps = steps })
+answer planners slots steps (Some found) = Err found
 
--- what these lines hold after one that asks for an intake with `planners` planners and `places` slots
+-- what these lines hold after one that asks for an intake of this many planners and slots
 abbrev pub steps_behind : ℕ → ℕ → List Line → Result StepsValue StepsFault
-steps_behind planners places lines = answer planners places (steps_of lines) (steps_fault 0 lines)
+steps_behind planners slots lines = answer planners slots (steps_of lines) (steps_fault 0 lines)
 
 -- what lines hold if the first has this number and this meaning, and these are the others
 abbrev pub steps_by : ℕ → Meaning → List Line → Result StepsValue StepsFault
-steps_by number (desk planners places) lines =
-    (if nat_le planners most_planners && nat_le places most_places then steps_behind planners places lines
+steps_by number (desk planners slots) lines =
+    (if nat_le planners most_planners && nat_le slots most_slots then steps_behind planners slots lines
     else Err (record { kind = TooMany; line = number }))
 steps_by number _ lines = Err (record { kind = Expected; line = number })
 

@@ -11,7 +11,7 @@ use Rattle.steps_text.specs.StepsTexts.{StepsValue, Line, steps_fault, steps_of}
 
 -- the value of a steps file that was read
 abbrev pub value_of : StepsText → StepsValue
-value_of read = record { planners = read.planners; places = read.places; steps = map asked read.steps }
+value_of read = record { planners = read.planners; slots = read.slots; steps = map asked read.steps }
 
 -- what was read says the same as the definition, unless memory ran out
 abbrev pub tells : Result StepsText StepsRefusal → Result StepsValue StepsFault → Type 0

@@ -3,7 +3,7 @@
 //! ```text
 //! let read = read_steps(alloc, text)?;
 //! read.planners                           // 1, for the file below
-//! read.places                             // 2
+//! read.slots                             // 2
 //! read.steps.len()                        // 4
 //! ```
 //!

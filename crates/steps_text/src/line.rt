@@ -15,7 +15,7 @@ use std::sync::Arc;
 #[derive(Drop)]
 pub(crate) enum Meaning {
     /// How large the intake is.
-    Desk { planners: u32, places: u32 },
+    Desk { planners: u32, slots: u32 },
     /// A step.
     Step(Step),
     /// Nothing of the format.
@@ -73,7 +73,7 @@ fn desk(rest: &[u8]) -> Meaning
     ensures { shown result ≡ desk_in rest.now }
 {
     match two_numbers(rest) {
-        Some((planners, places)) => Meaning::Desk { planners, places },
+        Some((planners, slots)) => Meaning::Desk { planners, slots },
         None => Meaning::Strange,
     }
 }

@@ -3,7 +3,7 @@ ghost use Rattle.std.specs.Prelude.{◌≡◌, ◌+◌, ◌<◌, ◌^◌, ◌++�
 ghost use Rattle.intake_core.specs.Asked.{asked};
 ghost use Rattle.steps_text.specs.LinesLeft.{shown_line};
 ghost use Rattle.steps_text.specs.Meanings.{shown};
-ghost use Rattle.steps_text.specs.StepsTexts.{most_planners, most_places, kept_lines, step_fault, steps_by, steps_of, steps_text};
+ghost use Rattle.steps_text.specs.StepsTexts.{most_planners, most_slots, kept_lines, step_fault, steps_by, steps_of, steps_text};
 ghost use Rattle.steps_text.specs.Telling.{tells, tells_fault, tells_steps};
 
 use crate::fault::{StepsFault, StepsFaultKind};
@@ -16,10 +16,10 @@ use std::alloc::Global;
 const MOST_PLANNERS: u32 = 64;
 
 /// The most slots that an intake may have.
-const MOST_PLACES: u32 = 65_536;
+const MOST_SLOTS: u32 = 65_536;
 
 /// The most steps of a file.
-const MOST_STEPS: usize = 100_000;
+const MOST_STEPS_OF_AN_INTAKE: usize = 100_000;
 
 /// What a steps file asks for.
 #[derive(Drop)]
@@ -27,7 +27,7 @@ pub struct StepsText {
     /// How many planners the intake has.
     pub planners: u32,
     /// How many slots it has.
-    pub places: u32,
+    pub slots: u32,
     /// The steps to be run on it, in order.
     pub steps: StepsToRun,
 }
@@ -48,7 +48,7 @@ pub enum StepsRefusal {
 pub fn read_steps(alloc: Global, text: &[u8]) -> Result<StepsText, StepsRefusal>
     requires { length text.now < 2 ^ 31 }
     ensures told { tells result (steps_text text.now) }
-    ensures limits { IfOk result (λ read. (read.planners ≤ most_planners) × (read.places ≤ most_places)) }
+    ensures limits { IfOk result (λ read. (read.planners ≤ most_planners) × (read.slots ≤ most_slots)) }
 {
     let mut lines = Lines::new(text);
     match lines.next_kept(alloc) {
@@ -61,18 +61,17 @@ pub fn read_steps(alloc: Global, text: &[u8]) -> Result<StepsText, StepsRefusal>
 /// What a text holds if this is its first line that is not skipped.
 fn read_behind(alloc: Global, first: KeptLine, lines: Lines<'_>) -> Result<StepsText, StepsRefusal>
     ensures told { tells result (steps_by first.number (shown first.meaning) (kept_lines (lines.entry.taken + 1) lines.entry.left)) }
-    ensures limits { IfOk result (λ read. (read.planners ≤ most_planners) × (read.places ≤ most_places)) }
+    ensures limits { IfOk result (λ read. (read.planners ≤ most_planners) × (read.slots ≤ most_slots)) }
 {
     match first.meaning {
-        Meaning::Desk { planners, places } if planners <= MOST_PLANNERS && places <= MOST_PLACES =>
-            {
-                let steps = read_all(alloc, lines)?;
-                Ok(StepsText {
-                    planners,
-                    places,
-                    steps,
-                })
-            }
+        Meaning::Desk { planners, slots } if planners <= MOST_PLANNERS && slots <= MOST_SLOTS => {
+            let steps = read_all(alloc, lines)?;
+            Ok(StepsText {
+                planners,
+                slots,
+                steps,
+            })
+        }
         Meaning::Desk { .. } => Err(fault(StepsFaultKind::TooMany, first.number)),
         Meaning::Step(_) | Meaning::Strange => {
             Err(fault(StepsFaultKind::Expected, first.number))
@@ -103,7 +102,7 @@ fn add(steps: &mut StepsToRun, line: KeptLine) -> Result<(), StepsRefusal>
     let Meaning::Step(step) = meaning else {
         return Err(fault(StepsFaultKind::Expected, number));
     };
-    if steps.len() >= MOST_STEPS {
+    if steps.len() >= MOST_STEPS_OF_AN_INTAKE {
         return Err(fault(StepsFaultKind::TooMany, number));
     }
     match steps.push(step) {

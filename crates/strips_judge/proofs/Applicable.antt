@@ -7,15 +7,15 @@ use Rattle.strips_task.specs.declared.atoms.GroundCond.{GroundCond}
 use Rattle.strips_task.specs.declared.steps.StepText.{StepText}
 use Rattle.strips_task.specs.declared.tasks.TaskParts.{TaskParts}
 use Rattle.strips_task.specs.Atom.{cond_eq}
-use Rattle.strips_task.specs.FirstPlaces.{first_places}
+use Rattle.strips_task.specs.FirstOccurrences.{first_occurrences}
 use Rattle.strips_judge.specs.declared.verdict.Why.{Why}
 use Rattle.strips_judge.specs.State.{State, holds}
 use Rattle.strips_judge.specs.Step.{fault, precondition, missing, missing_why, hindrance}
 use Rattle.strips_judge.specs.Validity.{Satisfies, IsApplicable}
 
--- a list with no first places is empty
-none_left : {A : Type 0} (eq : A → A → Bool) (xs : List A) → first_places eq xs ≡ [] → xs ≡ []
-unfolding first_places
+-- a list with no first occurrences is empty
+none_left : {A : Type 0} (eq : A → A → Bool) (xs : List A) → first_occurrences eq xs ≡ [] → xs ≡ []
+unfolding first_occurrences
 none_left eq [] e = refl
 none_left eq (x ∷ xs) e = cc
 
@@ -44,8 +44,8 @@ pub satisfied_from_missing : (state : State) (conds : List GroundCond) → missi
 satisfied_from_missing state conds e = all_from_none state conds (none_left cond_eq (filter (λ c. not (holds state c)) conds) e)
 
 pub missing_from_satisfied : (state : State) (conds : List GroundCond) → Satisfies state conds → missing state conds ≡ []
-unfolding first_places
-missing_from_satisfied state conds h = ap (first_places cond_eq) (none_from_all state conds h)
+unfolding first_occurrences
+missing_from_satisfied state conds h = ap (first_occurrences cond_eq) (none_from_all state conds h)
 
 -- a step is not hindered exactly where it is applicable
 pub applicable_from_hindrance : (parts : TaskParts) (state : State) (step : StepText) → hindrance parts state step ≡ None → IsApplicable parts state step

@@ -7,13 +7,13 @@ use Rattle.std.proofs.lemmas.Map.Views.{any-filter_same}
 use Rattle.std.specs.List.{list_any}
 use Rattle.strips_task.specs.declared.atoms.Atom.{Atom}
 use Rattle.strips_task.specs.Atom.{atom_eq}
-use Rattle.strips_task.specs.FirstPlaces.{first_places}
+use Rattle.strips_task.specs.FirstOccurrences.{first_occurrences}
 use Rattle.strips_task.proofs.AtomEquality.{atom_equiv, atom_same}
 use Rattle.strips_judge.specs.AtomNumbers.{number_in}
 use Rattle.strips_judge.specs.NumberedState.{bit_of, state_by}
 use Rattle.bit_rows.specs.Rows.{row_has}
 use Rattle.strips_judge.specs.State.{State, is_in, with_all, without}
-use Rattle.strips_judge.proofs.Numbering.{same_number, is_some-place, place-lt, place-stays, place-late}
+use Rattle.strips_judge.proofs.Numbering.{same_number, is_some-index, index-lt, index-stays, index-late}
 
 -- the new state has this value at this atom, and at each other atom the old one's
 pub record Changes (old new : State) (atom : Atom) (value : Bool) : Type 0 where
@@ -80,39 +80,39 @@ bit_changes atoms bits new_bits atom value n e set others =
 pub no_change : (atoms : List Atom) (bits : List ℕ) (atom : Atom) → number_in atoms atom ≡ None → Changes (state_by atoms bits) (state_by atoms bits) atom false
 no_change atoms bits atom none = record { at = ap (bit_of bits) none; others = λ other apart. refl }
 
--- an atom is among the first places exactly where it is in the list
-list_any-first_places : (atom : Atom) (atoms : List Atom) → list_any (atom_eq atom) (first_places atom_eq atoms) ≡ list_any (atom_eq atom) atoms
-unfolding first_places
-list_any-first_places atom [] = refl
-list_any-first_places atom (x ∷ xs) = by (atom_eq atom x) refl (list_any-first_places atom xs)
+-- an atom is among the first occurrences exactly where it is in the list
+list_any-first_occurrences : (atom : Atom) (atoms : List Atom) → list_any (atom_eq atom) (first_occurrences atom_eq atoms) ≡ list_any (atom_eq atom) atoms
+unfolding first_occurrences
+list_any-first_occurrences atom [] = refl
+list_any-first_occurrences atom (x ∷ xs) = by (atom_eq atom x) refl (list_any-first_occurrences atom xs)
   where
-    by : (b : Bool) → atom_eq atom x ≡ b → list_any (atom_eq atom) (first_places atom_eq xs) ≡ list_any (atom_eq atom) xs
-        → (b || list_any (atom_eq atom) (filter (λ y. not (atom_eq x y)) (first_places atom_eq xs))) ≡ (b || list_any (atom_eq atom) xs)
+    by : (b : Bool) → atom_eq atom x ≡ b → list_any (atom_eq atom) (first_occurrences atom_eq xs) ≡ list_any (atom_eq atom) xs
+        → (b || list_any (atom_eq atom) (filter (λ y. not (atom_eq x y)) (first_occurrences atom_eq xs))) ≡ (b || list_any (atom_eq atom) xs)
     by true e rest = refl
     by false e rest =
         any-filter_same (atom_eq atom) (λ y. not (atom_eq x y)) true
-        (λ y same. ap not (ap (atom_eq x) (sym (atom_same atom y same)) ∙ atom_equiv.symm x atom ∙ e)) (first_places atom_eq xs)
+        (λ y same. ap not (ap (atom_eq x) (sym (atom_same atom y same)) ∙ atom_equiv.symm x atom ∙ e)) (first_occurrences atom_eq xs)
         ∙ rest
 
 -- where the bits of the initial atoms are set and no others, the state is the initial one, whatever atoms have numbers behind theirs
-pub initial_state : (atoms later : List Atom) (bits : List ℕ) → ((k : ℕ) → row_has bits k ≡ ltb k (length (first_places atom_eq atoms)))
-    → state_by (first_places atom_eq atoms ++ later) bits ≡ is_in atoms
-initial_state atoms later bits first = fun_ext (λ atom. by atom (number_in (first_places atom_eq atoms) atom) refl)
+pub initial_state : (atoms later : List Atom) (bits : List ℕ) → ((k : ℕ) → row_has bits k ≡ ltb k (length (first_occurrences atom_eq atoms)))
+    → state_by (first_occurrences atom_eq atoms ++ later) bits ≡ is_in atoms
+initial_state atoms later bits first = fun_ext (λ atom. by atom (number_in (first_occurrences atom_eq atoms) atom) refl)
   where
-    among : (atom : Atom) (o : Option ℕ) → number_in (first_places atom_eq atoms) atom ≡ o → is_some o ≡ is_in atoms atom
-    among atom o e = ap is_some (sym e) ∙ is_some-place (atom_eq atom) 0 (first_places atom_eq atoms) ∙ list_any-first_places atom atoms
+    among : (atom : Atom) (o : Option ℕ) → number_in (first_occurrences atom_eq atoms) atom ≡ o → is_some o ≡ is_in atoms atom
+    among atom o e = ap is_some (sym e) ∙ is_some-index (atom_eq atom) 0 (first_occurrences atom_eq atoms) ∙ list_any-first_occurrences atom atoms
 
-    late : (atom : Atom) → number_in (first_places atom_eq atoms) atom ≡ None → (o : Option ℕ) → number_in (first_places atom_eq atoms ++ later) atom ≡ o → bit_of bits o ≡ false
+    late : (atom : Atom) → number_in (first_occurrences atom_eq atoms) atom ≡ None → (o : Option ℕ) → number_in (first_occurrences atom_eq atoms ++ later) atom ≡ o → bit_of bits o ≡ false
     late atom none None f = refl
     late atom none (Some k) f =
-        let past = place-late (atom_eq atom) 0 k (first_places atom_eq atoms) later none f in
-        first k ∙ le-ltb k (length (first_places atom_eq atoms)) (omega (arith, past))
+        let past = index-late (atom_eq atom) 0 k (first_occurrences atom_eq atoms) later none f in
+        first k ∙ le-ltb k (length (first_occurrences atom_eq atoms)) (omega (arith, past))
 
-    by : (atom : Atom) (o : Option ℕ) → number_in (first_places atom_eq atoms) atom ≡ o → state_by (first_places atom_eq atoms ++ later) bits atom ≡ is_in atoms atom
-    by atom None e = late atom e (number_in (first_places atom_eq atoms ++ later) atom) refl ∙ among atom None e
+    by : (atom : Atom) (o : Option ℕ) → number_in (first_occurrences atom_eq atoms) atom ≡ o → state_by (first_occurrences atom_eq atoms ++ later) bits atom ≡ is_in atoms atom
+    by atom None e = late atom e (number_in (first_occurrences atom_eq atoms ++ later) atom) refl ∙ among atom None e
     by atom (Some k) e =
-        ap (bit_of bits) (place-stays (atom_eq atom) 0 k (first_places atom_eq atoms) later e)
-        ∙ first k ∙ lt-ltb k (length (first_places atom_eq atoms)) (omega (arith, place-lt (atom_eq atom) 0 k (first_places atom_eq atoms) e))
+        ap (bit_of bits) (index-stays (atom_eq atom) 0 k (first_occurrences atom_eq atoms) later e)
+        ∙ first k ∙ lt-ltb k (length (first_occurrences atom_eq atoms)) (omega (arith, index-lt (atom_eq atom) 0 k (first_occurrences atom_eq atoms) e))
         ∙ among atom (Some k) e
 
 -- an atom that gets a number is false, while no bit behind the others is set
@@ -122,11 +122,11 @@ state_by-push atoms bits more clear = fun_ext (λ atom. by atom (number_in atoms
   where
     late : (atom : Atom) → number_in atoms atom ≡ None → (o : Option ℕ) → number_in (atoms ++ more ∷ []) atom ≡ o → bit_of bits o ≡ false
     late atom none None f = refl
-    late atom none (Some k) f = clear k (omega (arith, place-late (atom_eq atom) 0 k atoms (more ∷ []) none f))
+    late atom none (Some k) f = clear k (omega (arith, index-late (atom_eq atom) 0 k atoms (more ∷ []) none f))
 
     by : (atom : Atom) (o : Option ℕ) → number_in atoms atom ≡ o → state_by (atoms ++ more ∷ []) bits atom ≡ bit_of bits o
     by atom None e = late atom e (number_in (atoms ++ more ∷ []) atom) refl
-    by atom (Some k) e = ap (bit_of bits) (place-stays (atom_eq atom) 0 k atoms (more ∷ []) e)
+    by atom (Some k) e = ap (bit_of bits) (index-stays (atom_eq atom) 0 k atoms (more ∷ []) e)
 
 -- rows with the same bits stand for one state
 pub state_by-same : (atoms : List Atom) (new old : List ℕ) → ((k : ℕ) → row_has new k ≡ row_has old k) → state_by atoms new ≡ state_by atoms old

@@ -17,7 +17,7 @@ use Rattle.strips_task.proofs.AtomEquality.{both_hold}
 use Rattle.strips_judge.specs.declared.verdict.Why.TheVariants.{WrongCount, UnknownObject, WrongType}
 use Rattle.strips_judge.specs.Step.{action_named, objects_named, is_unknown, is_ill_typed, fault, fault_by}
 use Rattle.strips_judge.specs.StepNumbers.{number_by, numbers_named, IsNumbered, AreWithin}
-use Rattle.strips_judge.proofs.Numbering.{place-lt}
+use Rattle.strips_judge.proofs.Numbering.{index-lt}
 
 -- whether there is no number yet
 abbrev pub none_yet : List ℕ → Bool
@@ -63,7 +63,7 @@ module _ (parts : TaskParts) where
   unfolding number_named
   named_within entries word number is =
       let same : length (keys_of entries) ≡ length entries = keys_length entries in
-      omega (arith, same, place-lt (bytes_eq word) 0 number (keys_of entries) is)
+      omega (arith, same, index-lt (bytes_eq word) 0 number (keys_of entries) is)
     where
       keys_length : {V : Type 0} (entries : List (List ℕ × V)) → length (keys_of entries) ≡ length entries
       keys_length [] = refl

@@ -10,15 +10,15 @@ use Rattle.strips_judge.specs.AtomNumbers.{number_in}
 
 module _ {A : Type 0} where
   -- numbers count up from the first
-  place-le : (p : A → Bool) (i n : ℕ) (xs : List A) → position_from p i xs ≡ Some n → i ≤ n
-  place-le p i n [] e = cc
-  place-le p i n (x ∷ xs) e = by (p x) refl (place-le p (i + 1) n xs)
+  index-le : (p : A → Bool) (i n : ℕ) (xs : List A) → position_from p i xs ≡ Some n → i ≤ n
+  index-le p i n [] e = cc
+  index-le p i n (x ∷ xs) e = by (p x) refl (index-le p (i + 1) n xs)
     where
       by : (b : Bool) → p x ≡ b → (position_from p (i + 1) xs ≡ Some n → i + 1 ≤ n) → i ≤ n
       by true is rest = let same : Some i ≡ Some n = sym (ap (λ c. cond c (Some i) (position_from p (i + 1) xs)) is) ∙ e in let at : i ≡ n = cc in omega arith
       by false is rest = omega (arith, rest (sym (ap (λ c. cond c (Some i) (position_from p (i + 1) xs)) is) ∙ e))
 
-  -- at one place stands one item, which passes both tests
+  -- at one index stands one item, which passes both tests
   pub one_item : (p q : A → Bool) (i n : ℕ) (xs : List A) → position_from p i xs ≡ Some n → position_from q i xs ≡ Some n → (x : A) × (p x ≡ true) × (q x ≡ true)
   one_item p q i n [] e f = cc
   one_item p q i n (x ∷ xs) e f = by (p x) (q x) refl refl (one_item p q (i + 1) n xs)
@@ -30,41 +30,41 @@ module _ {A : Type 0} where
       by true false is was rest =
           let same : Some i ≡ Some n = sym (ap (λ c. cond c (Some i) (position_from p (i + 1) xs)) is) ∙ e in
           let at : i ≡ n = cc in
-          absurd (omega (arith, place-le q (i + 1) n xs (sym (ap (λ c. cond c (Some i) (position_from q (i + 1) xs)) was) ∙ f)))
+          absurd (omega (arith, index-le q (i + 1) n xs (sym (ap (λ c. cond c (Some i) (position_from q (i + 1) xs)) was) ∙ f)))
       by false true is was rest =
           let same : Some i ≡ Some n = sym (ap (λ c. cond c (Some i) (position_from q (i + 1) xs)) was) ∙ f in
           let at : i ≡ n = cc in
-          absurd (omega (arith, place-le p (i + 1) n xs (sym (ap (λ c. cond c (Some i) (position_from p (i + 1) xs)) is) ∙ e)))
+          absurd (omega (arith, index-le p (i + 1) n xs (sym (ap (λ c. cond c (Some i) (position_from p (i + 1) xs)) is) ∙ e)))
       by false false is was rest =
           rest (sym (ap (λ c. cond c (Some i) (position_from p (i + 1) xs)) is) ∙ e) (sym (ap (λ c. cond c (Some i) (position_from q (i + 1) xs)) was) ∙ f)
 
-  -- an item has a place exactly where some item passes
-  pub is_some-place : (p : A → Bool) (i : ℕ) (xs : List A) → is_some (position_from p i xs) ≡ list_any p xs
-  is_some-place p i [] = refl
-  is_some-place p i (x ∷ xs) = by (p x) (is_some-place p (i + 1) xs)
+  -- an item has an index exactly where some item passes
+  pub is_some-index : (p : A → Bool) (i : ℕ) (xs : List A) → is_some (position_from p i xs) ≡ list_any p xs
+  is_some-index p i [] = refl
+  is_some-index p i (x ∷ xs) = by (p x) (is_some-index p (i + 1) xs)
     where
       by : (b : Bool) → is_some (position_from p (i + 1) xs) ≡ list_any p xs → is_some (cond b (Some i) (position_from p (i + 1) xs)) ≡ (b || list_any p xs)
       by true rest = refl
       by false rest = rest
 
-  -- a place is within the list
-  pub place-lt : (p : A → Bool) (i n : ℕ) (xs : List A) → position_from p i xs ≡ Some n → n + 1 ≤ i + length xs
-  place-lt p i n [] e = cc
-  place-lt p i n (x ∷ xs) e = by (p x) refl (place-lt p (i + 1) n xs)
+  -- an index is within the list
+  pub index-lt : (p : A → Bool) (i n : ℕ) (xs : List A) → position_from p i xs ≡ Some n → n + 1 ≤ i + length xs
+  index-lt p i n [] e = cc
+  index-lt p i n (x ∷ xs) e = by (p x) refl (index-lt p (i + 1) n xs)
     where
       by : (b : Bool) → p x ≡ b → (position_from p (i + 1) xs ≡ Some n → n + 1 ≤ i + 1 + length xs) → n + 1 ≤ i + length (x ∷ xs)
       by true is rest = let same : Some i ≡ Some n = sym (ap (λ c. cond c (Some i) (position_from p (i + 1) xs)) is) ∙ e in let at : i ≡ n = cc in omega arith
       by false is rest = omega (arith, rest (sym (ap (λ c. cond c (Some i) (position_from p (i + 1) xs)) is) ∙ e))
 
   -- an item at the end that does not pass changes nothing
-  pub place-push_other : (p : A → Bool) (i : ℕ) (xs : List A) (y : A) → p y ≡ false → position_from p i (xs ++ y ∷ []) ≡ position_from p i xs
-  place-push_other p i [] y e = ap (λ c. cond c (Some i) None) e
-  place-push_other p i (x ∷ xs) y e = ap (cond (p x) (Some i)) (place-push_other p (i + 1) xs y e)
+  pub index-push_other : (p : A → Bool) (i : ℕ) (xs : List A) (y : A) → p y ≡ false → position_from p i (xs ++ y ∷ []) ≡ position_from p i xs
+  index-push_other p i [] y e = ap (λ c. cond c (Some i) None) e
+  index-push_other p i (x ∷ xs) y e = ap (cond (p x) (Some i)) (index-push_other p (i + 1) xs y e)
 
   -- one that passes, where none did, is at the end
-  pub place-push_new : (p : A → Bool) (i : ℕ) (xs : List A) (y : A) → position_from p i xs ≡ None → p y ≡ true → position_from p i (xs ++ y ∷ []) ≡ Some (i + length xs)
-  place-push_new p i [] y none e = ap (λ c. cond c (Some i) None) e ∙ ap Some (omega arith)
-  place-push_new p i (x ∷ xs) y none e = by (p x) refl (place-push_new p (i + 1) xs y)
+  pub index-push_new : (p : A → Bool) (i : ℕ) (xs : List A) (y : A) → position_from p i xs ≡ None → p y ≡ true → position_from p i (xs ++ y ∷ []) ≡ Some (i + length xs)
+  index-push_new p i [] y none e = ap (λ c. cond c (Some i) None) e ∙ ap Some (omega arith)
+  index-push_new p i (x ∷ xs) y none e = by (p x) refl (index-push_new p (i + 1) xs y)
     where
       by : (b : Bool) → p x ≡ b → (position_from p (i + 1) xs ≡ None → p y ≡ true → position_from p (i + 1) (xs ++ y ∷ []) ≡ Some (i + 1 + length xs))
           → position_from p i ((x ∷ xs) ++ y ∷ []) ≡ Some (i + length (x ∷ xs))
@@ -74,10 +74,10 @@ module _ {A : Type 0} where
           ∙ rest (sym (ap (λ c. cond c (Some i) (position_from p (i + 1) xs)) is) ∙ none) e
           ∙ ap Some (omega arith)
 
-  -- items that come behind change no place
-  pub place-stays : (p : A → Bool) (i n : ℕ) (xs ys : List A) → position_from p i xs ≡ Some n → position_from p i (xs ++ ys) ≡ Some n
-  place-stays p i n [] ys e = cc
-  place-stays p i n (x ∷ xs) ys e = by (p x) refl (place-stays p (i + 1) n xs ys)
+  -- items that follow change no index
+  pub index-stays : (p : A → Bool) (i n : ℕ) (xs ys : List A) → position_from p i xs ≡ Some n → position_from p i (xs ++ ys) ≡ Some n
+  index-stays p i n [] ys e = cc
+  index-stays p i n (x ∷ xs) ys e = by (p x) refl (index-stays p (i + 1) n xs ys)
     where
       by : (b : Bool) → p x ≡ b → (position_from p (i + 1) xs ≡ Some n → position_from p (i + 1) (xs ++ ys) ≡ Some n) → position_from p i ((x ∷ xs) ++ ys) ≡ Some n
       by true is rest =
@@ -85,10 +85,10 @@ module _ {A : Type 0} where
       by false is rest =
           ap (λ c. cond c (Some i) (position_from p (i + 1) (xs ++ ys))) is ∙ rest (sym (ap (λ c. cond c (Some i) (position_from p (i + 1) xs)) is) ∙ e)
 
-  -- where no item passes, the place is one of those behind
-  pub place-behind : (p : A → Bool) (i : ℕ) (xs ys : List A) → position_from p i xs ≡ None → position_from p i (xs ++ ys) ≡ position_from p (i + length xs) ys
-  place-behind p i [] ys none = ap (λ k. position_from p k ys) (let e : i ≡ i + 0 = omega arith in e)
-  place-behind p i (x ∷ xs) ys none = by (p x) refl (place-behind p (i + 1) xs ys)
+  -- where no item passes, the index is one of those that follow
+  pub index-behind : (p : A → Bool) (i : ℕ) (xs ys : List A) → position_from p i xs ≡ None → position_from p i (xs ++ ys) ≡ position_from p (i + length xs) ys
+  index-behind p i [] ys none = ap (λ k. position_from p k ys) (let e : i ≡ i + 0 = omega arith in e)
+  index-behind p i (x ∷ xs) ys none = by (p x) refl (index-behind p (i + 1) xs ys)
     where
       by : (b : Bool) → p x ≡ b → (position_from p (i + 1) xs ≡ None → position_from p (i + 1) (xs ++ ys) ≡ position_from p (i + 1 + length xs) ys)
           → position_from p i ((x ∷ xs) ++ ys) ≡ position_from p (i + length (x ∷ xs)) ys
@@ -98,22 +98,22 @@ module _ {A : Type 0} where
           ∙ rest (sym (ap (λ c. cond c (Some i) (position_from p (i + 1) xs)) is) ∙ none)
           ∙ ap (λ k. position_from p k ys) (let e : i + 1 + length xs ≡ i + length (x ∷ xs) = omega arith in e)
 
-  -- and so it comes after all places of the first part
-  pub place-late : (p : A → Bool) (i n : ℕ) (xs ys : List A) → position_from p i xs ≡ None → position_from p i (xs ++ ys) ≡ Some n → i + length xs ≤ n
-  place-late p i n xs ys none e = place-le p (i + length xs) n ys (sym (place-behind p i xs ys none) ∙ e)
+  -- and so it comes after all indexes of the first part
+  pub index-late : (p : A → Bool) (i n : ℕ) (xs ys : List A) → position_from p i xs ≡ None → position_from p i (xs ++ ys) ≡ Some n → i + length xs ≤ n
+  index-late p i n xs ys none e = index-le p (i + length xs) n ys (sym (index-behind p i xs ys none) ∙ e)
 
   -- where no item of the whole passes, none of the first part does
-  pub place-none : (p : A → Bool) (i : ℕ) (xs ys : List A) → position_from p i (xs ++ ys) ≡ None → position_from p i xs ≡ None
-  place-none p i xs ys none = by (position_from p i xs) refl
+  pub index-none : (p : A → Bool) (i : ℕ) (xs ys : List A) → position_from p i (xs ++ ys) ≡ None → position_from p i xs ≡ None
+  index-none p i xs ys none = by (position_from p i xs) refl
     where
       by : (o : Option ℕ) → position_from p i xs ≡ o → o ≡ None
       by None e = refl
-      by (Some n) e = let apart : Some n ≡ None = sym (place-stays p i n xs ys e) ∙ none in cc
+      by (Some n) e = let apart : Some n ≡ None = sym (index-stays p i n xs ys e) ∙ none in cc
 
-  -- places that are counted from further on
-  pub place-shift : (p : A → Bool) (i d : ℕ) (xs : List A) → position_from p (d + i) xs ≡ option_map (λ n. d + n) (position_from p i xs)
-  place-shift p i d [] = refl
-  place-shift p i d (x ∷ xs) = by (p x) (ap (λ k. position_from p k xs) (let e : d + i + 1 ≡ d + (i + 1) = omega arith in e) ∙ place-shift p (i + 1) d xs)
+  -- indexes that are counted from further on
+  pub index-shift : (p : A → Bool) (i d : ℕ) (xs : List A) → position_from p (d + i) xs ≡ option_map (λ n. d + n) (position_from p i xs)
+  index-shift p i d [] = refl
+  index-shift p i d (x ∷ xs) = by (p x) (ap (λ k. position_from p k xs) (let e : d + i + 1 ≡ d + (i + 1) = omega arith in e) ∙ index-shift p (i + 1) d xs)
     where
       by : (b : Bool) → position_from p (d + i + 1) xs ≡ option_map (λ n. d + n) (position_from p (i + 1) xs)
           → cond b (Some (d + i)) (position_from p (d + i + 1) xs) ≡ option_map (λ n. d + n) (cond b (Some i) (position_from p (i + 1) xs))
@@ -129,33 +129,33 @@ same_number atoms a b n e f =
 -- an atom that had no number gets the next
 pub number_in-push_new : (atoms : List Atom) (a copy : Atom) → copy ≡ a → number_in atoms a ≡ None → number_in (atoms ++ copy ∷ []) a ≡ Some (length atoms)
 number_in-push_new atoms a copy same none =
-    place-push_new (atom_eq a) 0 atoms copy none (ap (atom_eq a) same ∙ atom_equiv.refl a) ∙ ap Some (omega arith)
+    index-push_new (atom_eq a) 0 atoms copy none (ap (atom_eq a) same ∙ atom_equiv.refl a) ∙ ap Some (omega arith)
 
 -- and the others keep theirs
 pub number_in-push_other : (atoms : List Atom) (a copy other : Atom) → copy ≡ a → atom_eq a other ≡ false → number_in (atoms ++ copy ∷ []) other ≡ number_in atoms other
 number_in-push_other atoms a copy other same apart =
-    place-push_other (atom_eq other) 0 atoms copy (ap (atom_eq other) same ∙ atom_equiv.symm other a ∙ apart)
+    index-push_other (atom_eq other) 0 atoms copy (ap (atom_eq other) same ∙ atom_equiv.symm other a ∙ apart)
 
 -- an insertion of an atom without a number puts it at the end
 pub insert_key-new : (atoms : List Atom) (a copy : Atom) → copy ≡ a → number_in atoms a ≡ None → insert_key atom_eq atoms copy ≡ atoms ++ copy ∷ []
 insert_key-new atoms a copy same none =
-    let absent : list_any (atom_eq copy) atoms ≡ false = ap (λ x. list_any (atom_eq x) atoms) same ∙ sym (is_some-place (atom_eq a) 0 atoms) ∙ ap is_some none in
+    let absent : list_any (atom_eq copy) atoms ≡ false = ap (λ x. list_any (atom_eq x) atoms) same ∙ sym (is_some-index (atom_eq a) 0 atoms) ∙ ap is_some none in
     ap (λ c. if c then atoms else atoms ++ copy ∷ []) absent
 
 -- the number of an atom of the first of two lists, in both together
 pub number_in-first : (first later : List Atom) (a : Atom) (n : ℕ) → number_in first a ≡ Some n → number_in (first ++ later) a ≡ Some n
-number_in-first first later a n e = place-stays (atom_eq a) 0 n first later e
+number_in-first first later a n e = index-stays (atom_eq a) 0 n first later e
 
 -- that of an atom that the first list lacks
 pub number_in-later : (first later : List Atom) (a : Atom) → number_in first a ≡ None → number_in (first ++ later) a ≡ option_map (λ n. length first + n) (number_in later a)
 number_in-later first later a none =
-    place-behind (atom_eq a) 0 first later none
+    index-behind (atom_eq a) 0 first later none
     ∙ ap (λ k. position_from (atom_eq a) k later) (let e : 0 + length first ≡ length first + 0 = omega arith in e)
-    ∙ place-shift (atom_eq a) 0 (length first) later
+    ∙ index-shift (atom_eq a) 0 (length first) later
 
 -- an atom without a number in both together has none in the second list
 pub number_in-none_later : (first later : List Atom) (a : Atom) → number_in (first ++ later) a ≡ None → number_in later a ≡ None
-number_in-none_later first later a none = by (number_in later a) (sym (number_in-later first later a (place-none (atom_eq a) 0 first later none)) ∙ none)
+number_in-none_later first later a none = by (number_in later a) (sym (number_in-later first later a (index-none (atom_eq a) 0 first later none)) ∙ none)
   where
     by : (o : Option ℕ) → option_map (λ n. length first + n) o ≡ None → o ≡ None
     by None e = refl
@@ -163,4 +163,4 @@ number_in-none_later first later a none = by (number_in later a) (sym (number_in
 
 -- numbers are below how many there are
 pub number_in-lt : (atoms : List Atom) (a : Atom) (n : ℕ) → number_in atoms a ≡ Some n → n < length atoms
-number_in-lt atoms a n e = omega (arith, place-lt (atom_eq a) 0 n atoms e)
+number_in-lt atoms a n e = omega (arith, index-lt (atom_eq a) 0 n atoms e)

@@ -11,9 +11,9 @@ use Rattle.indexmap.specs.IndexSet.{insert_key}
 use Rattle.strips_task.specs.declared.atoms.Atom.{Atom}
 use Rattle.strips_task.specs.declared.atoms.GroundCond.{GroundCond}
 use Rattle.strips_task.specs.Atom.{atom_eq, cond_eq}
-use Rattle.strips_task.specs.FirstPlaces.{first_places}
+use Rattle.strips_task.specs.FirstOccurrences.{first_occurrences}
 use Rattle.strips_task.specs.FormulaEquality.{formula_equiv}
-use Rattle.strips_task.proofs.FirstPlaces.{first_places-push}
+use Rattle.strips_task.proofs.FirstOccurrences.{first_occurrences-push}
 use Rattle.strips_judge.specs.State.{State, is_in, with_all, without, holds}
 use Rattle.strips_judge.specs.Step.{missing}
 
@@ -30,29 +30,29 @@ taken_more xs i x lt is = take_more xs i x lt ∙ ap (λ y. take i xs ++ y ∷ [
 
 -- of no conditions none is missing
 pub missing-none : (state : State) → missing state [] ≡ []
-unfolding first_places
+unfolding first_occurrences
 missing-none state = refl
 
 module _ (state : State) (found before all : List GroundCond) (condition : GroundCond) (more : all ≡ before ++ condition ∷ []) (so_far : found ≡ missing state before) where
-  split : missing state all ≡ first_places cond_eq (filter (λ c. not (holds state c)) before ++ cond (not (holds state condition)) (condition ∷ []) [])
+  split : missing state all ≡ first_occurrences cond_eq (filter (λ c. not (holds state c)) before ++ cond (not (holds state condition)) (condition ∷ []) [])
   split =
       ap (missing state) more
-      ∙ ap (first_places cond_eq) (filter-append (λ c. not (holds state c)) before (condition ∷ []))
+      ∙ ap (first_occurrences cond_eq) (filter-append (λ c. not (holds state c)) before (condition ∷ []))
 
   -- one that holds is not missing
   pub missing-more_holds : holds state condition ≡ true → found ≡ missing state all
   missing-more_holds h =
       so_far
-      ∙ ap (first_places cond_eq) (sym (append-nil (filter (λ c. not (holds state c)) before)))
-      ∙ ap (λ b. first_places cond_eq (filter (λ c. not (holds state c)) before ++ cond (not b) (condition ∷ []) [])) (sym h)
+      ∙ ap (first_occurrences cond_eq) (sym (append-nil (filter (λ c. not (holds state c)) before)))
+      ∙ ap (λ b. first_occurrences cond_eq (filter (λ c. not (holds state c)) before ++ cond (not b) (condition ∷ []) [])) (sym h)
       ∙ sym split
 
   -- one that fails goes last, unless it is there
   pub missing-more_fails : holds state condition ≡ false → insert_key cond_eq found condition ≡ missing state all
   missing-more_fails h =
       ap (λ l. insert_key cond_eq l condition) so_far
-      ∙ sym (first_places-push cond_equiv (filter (λ c. not (holds state c)) before) condition)
-      ∙ ap (λ b. first_places cond_eq (filter (λ c. not (holds state c)) before ++ cond (not b) (condition ∷ []) [])) (sym h)
+      ∙ sym (first_occurrences-push cond_equiv (filter (λ c. not (holds state c)) before) condition)
+      ∙ ap (λ b. first_occurrences cond_eq (filter (λ c. not (holds state c)) before ++ cond (not b) (condition ∷ []) [])) (sym h)
       ∙ sym split
 
 or_assoc : (a b c : Bool) → (a || (b || (c || false))) ≡ ((a || b) || (c || false))

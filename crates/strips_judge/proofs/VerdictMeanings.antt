@@ -78,10 +78,10 @@ module _ (parts : TaskParts) where
           × LeadTo parts state (take before (first ∷ steps)) at × (IsApplicable parts at step → ⊥)
       by (Some hindered) f rest =
           let same : answer.Fails (n + 1) hindered ≡ answer.Fails i why = sym (verdict_split n state first steps (Some hindered) f) ∙ e in
-          let place : n + 1 ≡ i = cc in
+          let index : n + 1 ≡ i = cc in
           (0, first, state, omega arith, refl, lead_none parts state, not_applicable state first hindered f)
       by None f rest =
-          let (before, step, at, place, of, leads, cannot) = rest (sym (verdict_split n state first steps None f) ∙ e) in
+          let (before, step, at, index, of, leads, cannot) = rest (sym (verdict_split n state first steps None f) ∙ e) in
           (suc before, step, at, omega arith, of, lead_more parts state at first (take before steps) (applicable_from_hindrance parts state first f) leads, cannot)
 
   verdict_from_fails : (n : ℕ) (state at : State) (steps : List StepText) (before : ℕ) (step : StepText) → slice_get steps before ≡ Some step
@@ -103,7 +103,7 @@ module _ (parts : TaskParts) where
       let (why, e) = verdict_from_fails (n + 1) (after parts state first) at steps before step of rest cannot in (
         why,
         verdict_split n state first steps None (hindrance_from_applicable parts state first can) ∙ e
-            ∙ ap (λ k. answer.Fails k why) (let place : n + 1 + before + 1 ≡ n + suc before + 1 = omega arith in place),
+            ∙ ap (λ k. answer.Fails k why) (let index : n + 1 + before + 1 ≡ n + suc before + 1 = omega arith in index),
       )
 
   goal_from_verdict : (n : ℕ) (state : State) (steps : List StepText) (unmet : List GroundCond) → verdict_from parts n state steps ≡ answer.Goal unmet
@@ -146,15 +146,15 @@ module _ (parts : TaskParts) where
   valid_means_valid (Unreadable line) count = (λ e. cc, λ h. absurd h)
 
   pub fails_means_first_failure : (plan : Plan) → FailsMeansFirstFailure parts plan
-  fails_means_first_failure (Steps steps) place = (
+  fails_means_first_failure (Steps steps) index = (
     λ h. let (why, e) = h in
-        let (before, step, at, is, of, leads, cannot) = fails_from_verdict 0 (is_in parts.init) steps place why e in
+        let (before, step, at, is, of, leads, cannot) = fails_from_verdict 0 (is_in parts.init) steps index why e in
         (before, step, at, omega arith, of, leads, cannot),
     λ h. let (before, step, at, is, of, leads, cannot) = h in
         let (why, e) = verdict_from_fails 0 (is_in parts.init) at steps before step of leads cannot in
-        (why, e ∙ ap (λ k. answer.Fails k why) (let p : 0 + before + 1 ≡ place = omega arith in p)),
+        (why, e ∙ ap (λ k. answer.Fails k why) (let p : 0 + before + 1 ≡ index = omega arith in p)),
   )
-  fails_means_first_failure (Unreadable line) place = (λ h. let (why, e) = h in cc, λ h. absurd h)
+  fails_means_first_failure (Unreadable line) index = (λ h. let (why, e) = h in cc, λ h. absurd h)
 
   pub goal_means_goal_missed : (plan : Plan) → GoalMeansGoalMissed parts plan
   goal_means_goal_missed (Steps steps) = (

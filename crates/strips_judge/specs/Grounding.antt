@@ -14,7 +14,7 @@ use Rattle.strips_task.specs.declared.atoms.GroundCond.{GroundCond}
 
 -- the object that a term stands for
 abbrev pub ground_term : List ℕ → Term → ℕ
-ground_term objects (Param place) = slice_index objects place
+ground_term objects (Param index) = slice_index objects index
 ground_term objects (Object object) = object
 
 -- the ground atom that a pattern stands for

@@ -16,7 +16,7 @@ ValidMeansValid parts plan = (count : ℕ) → (verdict parts plan ≡ answer.Va
 
 -- the verdict is `Fails` if and only if the plan fails, with the number of the first step that is not applicable
 abbrev pub FailsMeansFirstFailure : TaskParts → Plan → Type 0
-FailsMeansFirstFailure parts plan = (place : ℕ) → ((why : Why) × (verdict parts plan ≡ answer.Fails place why)) ↔ IsFirstFailure parts plan place
+FailsMeansFirstFailure parts plan = (number : ℕ) → ((why : Why) × (verdict parts plan ≡ answer.Fails number why)) ↔ IsFirstFailure parts plan number
 
 -- the verdict is `Goal` if and only if all steps are applicable in their turn and the goal does not hold after them
 abbrev pub GoalMeansGoalMissed : TaskParts → Plan → Type 0

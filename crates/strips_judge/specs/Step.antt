@@ -9,7 +9,7 @@ use Rattle.strips_task.specs.declared.atoms.GroundCond.{GroundCond}
 use Rattle.strips_task.specs.declared.steps.StepText.{StepText}
 use Rattle.strips_task.specs.declared.tasks.TaskParts.{TaskParts}
 use Rattle.strips_task.specs.Atom.{cond_eq}
-use Rattle.strips_task.specs.FirstPlaces.{first_places}
+use Rattle.strips_task.specs.FirstOccurrences.{first_occurrences}
 use Rattle.strips_task.specs.Names.{number_named}
 use Rattle.strips_task.specs.Types.{fits}
 use Rattle.strips_judge.specs.declared.verdict.Why.{Why}
@@ -36,7 +36,7 @@ object_fits parts alternatives object = fits parts.parents (slice_index (values_
 
 -- the object does not fit the parameter beside it
 abbrev pub is_ill_typed : TaskParts → List ℕ × ℕ → Bool
-is_ill_typed parts place = not (object_fits parts place.0 place.1)
+is_ill_typed parts pair = not (object_fits parts pair.0 pair.1)
 
 -- the first argument that names no object, counted from 1
 abbrev pub first_unknown : TaskParts → List (List ℕ) → Option ℕ
@@ -84,7 +84,7 @@ after parts state step = after_by (objects_named parts step.args) state (action_
 -- the conditions that do not hold, in the order in which they first occur, each once; a formula and its negation are two conditions
 -- (which of them are named, and in which order, is this validator's choice)
 abbrev pub missing : State → List GroundCond → List GroundCond
-missing state conds = first_places cond_eq (filter (λ cond. not (holds state cond)) conds)
+missing state conds = first_occurrences cond_eq (filter (λ cond. not (holds state cond)) conds)
 
 -- why a step is not applicable when these conditions do not hold
 abbrev pub missing_why : List GroundCond → Option Why

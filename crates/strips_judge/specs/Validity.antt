@@ -36,7 +36,7 @@ AreValid parts steps = (end : State) × LeadTo parts (is_in parts.init) steps en
 
 -- the plan fails at this step, counted from 1: the steps before it have a run, and it is not applicable in the state to which they lead
 abbrev pub FailAt : TaskParts → List StepText → ℕ → Type 0
-FailAt parts steps place = (before : ℕ) × (step : StepText) × (state : State) × (place ≡ before + 1) × (slice_get steps before ≡ Some step)
+FailAt parts steps number = (before : ℕ) × (step : StepText) × (state : State) × (number ≡ before + 1) × (slice_get steps before ≡ Some step)
     × LeadTo parts (is_in parts.init) (take before steps) state × (IsApplicable parts state step → ⊥)
 
 -- the steps miss the goal: they lead to a state in which it does not hold
@@ -50,8 +50,8 @@ IsValidPlan parts (Unreadable line) count = ⊥
 
 -- a plan first fails at this step, counted from 1
 abbrev pub IsFirstFailure : TaskParts → Plan → ℕ → Type 0
-IsFirstFailure parts (Steps steps) place = FailAt parts steps place
-IsFirstFailure parts (Unreadable line) place = ⊥
+IsFirstFailure parts (Steps steps) number = FailAt parts steps number
+IsFirstFailure parts (Unreadable line) number = ⊥
 
 -- a plan has a run and misses the goal
 abbrev pub IsGoalMissed : TaskParts → Plan → Type 0

@@ -47,10 +47,10 @@ fn find_objects(
     ensures known { IfOk result (λ arg. IfNone arg (All (λ object. object < length task.now.objects) objects.new.items)) }
 {
     objects.clear();
-    for place in 0..step.arg_count() {
-        match task.object_named(step.arg(place)) {
+    for index in 0..step.arg_count() {
+        match task.object_named(step.arg(index)) {
             Some(object) => objects.push(object)?,
-            None => return Ok(Some(place as u32 + 1)),
+            None => return Ok(Some(index as u32 + 1)),
         }
     }
     Ok(None)
@@ -64,9 +64,9 @@ pub(crate) fn first_ill_typed(task: &Task, params: &[Alternatives], objects: &[u
     requires known { All (λ object. object < length task.now.objects) objects.now }
     ensures { result ≡ position_from (is_ill_typed task.now) 1 (zip params.now objects.now) }
 {
-    for place in 0..params.len() {
-        if !object_fits(task, params[place].as_slice(), objects[place]) {
-            return Some(place as u32 + 1);
+    for index in 0..params.len() {
+        if !object_fits(task, params[index].as_slice(), objects[index]) {
+            return Some(index as u32 + 1);
         }
     }
     None

@@ -50,7 +50,7 @@ pub(crate) fn missing_ground(
     let mut found = IndexSet::with_hasher(alloc, state.seed());
     for cond in conds {
         if !holds_ground(state, cond) {
-            note(&mut found, copy_of_condition(alloc, cond)?)?;
+            note(&mut found, cond.copy(alloc)?)?;
         }
     }
     listed(alloc, found)
@@ -91,20 +91,6 @@ fn note(found: &mut IndexSet<GroundCond, Seed>, cond: GroundCond) -> Result<(), 
 {
     found.insert(cond)?;
     Ok(())
-}
-
-/// A ground condition of its own that asks for the same.
-fn copy_of_condition(alloc: Global, cond: &GroundCond) -> Result<GroundCond, AllocError>
-    ensures { IfOk result (λ copy. copy ≡ cond.now) }
-{
-    let formula = match &cond.formula {
-        GroundFormula::Atom(atom) => GroundFormula::Atom(atom.copy(alloc)?),
-        GroundFormula::Equal(left, right) => GroundFormula::Equal(*left, *right),
-    };
-    Ok(GroundCond {
-        positive: cond.positive,
-        formula,
-    })
 }
 
 /// The conditions of a set, in their order.

@@ -15,7 +15,7 @@ pub(crate) fn object_of(term: Term, objects: &[u16]) -> u16
     ensures { result ≡ ground_term objects.now term }
 {
     match term {
-        Term::Param(place) => objects[usize::from(place)],
+        Term::Param(index) => objects[usize::from(index)],
         Term::Object(object) => object,
     }
 }

@@ -59,10 +59,10 @@ fn judge_steps(alloc: Global, task: &Task, steps: &StepList) -> Result<Verdict, 
 {
     let mut state = NumberedState::new(alloc, task.initial_atoms(), MOST_RECENT)?;
     let mut scratch = Scratch::new(alloc);
-    for place in 0..steps.len() {
-        if let Some(why) = take_step(alloc, task, steps.get(place), &mut state, &mut scratch)? {
+    for index in 0..steps.len() {
+        if let Some(why) = take_step(alloc, task, steps.get(index), &mut state, &mut scratch)? {
             return Ok(Verdict::Fails {
-                step: place as u32 + 1,
+                step: index as u32 + 1,
                 why,
             });
         }

@@ -120,8 +120,8 @@ fn put_all(slots: &mut Vec<Slot>, others: &[Slot])
 fn put(slots: &mut Vec<Slot>, slot: Slot)
     ensures { (atoms : List Atom) → IsRecent atoms slot → All (IsRecent atoms) slots.old.items → All (IsRecent atoms) slots.new.items }
 {
-    let place = index_of(slot.atom.hash(), slots.len());
-    if slot.atom.is_some() && place < slots.len() {
-        slots[place] = slot;
+    let index = index_of(slot.atom.hash(), slots.len());
+    if slot.atom.is_some() && index < slots.len() {
+        slots[index] = slot;
     }
 }

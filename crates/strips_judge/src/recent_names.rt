@@ -123,8 +123,8 @@ fn put(slots: &mut Vec<NameSlot>, slot: NameSlot)
     ensures { (number_of : List ℕ → Option ℕ) → IsRecentName number_of slot → All (IsRecentName number_of) slots.old.items
         → All (IsRecentName number_of) slots.new.items }
 {
-    let place = index_of(slot.word.hash(), slots.len());
-    if slot.word.is_some() && place < slots.len() {
-        slots[place] = slot;
+    let index = index_of(slot.word.hash(), slots.len());
+    if slot.word.is_some() && index < slots.len() {
+        slots[index] = slot;
     }
 }

@@ -34,16 +34,16 @@ pub struct NumberedState<'t> {
 impl<'t> Model for NumberedState<'t> {
     ghost use Rattle.std.specs.Prelude.{◌++◌, All};
     ghost use Rattle.strips_task.specs.Atom.{atom_eq};
-    ghost use Rattle.strips_task.specs.FirstPlaces.{first_places};
+    ghost use Rattle.strips_task.specs.FirstOccurrences.{first_occurrences};
     ghost use Rattle.strips_judge.specs.NumberedState.{Numbered, IsRowFor};
     ghost use Rattle.strips_judge.specs.Recent.{IsRecent};
 
     ghost Value = { Numbered };
 
-    ghost view = { λ s. record { initial = s.initial.now; atoms = first_places atom_eq s.initial.now ++ s.later.keys; bits = s.bits } };
+    ghost view = { λ s. record { initial = s.initial.now; atoms = first_occurrences atom_eq s.initial.now ++ s.later.keys; bits = s.bits } };
 
-    ghost invariant = { λ s. IsRowFor (first_places atom_eq s.initial.now ++ s.later.keys) s.bits
-        × All (IsRecent (first_places atom_eq s.initial.now ++ s.later.keys)) s.recent };
+    ghost invariant = { λ s. IsRowFor (first_occurrences atom_eq s.initial.now ++ s.later.keys) s.bits
+        × All (IsRecent (first_occurrences atom_eq s.initial.now ++ s.later.keys)) s.recent };
 }
 
 impl NumberedState<'_> {

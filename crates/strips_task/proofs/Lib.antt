@@ -1,4 +1,4 @@
-pub mod FirstPlaces
+pub mod FirstOccurrences
 pub mod JoinedRanges
 pub mod Numbered
 pub mod AtomEquality

@@ -31,7 +31,7 @@ unnamed {V} entries name h = by (lookup (bytes_eq name) entries) refl
         absurd (true≢false (sym (ap is_some e) ∙ sym (some_index (bytes_eq name) entries)
         ∙ ap is_some (position_from-zero (bytes_eq name) (keys_of entries) ∙ h)))
 
--- where a test finds no place, no item passes it
+-- where a test finds no index, no item passes it
 none_passes : {A : Type 0} (p : A → Bool) (at : ℕ) (xs : List A) → position_from p at xs ≡ None → list_any p xs ≡ false
 none_passes p at [] e = refl
 none_passes p at (x ∷ xs) e = by (p x) refl (none_passes p (at + 1) xs)

@@ -1,4 +1,4 @@
--- A list that is kept as numbers of distinct items: how it grows, and what stands at a place.
+-- A list that is kept as numbers of distinct items: how it grows, and what stands at an index.
 
 use Rattle.std.proofs.Common.{◌≡◌, ℕ, ◌<◌, ◌≤◌, zero, suc, Bool, true, false, List, [], ◌∷◌, ◌++◌, length, refl, ap, sym, ◌∙◌, arith, slice_get, All, Some, get_or, if◌then◌else◌, append-nil, length-append}
 use Rattle.std.specs.List.{filter_map, cons_option, list_any}
@@ -13,7 +13,7 @@ all_head : (m n : ℕ) (ns : List ℕ) → All (λ k. k < m) (n ∷ ns) → n < 
 all_head m n ns h = h 0 0 (omega arith)
 
 module _ {A : Type 0} where
-  -- an item stands at each place of a list
+  -- an item stands at each index of a list
   pub item_within : (ks : List A) (n : ℕ) → n < length ks → (x : A) × (slice_get ks n ≡ Some x)
   item_within [] n h = absurd (omega arith)
   item_within (x ∷ xs) zero h = (x, refl)
@@ -31,7 +31,7 @@ module _ {A : Type 0} where
       let at = item_within ks n (all_head (length ks) n ns h) in
       ap length (cons_shown ks n ns at.0 at.1) ∙ ap suc (length-shown ks ns (all_tail (length ks) n ns h))
 
-  -- at each place stands the item that is numbered there
+  -- at each index stands the item that is numbered there
   pub slice_get-shown : (ks : List A) (ns : List ℕ) → All (λ n. n < length ks) ns → (i d : ℕ) → i < length ns
       → slice_get (filter_map (slice_get ks) ns) i ≡ slice_get ks (get_or ns i d)
   slice_get-shown ks [] h i d lt = absurd (omega arith)

@@ -1,10 +1,10 @@
--- Two lists that are compared place by place.
+-- Two lists that are compared item by item.
 
 use Rattle.std.proofs.Common.{◌≡◌, ℕ, ◌+◌, ◌<◌, Bool, true, false, not, ◌&&◌, refl, List, ◌∷◌, length, drop, get_or, sym, ◌∙◌, add-one, drop-cons}
 use Rattle.std.specs.Cmp.Lexicographic.{pointwise}
 
 module _ {A : Type 0} (E : A → A → Bool) (xs ys : List A) (i : ℕ) (x y : A) where
-  -- at a place the items decide, and then what is behind them
+  -- at an index the items decide, and then what is behind them
   pub pairs_here : i < length xs → i < length ys → get_or xs i x ≡ x → get_or ys i y ≡ y
       → pointwise E (drop i xs) (drop i ys) ≡ (E x y && pointwise E (drop (i + 1) xs) (drop (i + 1) ys))
   pairs_here in_xs in_ys is_x is_y =

@@ -54,15 +54,15 @@ args_count words first end lt le =
     sym (ap (λ s. length s.args) parts.2
     ∙ length-take (drop (suc first) words) (end - first - 1) (omega (arith, length-drop (suc first) words)))
 
-pub arg_at : (words : List (List ℕ)) (first end place : ℕ) → first < end → end ≤ length words
-    → place < length (step_of (slice_range words first end)).args
-    → slice_get (step_of (slice_range words first end)).args place ≡ slice_get words (first + 1 + place)
-arg_at words first end place lt le within =
+pub arg_at : (words : List (List ℕ)) (first end index : ℕ) → first < end → end ≤ length words
+    → index < length (step_of (slice_range words first end)).args
+    → slice_get (step_of (slice_range words first end)).args index ≡ slice_get words (first + 1 + index)
+arg_at words first end index lt le within =
     let parts = step_words words first end lt le in
-    ap (λ s. slice_get s.args place) parts.2
-    ∙ slice_get-take (drop (suc first) words) (end - first - 1) place (omega (arith, args_count words first end lt le))
-    ∙ slice_get-drop words (suc first) place
-    ∙ ap (slice_get words) (let e : suc first + place ≡ first + 1 + place = omega arith in e)
+    ap (λ s. slice_get s.args index) parts.2
+    ∙ slice_get-take (drop (suc first) words) (end - first - 1) index (omega (arith, args_count words first end lt le))
+    ∙ slice_get-drop words (suc first) index
+    ∙ ap (slice_get words) (let e : suc first + index ≡ first + 1 + index = omega arith in e)
 
 -- one more word, and one more, make an extension
 pub extends_more : (old mid : List (List ℕ)) (word : List ℕ) (new : List (List ℕ)) → IsExtension old mid → new ≡ mid ++ word ∷ [] → IsExtension old new

@@ -28,11 +28,11 @@ either_bit x y i = ap (λ b. nat_eq b 1) (bit_at_or x y i) ∙ max_one (bit_at x
 pub row_added : (old new table : List ℕ) (first k : ℕ) → slice_index new (k / 64) ≡ bit_or (slice_index old (k / 64)) (slice_index table (first + k / 64))
     → row_has new k ≡ (row_has old k || row_has table (first * 64 + k))
 row_added old new table first k over =
-    let place : first + k / 64 ≡ (first * 64 + k) / 64 = omega arith in
+    let index : first + k / 64 ≡ (first * 64 + k) / 64 = omega arith in
     let bit : k % 64 ≡ (first * 64 + k) % 64 = omega arith in
     ap (λ w. nat_eq (bit_at w (k % 64)) 1) over
     ∙ either_bit (slice_index old (k / 64)) (slice_index table (first + k / 64)) (k % 64)
-    ∙ (λ j. row_has old k || nat_eq (bit_at (slice_index table (place j)) (bit j)) 1)
+    ∙ (λ j. row_has old k || nat_eq (bit_at (slice_index table (index j)) (bit j)) 1)
 
 -- where an item passes one test, and so another too, some item passes the other
 any_implies : {A : Type 0} (p q : A → Bool) → ((x : A) → p x ≡ true → q x ≡ true) → (xs : List A) → list_any p xs ≡ true → list_any q xs ≡ true

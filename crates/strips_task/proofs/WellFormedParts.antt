@@ -21,13 +21,13 @@ use Rattle.strips_task.proofs.AtomEquality.{both_hold}
 use Rattle.strips_task.proofs.TypeTrees.{below_from_within, within_from_below}
 
 module _ {A : Type 0} (p : A → Bool) where
-  -- the item at a place passes the test that all pass
+  -- the item at an index passes the test that all pass
   pub passes_at : (xs : List A) (k : ℕ) (x : A) → list_all p xs ≡ true → slice_get xs k ≡ Some x → p x ≡ true
   passes_at [] k x h e = cc
   passes_at (y ∷ ys) zero x h e = let same : y ≡ x = cc in ap p (sym same) ∙ (both_hold (p y) (list_all p ys) h).0
   passes_at (y ∷ ys) (suc k) x h e = passes_at ys k x (both_hold (p y) (list_all p ys) h).1 e
 
--- the value of the entry at a place
+-- the value of the entry at an index
 pub value_at : {K V : Type 0} (entries : List (K × V)) (n : ℕ) (name : K) (value : V) → slice_get entries n ≡ Some (name, value)
     → slice_get (values_of entries) n ≡ Some value
 value_at [] n name value e = cc
@@ -63,24 +63,24 @@ variables_known parents variables h =
 
 module _ (task : TaskParts) (params : List (List ℕ)) where
   -- a parameter that fits is one of the action's
-  term_within : (term : Term) (places : List ℕ) → is_fitting task.parents (term_types task.objects params term) places ≡ true → IsTermWithin (length params) term
+  term_within : (term : Term) (indexes : List ℕ) → is_fitting task.parents (term_types task.objects params term) indexes ≡ true → IsTermWithin (length params) term
   unfolding term_types is_fitting
-  term_within (Object object) places h = tt
-  term_within (Param place) places h = by (slice_get params place) refl
+  term_within (Object object) indexes h = tt
+  term_within (Param index) indexes h = by (slice_get params index) refl
     where
-      by : (r : Option (List ℕ)) → slice_get params place ≡ r → place < length params
-      by None e = absurd (true≢false (sym h ∙ ap (λ o. is_fitting task.parents o places) e))
-      by (Some types) e = slice_get_within params place types e
+      by : (r : Option (List ℕ)) → slice_get params index ≡ r → index < length params
+      by None e = absurd (true≢false (sym h ∙ ap (λ o. is_fitting task.parents o indexes) e))
+      by (Some types) e = slice_get_within params index types e
 
-  terms_within : (terms : List Term) (places : List (List ℕ)) → length (map (term_types task.objects params) terms) ≡ length places
-      → list_all (λ p. is_fitting task.parents p.0 p.1) (zip (map (term_types task.objects params) terms) places) ≡ true
+  terms_within : (terms : List Term) (indexes : List (List ℕ)) → length (map (term_types task.objects params) terms) ≡ length indexes
+      → list_all (λ p. is_fitting task.parents p.0 p.1) (zip (map (term_types task.objects params) terms) indexes) ≡ true
       → All (IsTermWithin (length params)) terms
-  terms_within [] places e h = λ k d lt. absurd (omega arith)
+  terms_within [] indexes e h = λ k d lt. absurd (omega arith)
   terms_within (term ∷ terms) [] e h = absurd (omega (arith, e))
-  terms_within (term ∷ terms) (place ∷ places) e h =
-      let parts = both_hold (is_fitting task.parents (term_types task.objects params term) place) (list_all (λ p. is_fitting task.parents p.0 p.1) (zip (map (term_types task.objects params) terms) places)) h in
-      all_cons (IsTermWithin (length params)) term terms (term_within term place parts.0)
-      (terms_within terms places (let n : suc (length (map (term_types task.objects params) terms)) ≡ suc (length places) = e in omega arith) parts.1)
+  terms_within (term ∷ terms) (index ∷ indexes) e h =
+      let parts = both_hold (is_fitting task.parents (term_types task.objects params term) index) (list_all (λ p. is_fitting task.parents p.0 p.1) (zip (map (term_types task.objects params) terms) indexes)) h in
+      all_cons (IsTermWithin (length params)) term terms (term_within term index parts.0)
+      (terms_within terms indexes (let n : suc (length (map (term_types task.objects params) terms)) ≡ suc (length indexes) = e in omega arith) parts.1)
 
   pattern_within : (pattern : Pattern) → is_pattern task params pattern ≡ true → IsPatternWithin (length params) pattern
   unfolding is_pattern are_fitting
@@ -88,16 +88,16 @@ module _ (task : TaskParts) (params : List (List ℕ)) where
     where
       by : (r : Option (List (List ℕ))) → slice_get (values_of task.preds) pattern.pred ≡ r → IsPatternWithin (length params) pattern
       by None e = absurd (true≢false (sym h ∙ ap (are_fitting task.parents (map (term_types task.objects params) pattern.terms)) e))
-      by (Some places) e =
+      by (Some indexes) e =
           let fit = sym (ap (are_fitting task.parents (map (term_types task.objects params) pattern.terms)) e) ∙ h in
-          let parts = both_hold (nat_eq (length (map (term_types task.objects params) pattern.terms)) (length places)) (list_all (λ p. is_fitting task.parents p.0 p.1) (zip (map (term_types task.objects params) pattern.terms) places)) fit in
-          terms_within pattern.terms places (eqb-true (length (map (term_types task.objects params) pattern.terms)) (length places) parts.0) parts.1
+          let parts = both_hold (nat_eq (length (map (term_types task.objects params) pattern.terms)) (length indexes)) (list_all (λ p. is_fitting task.parents p.0 p.1) (zip (map (term_types task.objects params) pattern.terms) indexes)) fit in
+          terms_within pattern.terms indexes (eqb-true (length (map (term_types task.objects params) pattern.terms)) (length indexes) parts.0) parts.1
 
   -- a side of an equality that is known is one of the action's parameters or an object
   side_within : (term : Term) → is_known task params term ≡ true → IsTermWithin (length params) term
   unfolding is_known
   side_within (Object object) h = tt
-  side_within (Param place) h = ltb-true place (length params) h
+  side_within (Param index) h = ltb-true index (length params) h
 
   formula_within : (asked : Formula) → is_formula task params asked ≡ true → IsFormulaWithin (length params) asked
   unfolding is_formula

@@ -15,27 +15,27 @@ all_zip-map f test [] ys = refl
 all_zip-map f test (x ∷ xs) [] = refl
 all_zip-map f test (x ∷ xs) (y ∷ ys) = ap (λ b. test (f x) y && b) (all_zip-map f test xs ys)
 
-module _ (parents : List ℕ) (objects : List (List ℕ × ℕ)) (params : List (List ℕ)) (places : List ℕ) where
+module _ (parents : List ℕ) (objects : List (List ℕ × ℕ)) (params : List (List ℕ)) (indexes : List ℕ) where
   -- a parameter has the types that it was given
-  pub param_fitting : (place : ℕ) (types : List ℕ) → slice_get params place ≡ Some types
-      → is_fitting parents (term_types objects params (Param place)) places ≡ fits parents types places
+  pub param_fitting : (index : ℕ) (types : List ℕ) → slice_get params index ≡ Some types
+      → is_fitting parents (term_types objects params (Param index)) indexes ≡ fits parents types indexes
   unfolding term_types is_fitting
-  param_fitting place types e = ap (λ o. is_fitting parents o places) e
+  param_fitting index types e = ap (λ o. is_fitting parents o indexes) e
 
   -- and what is no parameter fits nowhere
-  pub param_unknown : (place : ℕ) → slice_get params place ≡ None → is_fitting parents (term_types objects params (Param place)) places ≡ false
+  pub param_unknown : (index : ℕ) → slice_get params index ≡ None → is_fitting parents (term_types objects params (Param index)) indexes ≡ false
   unfolding term_types is_fitting
-  param_unknown place e = ap (λ o. is_fitting parents o places) e
+  param_unknown index e = ap (λ o. is_fitting parents o indexes) e
 
   -- an object has its one type
   pub object_fitting : (object type : ℕ) → slice_get (values_of objects) object ≡ Some type
-      → is_fitting parents (term_types objects params (Object object)) places ≡ fits parents (type ∷ []) places
+      → is_fitting parents (term_types objects params (Object object)) indexes ≡ fits parents (type ∷ []) indexes
   unfolding term_types is_fitting
   object_fitting object type e =
-      ap (λ o. is_fitting parents (option_map (λ t. t ∷ []) o) places) e
+      ap (λ o. is_fitting parents (option_map (λ t. t ∷ []) o) indexes) e
 
   -- and what is no object fits nowhere
   pub object_unknown : (object : ℕ) → slice_get (values_of objects) object ≡ None
-      → is_fitting parents (term_types objects params (Object object)) places ≡ false
+      → is_fitting parents (term_types objects params (Object object)) indexes ≡ false
   unfolding term_types is_fitting
-  object_unknown object e = ap (λ o. is_fitting parents (option_map (λ t. t ∷ []) o) places) e
+  object_unknown object e = ap (λ o. is_fitting parents (option_map (λ t. t ∷ []) o) indexes) e

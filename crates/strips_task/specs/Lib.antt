@@ -1,11 +1,11 @@
 pub mod Atom
 pub mod AtomHash
-pub mod FirstPlaces
+pub mod FirstOccurrences
 pub mod FormulaEquality
 pub mod Names
 pub mod OpenPlan
 pub mod Parts
-pub mod Places
+pub mod Ends
 pub mod Plans
 pub mod PlanEquality
 pub mod StepView

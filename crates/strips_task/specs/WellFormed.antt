@@ -42,7 +42,7 @@ abbrev pub most_alternatives : ℕ
 most_alternatives = 32
 
 -- whether the alternatives of a variable are types, and not too many. There may be none, which no text can say: then no object fits the variable,
--- and the variable fits every place, since it never stands for an object
+-- and the variable fits everywhere, since it never stands for an object
 unfoldable pub are_alternatives : List ℕ → List ℕ → Bool
 are_alternatives parents types = nat_le (length types) most_alternatives && list_all (λ type. nat_lt type (length parents)) types
 
@@ -55,18 +55,18 @@ unfoldable pub term_types : List (List ℕ × ℕ) → List (List ℕ) → Term 
 term_types objects params (Param number) = slice_get params number
 term_types objects params (Object number) = option_map (λ type. type ∷ []) (slice_get (values_of objects) number)
 
--- whether a term with these types, if it has any, fits a place for those
+-- whether a term with these types, if it has any, fits an argument with those
 unfoldable pub is_fitting : List ℕ → Option (List ℕ) → List ℕ → Bool
-is_fitting parents None places = false
-is_fitting parents (Some types) places = fits parents types places
+is_fitting parents None allowed = false
+is_fitting parents (Some types) allowed = fits parents types allowed
 
--- whether as many terms as the predicate has places fit them one by one
+-- whether there is a term for each argument of the predicate, and each fits
 unfoldable pub are_fitting : List ℕ → List (Option (List ℕ)) → Option (List (List ℕ)) → Bool
 are_fitting parents terms None = false
-are_fitting parents terms (Some places) =
-    nat_eq (length terms) (length places) && list_all (λ p. is_fitting parents p.0 p.1) (zip terms places)
+are_fitting parents terms (Some allowed) =
+    nat_eq (length terms) (length allowed) && list_all (λ p. is_fitting parents p.0 p.1) (zip terms allowed)
 
--- whether a pattern has a declared predicate, and terms that fit its places
+-- whether a pattern has a declared predicate, and terms that fit its arguments
 unfoldable pub is_pattern : TaskParts → List (List ℕ) → Pattern → Bool
 is_pattern task params pattern =
     are_fitting task.parents (map (term_types task.objects params) pattern.terms) (slice_get (values_of task.preds) pattern.pred)
@@ -77,7 +77,7 @@ is_object task object = nat_lt object (length task.objects)
 
 -- whether a term is a parameter or an object
 unfoldable pub is_known : TaskParts → List (List ℕ) → Term → Bool
-is_known task params (Param place) = nat_lt place (length params)
+is_known task params (Param index) = nat_lt index (length params)
 is_known task params (Object object) = is_object task object
 
 -- whether a formula is a pattern of the task, or an equality of two known terms, of whatever types
@@ -85,7 +85,7 @@ unfoldable pub is_formula : TaskParts → List (List ℕ) → Formula → Bool
 is_formula task params (formula.Atom pattern) = is_pattern task params pattern
 is_formula task params (formula.Equal left right) = is_known task params left && is_known task params right
 
--- whether an atom has a declared predicate, and objects that fit its places
+-- whether an atom has a declared predicate, and objects that fit its arguments
 unfoldable pub is_atom : TaskParts → Atom → Bool
 is_atom task atom =
     are_fitting task.parents (map (λ object. term_types task.objects [] (Object object)) atom.args) (slice_get (values_of task.preds) atom.pred)

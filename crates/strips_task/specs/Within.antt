@@ -10,7 +10,7 @@ use Rattle.strips_task.specs.declared.actions.Action.{Action}
 
 -- a parameter is one of the first `count`
 abbrev pub IsTermWithin : ℕ → Term → Type 0
-IsTermWithin count (Param place) = place < count
+IsTermWithin count (Param index) = index < count
 IsTermWithin count (Object object) = Unit {0}
 
 -- the parameters in a pattern are among the first `count`

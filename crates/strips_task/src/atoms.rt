@@ -57,6 +57,34 @@ pub struct GroundCond {
     pub formula: GroundFormula,
 }
 
+impl GroundFormula {
+    ghost use Rattle.std.specs.Prelude.{IfOk};
+
+    /// The same formula with memory of its own.
+    fn copy(&self, alloc: Global) -> Result<GroundFormula, AllocError>
+        ensures { IfOk result (λ copy. copy ≡ self.now) }
+    {
+        Ok(match self {
+            GroundFormula::Atom(atom) => GroundFormula::Atom(atom.copy(alloc)?),
+            GroundFormula::Equal(left, right) => GroundFormula::Equal(*left, *right),
+        })
+    }
+}
+
+impl GroundCond {
+    ghost use Rattle.std.specs.Prelude.{IfOk};
+
+    /// The same condition with memory of its own. Takes memory as [`Atom::copy`] does.
+    pub fn copy(&self, alloc: Global) -> Result<GroundCond, AllocError>
+        ensures { IfOk result (λ copy. copy ≡ self.now) }
+    {
+        Ok(GroundCond {
+            positive: self.positive,
+            formula: self.formula.copy(alloc)?,
+        })
+    }
+}
+
 /// A list of ground conditions.
 pub type CondList = Seq<GroundCond>;
 

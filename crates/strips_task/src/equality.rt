@@ -54,8 +54,8 @@ fn have_same_steps(first: &StepList, second: &StepList) -> bool
     if first.len() != second.len() {
         return false;
     }
-    for place in 0..first.len() {
-        if !are_same(first.get(place), second.get(place)) {
+    for index in 0..first.len() {
+        if !are_same(first.get(index), second.get(index)) {
             return false;
         }
     }
@@ -76,8 +76,8 @@ fn have_same_args(first: StepView<'_>, second: StepView<'_>) -> bool
     if first.arg_count() != second.arg_count() {
         return false;
     }
-    for place in 0..first.arg_count() {
-        if first.arg(place) != second.arg(place) {
+    for index in 0..first.arg_count() {
+        if first.arg(index) != second.arg(index) {
             return false;
         }
     }

@@ -4,7 +4,7 @@
 //! when the task is made, and judging a plan costs one bit for each, not one hash.
 ghost use Rattle.std.specs.Prelude.{◌≡◌, ◌+◌, ◌<◌, ◌≤◌, ℕ, count_by, is_some, List, [], ◌∷◌, ◌++◌, length, map, slice_get, All, IfSome, OnOk, OnErr, IfErr, Some};
 ghost use Rattle.std.specs.List.{position_from};
-ghost use Rattle.strips_task.specs.FirstPlaces.{first_places};
+ghost use Rattle.strips_task.specs.FirstOccurrences.{first_occurrences};
 ghost use Rattle.strips_task.specs.Atom.{atom_eq};
 
 use crate::{Atom, Seed};
@@ -23,7 +23,7 @@ impl Model for InitialAtoms {
     ghost use Rattle.std.specs.Prelude.{◌≡◌, ◌<◌, List, All, length, slice_get};
     ghost use Rattle.std.specs.List.{filter_map};
     ghost use Rattle.strips_task.specs.Atom.{atom_eq};
-    ghost use Rattle.strips_task.specs.FirstPlaces.{first_places};
+    ghost use Rattle.strips_task.specs.FirstOccurrences.{first_occurrences};
     ghost use Rattle.strips_task.specs.declared.atoms.Atom.{Atom};
 
     ghost Value = { List Atom };
@@ -32,7 +32,7 @@ impl Model for InitialAtoms {
 
     // Each number is that of an atom, and the distinct atoms are in the order in which they first occur.
     ghost invariant = { λ s. (All (λ n. n < length s.distinct.keys) s.numbers.items)
-        × (s.distinct.keys ≡ first_places atom_eq (filter_map (slice_get s.distinct.keys) s.numbers.items)) };
+        × (s.distinct.keys ≡ first_occurrences atom_eq (filter_map (slice_get s.distinct.keys) s.numbers.items)) };
 }
 
 impl InitialAtoms {
@@ -81,16 +81,16 @@ impl InitialAtoms {
     }
 
     /// The atom with an index in the order of the text, counted from 0.
-    pub fn get(&self, place: usize) -> &Atom
-        requires { place < length self.now }
-        ensures { slice_get self.now place ≡ Some result.now }
+    pub fn get(&self, index: usize) -> &Atom
+        requires { index < length self.now }
+        ensures { slice_get self.now index ≡ Some result.now }
     {
-        self.distinct.get_index(self.numbers[place]).unwrap()
+        self.distinct.get_index(self.numbers[index]).unwrap()
     }
 
     /// How many distinct atoms the list holds.
     pub fn distinct_len(&self) -> usize
-        ensures { result ≡ length (first_places atom_eq self.now) }
+        ensures { result ≡ length (first_occurrences atom_eq self.now) }
     {
         self.distinct.len()
     }
@@ -98,7 +98,7 @@ impl InitialAtoms {
     /// How many of these atoms the list holds. They are looked up directly one after the other, so that the processor waits for several reads of the
     /// table at the same time. Atoms that are pushed right afterwards find their part of the table in the cache.
     pub fn known(&self, atoms: &[Atom]) -> usize
-        ensures count { result ≡ count_by (λ atom. is_some (position_from (atom_eq atom) 0 (first_places atom_eq self.now))) atoms.now }
+        ensures count { result ≡ count_by (λ atom. is_some (position_from (atom_eq atom) 0 (first_occurrences atom_eq self.now))) atoms.now }
         ensures within { result ≤ length atoms.now }
     {
         atoms
@@ -109,8 +109,8 @@ impl InitialAtoms {
 
     /// The number of an atom among the distinct ones, in the order in which they first occur. Takes one hash and no memory.
     pub fn number_of(&self, atom: &Atom) -> Option<usize>
-        ensures number { result ≡ position_from (atom_eq atom.now) 0 (first_places atom_eq self.now) }
-        ensures within { IfSome result (λ number. number < length (first_places atom_eq self.now)) }
+        ensures number { result ≡ position_from (atom_eq atom.now) 0 (first_occurrences atom_eq self.now) }
+        ensures within { IfSome result (λ number. number < length (first_occurrences atom_eq self.now)) }
     {
         self.distinct.get_index_of(atom)
     }

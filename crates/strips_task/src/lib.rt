@@ -18,11 +18,11 @@
 
 mod actions;
 mod atoms;
+mod ends;
 mod equality;
 mod initial;
 pub mod laws;
 mod names;
-mod places;
 mod plans;
 mod ranges;
 mod seed;

@@ -41,10 +41,10 @@ impl<'a> StepView<'a> {
     }
 
     /// The name of the argument with an index, counted from 0, in lower case.
-    pub fn arg(&self, place: usize) -> &'a [u8]
-        requires { place < length (step_shown self.now).args }
-        ensures { slice_get (step_shown self.now).args place ≡ Some result.now }
+    pub fn arg(&self, index: usize) -> &'a [u8]
+        requires { index < length (step_shown self.now).args }
+        ensures { slice_get (step_shown self.now).args index ≡ Some result.now }
     {
-        self.words.get(self.end - (self.arg_count() - place))
+        self.words.get(self.end - (self.arg_count() - index))
     }
 }

@@ -107,11 +107,11 @@ impl StepList {
     }
 
     /// A view of the step with an index, counted from 0.
-    pub fn get(&self, place: usize) -> StepView<'_>
-        requires { place < length self.now }
-        ensures { slice_get self.now place ≡ Some (step_shown result) }
+    pub fn get(&self, index: usize) -> StepView<'_>
+        requires { index < length self.now }
+        ensures { slice_get self.now index ≡ Some (step_shown result) }
     {
-        let range = self.ranges.get(place);
+        let range = self.ranges.get(index);
         StepView::new(&self.words, range.first, range.end)
     }
 }
@@ -205,11 +205,11 @@ impl OpenSteps {
     }
 
     /// A view of the complete step with an index, counted from 0.
-    pub fn get(&self, place: usize) -> StepView<'_>
-        requires { place < length self.now.steps }
-        ensures { slice_get self.now.steps place ≡ Some (step_shown result) }
+    pub fn get(&self, index: usize) -> StepView<'_>
+        requires { index < length self.now.steps }
+        ensures { slice_get self.now.steps index ≡ Some (step_shown result) }
     {
-        let StepRange { first, end } = self.ranges.get(place);
+        let StepRange { first, end } = self.ranges.get(index);
         StepView::new(&self.words, first, end)
     }
 

@@ -220,8 +220,8 @@ fn add_words<const WORDS: usize>(joined: &mut [u64; WORDS], table: &[u64], first
     requires { first + WORDS ≤ length table.now }
     ensures { (k : ℕ) → k < 64 * WORDS → row_has joined.new k ≡ (row_has joined.old k || row_has table.now (first * 64 + k)) }
 {
-    'words: for place in 0..WORDS {
-        joined[place] |= table[first + place];
+    'words: for index in 0..WORDS {
+        joined[index] |= table[first + index];
     }
 }
 

@@ -109,8 +109,8 @@ fn actions_fit(parts: &TaskParts) -> bool
 fn initial_atoms_fit(parts: &TaskParts) -> bool
     ensures { result ≡ list_all (is_atom parts.now) parts.now.init }
 {
-    for place in 0..parts.init.len() {
-        if !is_atom(parts, parts.init.get(place)) {
+    for index in 0..parts.init.len() {
+        if !is_atom(parts, parts.init.get(index)) {
             return false;
         }
     }
@@ -168,7 +168,7 @@ fn is_known(parts: &TaskParts, params: &[Alternatives], term: Term) -> bool
     ensures { result ≡ is_known parts.now params.now term }
 {
     match term {
-        Term::Param(place) => usize::from(place) < params.len(),
+        Term::Param(index) => usize::from(index) < params.len(),
         Term::Object(object) => is_object(parts, object),
     }
 }
@@ -196,7 +196,7 @@ fn is_pattern(parts: &TaskParts, params: &[Alternatives], pattern: &Pattern) -> 
     ensures { result ≡ is_pattern parts.now params.now pattern.now }
 {
     match parts.preds.value(usize::from(pattern.pred)) {
-        Some(places) => terms_fit(parts, params, pattern.terms.as_slice(), places.as_slice()),
+        Some(allowed) => terms_fit(parts, params, pattern.terms.as_slice(), allowed.as_slice()),
         None => false,
     }
 }
@@ -207,23 +207,23 @@ fn terms_fit(
     parts: &TaskParts,
     params: &[Alternatives],
     terms: &[Term],
-    places: &[Alternatives],
+    allowed: &[Alternatives],
 ) -> bool
-    ensures { result ≡ are_fitting parts.now.parents (map (term_types parts.now.objects params.now) terms.now) (Some places.now) }
+    ensures { result ≡ are_fitting parts.now.parents (map (term_types parts.now.objects params.now) terms.now) (Some allowed.now) }
 {
-    terms.len() == places.len() && terms_fit_places(parts, params, terms, places)
+    terms.len() == allowed.len() && terms_fit_types(parts, params, terms, allowed)
 }
 
 /// Whether each term fits the argument beside it.
-fn terms_fit_places(
+fn terms_fit_types(
     parts: &TaskParts,
     params: &[Alternatives],
     terms: &[Term],
-    places: &[Alternatives],
+    allowed: &[Alternatives],
 ) -> bool
-    ensures { result ≡ list_all (λ p. is_fitting parts.now.parents (term_types parts.now.objects params.now p.0) p.1) (zip terms.now places.now) }
+    ensures { result ≡ list_all (λ p. is_fitting parts.now.parents (term_types parts.now.objects params.now p.0) p.1) (zip terms.now allowed.now) }
 {
-    terms.iter().zip(places).all(|(term, types)| term_fits(
+    terms.iter().zip(allowed).all(|(term, types)| term_fits(
         &parts.parents,
         &parts.objects,
         params,
@@ -269,24 +269,24 @@ fn is_atom(parts: &TaskParts, atom: &Atom) -> bool
     ensures { result ≡ is_atom parts.now atom.now }
 {
     match parts.preds.value(usize::from(atom.pred)) {
-        Some(places) => objects_fit(parts, atom.args.as_slice(), places.as_slice()),
+        Some(allowed) => objects_fit(parts, atom.args.as_slice(), allowed.as_slice()),
         None => false,
     }
 }
 
 /// Whether there are as many objects as arguments, and they fit them one by one.
 #[tactic(auto, unfolding(crate::specs::WellFormed::are_fitting))]
-fn objects_fit(parts: &TaskParts, objects: &[u16], places: &[Alternatives]) -> bool
-    ensures { result ≡ are_fitting parts.now.parents (map (λ object. term_types parts.now.objects [] (Object object)) objects.now) (Some places.now) }
+fn objects_fit(parts: &TaskParts, objects: &[u16], allowed: &[Alternatives]) -> bool
+    ensures { result ≡ are_fitting parts.now.parents (map (λ object. term_types parts.now.objects [] (Object object)) objects.now) (Some allowed.now) }
 {
-    objects.len() == places.len() && objects_fit_places(parts, objects, places)
+    objects.len() == allowed.len() && objects_fit_types(parts, objects, allowed)
 }
 
 /// Whether each object fits the argument beside it.
-fn objects_fit_places(parts: &TaskParts, objects: &[u16], places: &[Alternatives]) -> bool
-    ensures { result ≡ list_all (λ p. is_fitting parts.now.parents (term_types parts.now.objects [] (Object p.0)) p.1) (zip objects.now places.now) }
+fn objects_fit_types(parts: &TaskParts, objects: &[u16], allowed: &[Alternatives]) -> bool
+    ensures { result ≡ list_all (λ p. is_fitting parts.now.parents (term_types parts.now.objects [] (Object p.0)) p.1) (zip objects.now allowed.now) }
 {
-    objects.iter().zip(places).all(|(object, types)| object_fits(
+    objects.iter().zip(allowed).all(|(object, types)| object_fits(
         &parts.parents,
         &parts.objects,
         *object,

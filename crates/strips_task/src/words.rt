@@ -5,7 +5,7 @@ ghost use Rattle.std.specs.Prelude.{◌≡◌, ◌+◌, ◌<◌, ℕ, List, [], 
 ghost use Rattle.pddl_words.specs.Words.{folded};
 ghost use Rattle.smallvec.specs.SmallVec.{HasRoomFor};
 
-use crate::places::Places;
+use crate::ends::Ends;
 use smallvec::SmallVec;
 use std::alloc::{AllocError, Global};
 use std::marker::Model;
@@ -15,7 +15,7 @@ use std::marker::Model;
 pub struct WordList {
     /// The words side by side. Those of a short plan take no memory of their own.
     bytes: SmallVec<u8, 24>,
-    ends: Places,
+    ends: Ends,
 }
 
 impl Model for WordList {
@@ -36,7 +36,7 @@ impl WordList {
     {
         WordList {
             bytes: SmallVec::new(alloc),
-            ends: Places::new(alloc),
+            ends: Ends::new(alloc),
         }
     }
 
@@ -69,12 +69,12 @@ impl WordList {
     }
 
     /// The word with an index, counted from 0.
-    pub fn get(&self, place: usize) -> &[u8]
-        requires { place < length self.now }
-        ensures { slice_get self.now place ≡ Some result.now }
+    pub fn get(&self, index: usize) -> &[u8]
+        requires { index < length self.now }
+        ensures { slice_get self.now index ≡ Some result.now }
     {
-        let start = start_of(&self.ends, place);
-        part_of(self.bytes.as_slice(), start, self.ends.get(place))
+        let start = start_of(&self.ends, index);
+        part_of(self.bytes.as_slice(), start, self.ends.get(index))
     }
 }
 
@@ -104,11 +104,11 @@ fn append_byte_by_byte(bytes: &mut SmallVec<u8, 24>, word: &[u8])
 }
 
 /// Where the word with an index starts: at the end of the one before it.
-fn start_of(ends: &Places, place: usize) -> usize
-    requires { place < length ends.now }
-    ensures { result ≡ slice_index (0 ∷ ends.now) place }
+fn start_of(ends: &Ends, index: usize) -> usize
+    requires { index < length ends.now }
+    ensures { result ≡ slice_index (0 ∷ ends.now) index }
 {
-    if place == 0 { 0 } else { ends.get(place - 1) }
+    if index == 0 { 0 } else { ends.get(index - 1) }
 }
 
 /// The bytes from `start` up to but not including `end`.

@@ -5,13 +5,13 @@ use Rattle.std.proofs.Math.Seq.{drop-cons}
 use Rattle.std.proofs.lemmas.List.{take_more}
 use Rattle.std.specs.List.{AllZip}
 
--- a list from a place on
-pub from_place : {A : Type 0} (xs : List A) (i : ℕ) (d : A) → i < length xs → drop i xs ≡ get_or xs i d ∷ drop (i + 1) xs
-from_place xs i d lt = rw add-one (drop-cons xs i d lt)
+-- a list from an index on
+pub from_index : {A : Type 0} (xs : List A) (i : ℕ) (d : A) → i < length xs → drop i xs ≡ get_or xs i d ∷ drop (i + 1) xs
+from_index xs i d lt = rw add-one (drop-cons xs i d lt)
 
 pub from_item : {A : Type 0} (xs : List A) (i : ℕ) (x : A) → i < length xs → x ≡ get_or xs i x → drop i xs ≡ x ∷ drop (i + 1) xs
 from_item xs i x lt at =
-    from_place xs i x lt ∙ ap (λ y. y ∷ drop (i + 1) xs) (sym at)
+    from_index xs i x lt ∙ ap (λ y. y ∷ drop (i + 1) xs) (sym at)
 
 -- a front of a list with one item more
 pub one_more : {A : Type 0} (xs : List A) (i : ℕ) (x : A) → i < length xs → x ≡ get_or xs i x → take (i + 1) xs ≡ take i xs ++ x ∷ []
@@ -24,7 +24,7 @@ module _ {A B : Type 0} (R : A → B → Type 0) where
   zip_push (z ∷ xs) [] x y all one = absurd all
   zip_push (z ∷ xs) (w ∷ ys) x y all one = (all.0, zip_push xs ys x y all.1 one)
 
-  -- what holds from a place on holds of the items there, and behind them
+  -- what holds from an index on holds of the items there, and behind them
   pub zip_from : (xs : List A) (ys : List B) (i : ℕ) (x : A) (y : B) → drop i xs ≡ x ∷ drop (i + 1) xs → drop i ys ≡ y ∷ drop (i + 1) ys
       → AllZip R (drop i xs) (drop i ys) → R x y × AllZip R (drop (i + 1) xs) (drop (i + 1) ys)
   zip_from xs ys i x y at of all =

@@ -73,8 +73,8 @@ fn note(judge: &Judge<'_>, atoms: &[Atom], watches: &mut [Watch])
         → AreWatched judge.now.task.task steps atoms.now watches.old → AreWatched judge.now.task.task (with_next steps next) atoms.now watches.new }
 {
     let count = judge.steps();
-    for place in 0..atoms.len() {
-        watches[place] = noted(watches[place], judge.holds(&atoms[place]), count);
+    for index in 0..atoms.len() {
+        watches[index] = noted(watches[index], judge.holds(&atoms[index]), count);
     }
 }
 

@@ -8,7 +8,7 @@ use Rattle.std.specs.List.{list_any}
 use Rattle.std.proofs.lemmas.Map.Views.{any-filter_same}
 use Rattle.strips_task.specs.declared.atoms.GroundCond.{GroundCond}
 use Rattle.strips_task.specs.Atom.{cond_eq, formula_eq}
-use Rattle.strips_task.specs.FirstPlaces.{first_places}
+use Rattle.strips_task.specs.FirstOccurrences.{first_occurrences}
 use Rattle.strips_task.specs.FormulaEquality.{formula_decides}
 use Rattle.strips_judge.specs.State.{State, holds}
 use Rattle.strips_judge.specs.Step.{missing}
@@ -52,18 +52,18 @@ module _ (state : State) where
       by false true e f rest = rest
       by false false e f rest = ap (λ b. b || list_any (cond_eq c) kept) e ∙ rest
 
--- a condition is among the first places exactly where it is in the list
-any_first : (c : GroundCond) (conds : List GroundCond) → list_any (cond_eq c) (first_places cond_eq conds) ≡ list_any (cond_eq c) conds
-unfolding first_places
+-- a condition is among the first occurrences exactly where it is in the list
+any_first : (c : GroundCond) (conds : List GroundCond) → list_any (cond_eq c) (first_occurrences cond_eq conds) ≡ list_any (cond_eq c) conds
+unfolding first_occurrences
 any_first c [] = refl
 any_first c (x ∷ xs) = by (cond_eq c x) refl (any_first c xs)
   where
-    by : (b : Bool) → cond_eq c x ≡ b → list_any (cond_eq c) (first_places cond_eq xs) ≡ list_any (cond_eq c) xs
-        → (b || list_any (cond_eq c) (filter (λ y. not (cond_eq x y)) (first_places cond_eq xs))) ≡ (b || list_any (cond_eq c) xs)
+    by : (b : Bool) → cond_eq c x ≡ b → list_any (cond_eq c) (first_occurrences cond_eq xs) ≡ list_any (cond_eq c) xs
+        → (b || list_any (cond_eq c) (filter (λ y. not (cond_eq x y)) (first_occurrences cond_eq xs))) ≡ (b || list_any (cond_eq c) xs)
     by true e rest = refl
     by false e rest =
         any-filter_same (cond_eq c) (λ y. not (cond_eq x y)) true
-        (λ y same. ap not (ap (cond_eq x) (sym (cond_same c y same)) ∙ cond_equiv.symm x c ∙ e)) (first_places cond_eq xs)
+        (λ y same. ap not (ap (cond_eq x) (sym (cond_same c y same)) ∙ cond_equiv.symm x c ∙ e)) (first_occurrences cond_eq xs)
         ∙ rest
 
 -- what is not in a list is in no part of it
@@ -97,10 +97,10 @@ none_equal x (y ∷ ys) = by (cond_eq x y) refl (none_equal x ys)
     by true e rest = rest
     by false e rest = ap (λ b. b || list_any (cond_eq x) others) e ∙ rest
 
-first_once : (conds : List GroundCond) → IsEachOnce (first_places cond_eq conds)
-unfolding first_places
+first_once : (conds : List GroundCond) → IsEachOnce (first_occurrences cond_eq conds)
+unfolding first_occurrences
 first_once [] = tt
-first_once (x ∷ xs) = (none_equal x (first_places cond_eq xs), once_in_part (λ y. not (cond_eq x y)) (first_places cond_eq xs) (first_once xs))
+first_once (x ∷ xs) = (none_equal x (first_occurrences cond_eq xs), once_in_part (λ y. not (cond_eq x y)) (first_occurrences cond_eq xs) (first_once xs))
 
 -- what is missing is what is unmet
 pub are_unmet : (state : State) (conds unmet : List GroundCond) → missing state conds ≡ unmet → unmet ≢ [] → AreUnmet state conds unmet

@@ -11,21 +11,21 @@ ghost use Rattle.pddl_reader.specs.Resolved.{known_form, parameters_form};
 use crate::resolution::guesses::{Guess, NO_GUESS};
 use crate::resolution::names::predicate_number;
 use crate::resolution::tables::Declared;
-use crate::resolution::terms::{objects_in_places, terms_in_places};
+use crate::resolution::terms::{fitting_objects, fitting_terms};
 use crate::resolution::variables::ActionParameters;
 use pddl_syntax::{AtomSyntax, ReadFault};
 use std::alloc::Global;
 use strips_task::{Alternatives, Atom, NameTable, Pattern, Seq};
 
 /// The types of a predicate's arguments.
-#[tactic(auto, using(crate::proofs::AtomSteps::places_steps))]
-fn places_of(
+#[tactic(auto, using(crate::proofs::AtomSteps::argument_types_steps))]
+fn argument_types_of(
     predicates: &NameTable<Seq<Alternatives>>,
     number: u16,
     count: usize,
 ) -> &[Alternatives]
     requires { takes_terms predicates.now number count ≡ true }
-    ensures places { slice_get (values_of predicates.now) number ≡ Some result.now }
+    ensures argument_types { slice_get (values_of predicates.now) number ≡ Some result.now }
     ensures as_many { length result.now ≡ count }
 {
     predicates.get(usize::from(number)).1.as_slice()
@@ -42,11 +42,11 @@ pub(crate) fn guessed_atom(
     ensures { Gives (λ atom. atom) result (ground_of (known_form known.now) (atom_form syntax.now)) }
 {
     let pred = predicate_number(alloc, known.predicates, guess.predicate, syntax)?;
-    let places = places_of(known.predicates, pred, syntax.terms.len());
-    let args = objects_in_places(
+    let argument_types = argument_types_of(known.predicates, pred, syntax.terms.len());
+    let args = fitting_objects(
         alloc,
         known,
-        places,
+        argument_types,
         &guess.objects,
         syntax.terms.as_slice(),
     )?;
@@ -76,7 +76,13 @@ pub(crate) fn pattern(
     ensures { Gives (λ pattern. pattern) result (pattern_of (known_form known.now) (parameters_form parameters.now) (atom_form syntax.now)) }
 {
     let pred = predicate_number(alloc, known.predicates, NO_GUESS, syntax)?;
-    let places = places_of(known.predicates, pred, syntax.terms.len());
-    let terms = terms_in_places(alloc, known, parameters, places, syntax.terms.as_slice())?;
+    let argument_types = argument_types_of(known.predicates, pred, syntax.terms.len());
+    let terms = fitting_terms(
+        alloc,
+        known,
+        parameters,
+        argument_types,
+        syntax.terms.as_slice(),
+    )?;
     Ok(Pattern { pred, terms })
 }

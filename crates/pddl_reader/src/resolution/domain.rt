@@ -18,7 +18,7 @@ use crate::resolution::names::{check_new, name};
 use crate::resolution::objects::more_objects;
 use crate::resolution::parts::part_items;
 use crate::resolution::types::{KnownTypes, types};
-use crate::resolution::variables::places;
+use crate::resolution::variables::argument_types;
 use crate::resolution::vocabulary::Vocabulary;
 use pddl_syntax::{Dialect, DomainSyntax, NameGroup, PredicateSyntax, ReadFault};
 use std::alloc::Global;
@@ -97,8 +97,8 @@ fn declare_predicate(
     let name = name(alloc, predicate.name)?;
     check_new(table, &name, predicate.name)?;
     let variables = predicate.variables.groups(alloc)?;
-    let places = places(alloc, types, variables.as_slice())?;
-    table.push(name, places)?;
+    let argument_types = argument_types(alloc, types, variables.as_slice())?;
+    table.push(name, argument_types)?;
     Ok(())
 }
 

@@ -13,7 +13,7 @@ use crate::resolution::actions::Predicates;
 use crate::resolution::atoms::pattern;
 use crate::resolution::names::{check_new, name};
 use crate::resolution::tables::Declared;
-use crate::resolution::variables::{ActionParameters, places};
+use crate::resolution::variables::{ActionParameters, argument_types};
 use crate::resolution::vocabulary::Vocabulary;
 use pddl_syntax::{
     AmountSyntax, FaultKind, IncreaseSyntax, NameWord, PredicateSyntax, ReadFault, VariableGroup,
@@ -66,8 +66,8 @@ fn declare_function(
     check_new(table, &name, function.name)?;
     let variables = function.variables.groups(alloc)?;
     check_variables(&name, function.name, variables.as_slice())?;
-    let places = places(alloc, types, variables.as_slice())?;
-    table.push(name, places)?;
+    let argument_types = argument_types(alloc, types, variables.as_slice())?;
+    table.push(name, argument_types)?;
     Ok(())
 }
 

@@ -17,7 +17,7 @@ use strips_task::{Alternatives, Atom, NameTable, Seq, ShortSeq};
 pub(crate) const NO_GUESS: u16 = u16::MAX;
 
 /// A slot without a hint.
-const NO_PLACE: usize = usize::MAX;
+const NO_SLOT: usize = usize::MAX;
 
 /// How many terms of a literal are guessed.
 const MOST_TERMS: usize = 4;
@@ -28,7 +28,7 @@ pub(crate) struct Guess {
     pub(crate) predicate: u16,
     pub(crate) objects: [u16; MOST_TERMS],
     /// The slots of the hints at the objects.
-    places: [usize; MOST_TERMS],
+    slots: [usize; MOST_TERMS],
 }
 
 impl Guess {
@@ -37,7 +37,7 @@ impl Guess {
         Guess {
             predicate: NO_GUESS,
             objects: [NO_GUESS; MOST_TERMS],
-            places: [NO_PLACE; MOST_TERMS],
+            slots: [NO_SLOT; MOST_TERMS],
         }
     }
 }
@@ -51,8 +51,8 @@ pub(crate) fn guess_at(guesses: &[u16], term: usize) -> u16 {
 }
 
 /// The guess at the names of a literal, by its index in a batch.
-pub(crate) fn guess_of(guesses: &[Guess], place: usize) -> Guess {
-    match guesses.get(place) {
+pub(crate) fn guess_of(guesses: &[Guess], slot: usize) -> Guess {
+    match guesses.get(slot) {
         Some(guess) => *guess,
         None => Guess::none(),
     }
@@ -70,12 +70,12 @@ fn predicate_guess(predicates: &NameTable<Seq<Alternatives>>, last: u16, word: &
 }
 
 /// The slots of the hints at the objects that words name.
-fn hint_places(hints: &Hints, words: &[Word<'_>]) -> [usize; MOST_TERMS] {
-    let mut places = [NO_PLACE; MOST_TERMS];
-    'terms: for (place, word) in places.iter_mut().zip(words) {
-        *place = hints.place(word.text);
+fn hint_slots(hints: &Hints, words: &[Word<'_>]) -> [usize; MOST_TERMS] {
+    let mut slots = [NO_SLOT; MOST_TERMS];
+    'terms: for (slot, word) in slots.iter_mut().zip(words) {
+        *slot = hints.slot(word.text);
     }
-    places
+    slots
 }
 
 /// A guess at the names of an atom that follows one with the predicate `last`. Its objects are not guessed yet; only the slots of their hints
@@ -84,7 +84,7 @@ fn atom_guess(known: &Declared<'_>, hints: &Hints, last: u16, atom: &AtomSyntax<
     Guess {
         predicate: predicate_guess(known.predicates, last, atom.predicate.text),
         objects: [NO_GUESS; MOST_TERMS],
-        places: hint_places(hints, atom.terms.as_slice()),
+        slots: hint_slots(hints, atom.terms.as_slice()),
     }
 }
 
@@ -104,7 +104,7 @@ fn literal_guess(
 }
 
 /// Guesses at the names of literals, one for each. Of their objects only the slots of the hints are known.
-fn placed(
+fn slot_guesses(
     alloc: Global,
     known: &Declared<'_>,
     hints: &Hints,
@@ -123,7 +123,7 @@ fn placed(
 /// Reads all hints.
 fn hint_all(hints: &Hints, guesses: &mut [Guess]) {
     'guesses: for guess in guesses {
-        let [first, second, third, fourth] = guess.places;
+        let [first, second, third, fourth] = guess.slots;
         guess.objects = [
             hints.at(first),
             hints.at(second),
@@ -175,7 +175,7 @@ fn second_guess(objects: &NameTable<u16>, second: u16, word: &[u8]) -> u16 {
 fn mend(objects: &NameTable<u16>, hints: &Hints, guess: &mut Guess, words: &[Word<'_>]) {
     'terms: for (index, word) in words.iter().enumerate().take(MOST_TERMS) {
         if !is_named(objects, usize::from(guess.objects[index]), word.text) {
-            let second = hints.beside(guess.places[index]);
+            let second = hints.beside(guess.slots[index]);
             guess.objects[index] = second_guess(objects, second, word.text);
         }
     }
@@ -202,7 +202,7 @@ pub(crate) fn guesses(
     hints: &Hints,
     literals: &[LiteralSyntax<'_>],
 ) -> Result<Vec<Guess>, AllocError> {
-    let mut guesses = placed(alloc, known, hints, literals)?;
+    let mut guesses = slot_guesses(alloc, known, hints, literals)?;
     hint_all(hints, guesses.as_mut_slice());
     if hinted_bytes(known.objects, guesses.as_slice()) > 0 {
         mend_all(known.objects, hints, guesses.as_mut_slice(), literals);

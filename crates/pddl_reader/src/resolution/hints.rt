@@ -45,40 +45,40 @@ impl Hints {
     }
 
     /// The first slot for a word.
-    pub(crate) fn place(&self, word: &[u8]) -> usize {
+    pub(crate) fn slot(&self, word: &[u8]) -> usize {
         let mut hasher = self.seed.build_hasher();
         hasher.write(word);
         hasher.finish() as usize & self.mask
     }
 
     /// The hint in a slot.
-    pub(crate) fn at(&self, place: usize) -> u16 {
-        match self.numbers.as_slice().get(place) {
+    pub(crate) fn at(&self, slot: usize) -> u16 {
+        match self.numbers.as_slice().get(slot) {
             Some(number) => *number,
             None => NO_GUESS,
         }
     }
 
     /// The hint in the second slot of a word, of which this is the first.
-    pub(crate) fn beside(&self, place: usize) -> u16 {
-        self.at(place ^ 1)
+    pub(crate) fn beside(&self, slot: usize) -> u16 {
+        self.at(slot ^ 1)
     }
 
     /// The slot for a new hint: the second if the first is taken.
-    fn place_for(&self, word: &[u8]) -> usize {
-        let place = self.place(word);
-        if self.at(place) == NO_GUESS {
-            place
+    fn slot_for(&self, word: &[u8]) -> usize {
+        let slot = self.slot(word);
+        if self.at(slot) == NO_GUESS {
+            slot
         } else {
-            place ^ 1
+            slot ^ 1
         }
     }
 
     /// Lets a word hint at an object.
     fn set(&mut self, word: &[u8], object: usize) {
-        let place = self.place_for(word);
+        let slot = self.slot_for(word);
         if let Ok(number) = u16::try_from(object) {
-            if let Some(hint) = self.numbers.as_mut_slice().get_mut(place) {
+            if let Some(hint) = self.numbers.as_mut_slice().get_mut(slot) {
                 *hint = number;
             }
         }

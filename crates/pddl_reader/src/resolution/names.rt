@@ -94,7 +94,7 @@ pub(crate) fn check_new<V>(
 }
 
 /// Whether the predicate with a number takes `count` terms.
-#[tactic(auto, using(crate::proofs::TableSteps::places_counted))]
+#[tactic(auto, using(crate::proofs::TableSteps::argument_types_counted))]
 fn takes_terms(predicates: &NameTable<Seq<Alternatives>>, number: usize, count: usize) -> bool
     requires { number < length predicates.now }
     ensures { result ≡ takes_terms predicates.now number count }

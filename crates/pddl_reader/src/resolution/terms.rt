@@ -2,7 +2,7 @@
 
 ghost use Rattle.std.specs.Prelude.{◌≡◌, ◌<◌, ◌≤◌, length, IfOk, IfSome};
 ghost use Rattle.strips_task.specs.WellFormed.{most_objects, most_variables};
-ghost use Rattle.pddl_reader.specs.Declarations.{fitted_all, object_in_place, object_number, term_in_place, term_named};
+ghost use Rattle.pddl_reader.specs.Declarations.{fitted_all, fitting_object, object_number, fitting_term, term_named};
 ghost use Rattle.pddl_syntax.specs.Forms.{word_forms};
 ghost use Rattle.pddl_syntax.specs.Reading.{Gives, GivesOption};
 ghost use Rattle.pddl_reader.specs.Resolved.{known_form, parameters_form};
@@ -56,18 +56,18 @@ pub(crate) fn object(alloc: Global, known: &Declared<'_>, word: Word<'_>) -> Res
 }
 
 /// The object that a word names, if it fits its argument. It may be guessed.
-#[tactic(auto, using(crate::proofs::TermSteps::object_place_steps))]
-fn object_in_place(
+#[tactic(auto, using(crate::proofs::TermSteps::fitting_object_steps))]
+fn fitting_object(
     alloc: Global,
     known: &Declared<'_>,
-    place: &[u16],
+    allowed: &[u16],
     guess: u16,
     word: Word<'_>,
 ) -> Result<u16, ReadFault>
-    ensures { Gives (λ number. number) result (object_in_place (known_form known.now) place.now word.entry.text.now) }
+    ensures { Gives (λ number. number) result (fitting_object (known_form known.now) allowed.now word.entry.text.now) }
 {
     let number = object_near(alloc, known, guess, word)?;
-    if !object_fits(known.parents, known.objects, number, place) {
+    if !object_fits(known.parents, known.objects, number, allowed) {
         return Err(ReadFault::new(FaultKind::WrongType, word.span));
     }
     Ok(number)
@@ -75,20 +75,26 @@ fn object_in_place(
 
 /// The objects that words name, if each fits its argument. The first of them may be guessed.
 #[tactic(auto, using(crate::proofs::TermSteps::fitted_steps))]
-pub(crate) fn objects_in_places(
+pub(crate) fn fitting_objects(
     alloc: Global,
     known: &Declared<'_>,
-    places: &[Alternatives],
+    argument_types: &[Alternatives],
     guesses: &[u16],
     words: &[Word<'_>],
 ) -> Result<ShortSeq<u16>, ReadFault>
-    requires { length places.now ≡ length words.now }
-    ensures { Gives (λ objects. objects) result (fitted_all (object_in_place (known_form known.now)) places.now (word_forms words.now)) }
+    requires { length argument_types.now ≡ length words.now }
+    ensures { Gives (λ objects. objects) result (fitted_all (fitting_object (known_form known.now)) argument_types.now (word_forms words.now)) }
 {
     let mut objects = ShortSeq::new(alloc);
-    'places: for index in 0..places.len() {
+    'argument_types: for index in 0..argument_types.len() {
         let guess = guess_at(guesses, index);
-        let number = object_in_place(alloc, known, places[index].as_slice(), guess, words[index])?;
+        let number = fitting_object(
+            alloc,
+            known,
+            argument_types[index].as_slice(),
+            guess,
+            words[index],
+        )?;
         objects.push(number)?;
     }
     Ok(objects)
@@ -115,16 +121,16 @@ pub(crate) fn term(
 }
 
 /// The term that a word stands for in an action, if it fits its argument.
-#[tactic(auto, using(crate::proofs::TermSteps::term_place_steps))]
-fn term_in_place(
+#[tactic(auto, using(crate::proofs::TermSteps::fitting_term_steps))]
+fn fitting_term(
     alloc: Global,
     known: &Declared<'_>,
     parameters: &ActionParameters<'_>,
-    place: &[u16],
+    allowed: &[u16],
     word: Word<'_>,
 ) -> Result<Term, ReadFault>
     requires { length parameters.now.names.items ≤ most_variables }
-    ensures { Gives (λ term. term) result (term_in_place (known_form known.now) (parameters_form parameters.now) place.now word.entry.text.now) }
+    ensures { Gives (λ term. term) result (fitting_term (known_form known.now) (parameters_form parameters.now) allowed.now word.entry.text.now) }
 {
     let found = term(alloc, known, parameters, word)?;
     if !term_fits(
@@ -132,7 +138,7 @@ fn term_in_place(
         known.objects,
         parameters.types.as_slice(),
         found,
-        place,
+        allowed,
     ) {
         return Err(ReadFault::new(FaultKind::WrongType, word.span));
     }
@@ -141,24 +147,24 @@ fn term_in_place(
 
 /// The terms that words stand for in an action, if each fits its argument.
 #[tactic(auto, using(crate::proofs::TermSteps::fitted_steps))]
-pub(crate) fn terms_in_places(
+pub(crate) fn fitting_terms(
     alloc: Global,
     known: &Declared<'_>,
     parameters: &ActionParameters<'_>,
-    places: &[Alternatives],
+    argument_types: &[Alternatives],
     words: &[Word<'_>],
 ) -> Result<ShortSeq<Term>, ReadFault>
     requires few { length parameters.now.names.items ≤ most_variables }
-    requires as_many { length places.now ≡ length words.now }
-    ensures { Gives (λ terms. terms) result (fitted_all (term_in_place (known_form known.now) (parameters_form parameters.now)) places.now (word_forms words.now)) }
+    requires as_many { length argument_types.now ≡ length words.now }
+    ensures { Gives (λ terms. terms) result (fitted_all (fitting_term (known_form known.now) (parameters_form parameters.now)) argument_types.now (word_forms words.now)) }
 {
     let mut terms = ShortSeq::new(alloc);
-    'places: for index in 0..places.len() {
-        let term = term_in_place(
+    'argument_types: for index in 0..argument_types.len() {
+        let term = fitting_term(
             alloc,
             known,
             parameters,
-            places[index].as_slice(),
+            argument_types[index].as_slice(),
             words[index],
         )?;
         terms.push(term)?;

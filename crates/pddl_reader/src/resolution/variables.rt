@@ -7,7 +7,7 @@ ghost use Rattle.pddl_syntax.specs.Forms.{name_forms, variable_group_form, varia
 ghost use Rattle.pddl_syntax.specs.Optional.{through};
 ghost use Rattle.pddl_syntax.specs.Reading.{Allows, Gives, Puts};
 ghost use Rattle.pddl_reader.specs.Resolved.{parameters_form};
-ghost use Rattle.pddl_reader.specs.Variables.{alternatives_of, group_named, group_placed, parameter_named, parameter_number, parameters_of, places_behind, places_of};
+ghost use Rattle.pddl_reader.specs.Variables.{alternatives_of, group_named, with_group_types, parameter_named, parameter_number, parameters_of, argument_types_with, argument_types_of};
 
 use crate::resolution::objects::type_number;
 use pddl_syntax::{FaultKind, NameWord, ReadFault, VariableGroup, Word};
@@ -48,17 +48,17 @@ fn copy(alloc: Global, types: &Alternatives) -> Result<Alternatives, AllocError>
 }
 
 /// Appends these types for each variable to the types of arguments.
-#[tactic(auto, using(crate::proofs::VariableMeaning::place_steps))]
-fn put_places(
+#[tactic(auto, using(crate::proofs::VariableMeaning::variable_steps))]
+fn put_argument_types(
     alloc: Global,
-    places: &mut Seq<Alternatives>,
+    argument_types: &mut Seq<Alternatives>,
     variables: &[Word<'_>],
     types: &Alternatives,
 ) -> Result<(), AllocError>
-    ensures { OnOk result (places.new ≡ places_behind places.old (word_forms variables.now) types.now) }
+    ensures { OnOk result (argument_types.new ≡ argument_types_with argument_types.old (word_forms variables.now) types.now) }
 {
     'variables: for _ in variables {
-        places.push(copy(alloc, types)?)?;
+        argument_types.push(copy(alloc, types)?)?;
     }
     Ok(())
 }
@@ -80,34 +80,39 @@ fn check_room(count: usize, variables: &[Word<'_>]) -> Result<(), ReadFault>
 fn put_group(
     alloc: Global,
     types: &NameTable<()>,
-    places: &mut Seq<Alternatives>,
+    argument_types: &mut Seq<Alternatives>,
     group: &VariableGroup<'_>,
 ) -> Result<(), ReadFault>
     requires few { length types.now ≤ most_types }
-    requires room { length places.old ≤ most_variables }
-    ensures { Puts result (group_placed (keys_of types.now) places.old (variable_group_form group.now)) places.new }
+    requires room { length argument_types.old ≤ most_variables }
+    ensures { Puts result (with_group_types (keys_of types.now) argument_types.old (variable_group_form group.now)) argument_types.new }
 {
-    check_room(places.len(), group.variables.as_slice())?;
+    check_room(argument_types.len(), group.variables.as_slice())?;
     let alternatives = alternatives(alloc, types, group.kinds.as_slice())?;
-    put_places(alloc, places, group.variables.as_slice(), &alternatives)?;
+    put_argument_types(
+        alloc,
+        argument_types,
+        group.variables.as_slice(),
+        &alternatives,
+    )?;
     Ok(())
 }
 
 /// The types of a predicate's arguments: for each of its variables those that it may have.
-#[tactic(auto, using(crate::proofs::VariableMeaning::places_steps))]
-pub(crate) fn places(
+#[tactic(auto, using(crate::proofs::VariableMeaning::argument_types_steps))]
+pub(crate) fn argument_types(
     alloc: Global,
     types: &NameTable<()>,
     groups: &[VariableGroup<'_>],
 ) -> Result<Seq<Alternatives>, ReadFault>
     requires { length types.now ≤ most_types }
-    ensures { Gives (λ places. places) result (places_of (keys_of types.now) (variable_groups groups.now)) }
+    ensures { Gives (λ argument_types. argument_types) result (argument_types_of (keys_of types.now) (variable_groups groups.now)) }
 {
-    let mut places = Seq::new(alloc);
+    let mut argument_types = Seq::new(alloc);
     'groups: for group in groups {
-        put_group(alloc, types, &mut places, group)?;
+        put_group(alloc, types, &mut argument_types, group)?;
     }
-    Ok(places)
+    Ok(argument_types)
 }
 
 /// The parameters of an action: their names, and for each the types that it may have.
@@ -171,7 +176,7 @@ fn declare_group<'a>(
 {
     name_parameters(&mut parameters.names, group.variables.as_slice())?;
     let alternatives = alternatives(alloc, types, group.kinds.as_slice())?;
-    put_places(
+    put_argument_types(
         alloc,
         &mut parameters.types,
         group.variables.as_slice(),

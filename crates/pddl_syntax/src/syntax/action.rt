@@ -8,7 +8,7 @@ ghost use Rattle.pddl_syntax.specs.Syntax.{action_of, is_part_given, no_parts, p
 
 use crate::dialect::Dialect;
 use crate::fault::{FaultKind, ReadFault};
-use crate::heads::{ActionPart, Place, Scope, action_part, is_name};
+use crate::heads::{ActionPart, Context, Scope, action_part, is_name};
 use crate::syntax::lists::enter_list;
 use crate::syntax::literals::kept_literals;
 use crate::syntax::refusals::keyword_fault;
@@ -44,12 +44,12 @@ fn part<'a>(
     match part {
         ActionPart::Parameters => parts.parameters = Some(kept_variables(alloc, walk)?),
         ActionPart::Precondition => {
-            let place = Place::Precondition;
-            parts.precondition = Some(kept_literals(walk, Scope { dialect, place })?);
+            let context = Context::Precondition;
+            parts.precondition = Some(kept_literals(walk, Scope { dialect, context })?);
         }
         ActionPart::Effect => {
-            let place = Place::Effect;
-            parts.effect = Some(kept_literals(walk, Scope { dialect, place })?);
+            let context = Context::Effect;
+            parts.effect = Some(kept_literals(walk, Scope { dialect, context })?);
         }
     }
     Ok(())

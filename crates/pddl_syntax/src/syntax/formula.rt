@@ -9,7 +9,7 @@ ghost use Rattle.pddl_syntax.specs.Presence.{are_conjuncts, is_equality, are_wor
 
 use crate::fault::{FaultKind, ReadFault};
 use crate::heads::{
-    FormulaHead, LiteralHead, Place, Scope, formula_head, is_and, is_term, literal_head,
+    Context, FormulaHead, LiteralHead, Scope, formula_head, is_and, is_term, literal_head,
 };
 use crate::syntax::lists::{enter_list, leave_list};
 use crate::syntax::refusals::{function_fault, name_fault};
@@ -19,15 +19,15 @@ use pddl_words::billionths;
 
 /// Steps over terms to the end of their list.
 #[tactic(auto, using(crate::proofs::FormulaSteps::term_steps))]
-fn terms(walk: &mut Walk<'_>, place: Place) -> Result<(), ReadFault>
-    ensures { PassesList result (are_words (is_term place)) (here walk.old.cursor) (here walk.new.cursor) }
+fn terms(walk: &mut Walk<'_>, context: Context) -> Result<(), ReadFault>
+    ensures { PassesList result (are_words (is_term context)) (here walk.old.cursor) (here walk.new.cursor) }
 {
     'terms: loop {
         match walk.next() {
             Item::Close(_) => return Ok(()),
             Item::Open(span) => return Err(ReadFault::new(FaultKind::Unsupported, span)),
             Item::Text(word) => {
-                if !is_term(place, word.text) {
+                if !is_term(context, word.text) {
                     return Err(ReadFault::new(FaultKind::Expected, word.span));
                 }
             }
@@ -37,16 +37,16 @@ fn terms(walk: &mut Walk<'_>, place: Place) -> Result<(), ReadFault>
 
 /// Steps over a function and its terms.
 #[tactic(auto, using(crate::proofs::FormulaSteps::function_steps))]
-fn function(walk: &mut Walk<'_>, place: Place) -> Result<(), ReadFault>
-    ensures { PassesList result (is_function (is_term place)) (here walk.old.cursor) (here walk.new.cursor) }
+fn function(walk: &mut Walk<'_>, context: Context) -> Result<(), ReadFault>
+    ensures { PassesList result (is_function (is_term context)) (here walk.old.cursor) (here walk.new.cursor) }
 {
     match walk.next() {
         Item::Text(word) => match formula_head(word.text) {
-            FormulaHead::Name => terms(walk, place),
+            FormulaHead::Name => terms(walk, context),
             FormulaHead::And => Err(ReadFault::new(FaultKind::Unsupported, word.span)),
             FormulaHead::Not => Err(ReadFault::new(FaultKind::Unsupported, word.span)),
             FormulaHead::Reserved => Err(ReadFault::new(FaultKind::Unsupported, word.span)),
-            FormulaHead::Other => Err(function_fault(place, word)),
+            FormulaHead::Other => Err(function_fault(context, word)),
         },
         Item::Open(span) => Err(ReadFault::new(FaultKind::Expected, span)),
         Item::Close(span) => Err(ReadFault::new(FaultKind::Expected, span)),
@@ -55,12 +55,12 @@ fn function(walk: &mut Walk<'_>, place: Place) -> Result<(), ReadFault>
 
 /// Steps over a term on one side of the `=` at these bytes. Only words are compared.
 #[tactic(auto, using(crate::proofs::FormulaSteps::side_steps))]
-fn side<'a>(walk: &mut Walk<'a>, place: Place, equals: Span) -> Result<Word<'a>, ReadFault>
-    ensures { TakesWord result (is_term place) (here walk.old.cursor) (here walk.new.cursor) }
+fn side<'a>(walk: &mut Walk<'a>, context: Context, equals: Span) -> Result<Word<'a>, ReadFault>
+    ensures { TakesWord result (is_term context) (here walk.old.cursor) (here walk.new.cursor) }
 {
     match walk.next() {
         Item::Text(word) => {
-            if !is_term(place, word.text) {
+            if !is_term(context, word.text) {
                 return Err(ReadFault::new(FaultKind::Expected, word.span));
             }
             Ok(word)
@@ -72,11 +72,11 @@ fn side<'a>(walk: &mut Walk<'a>, place: Place, equals: Span) -> Result<Word<'a>,
 
 /// Steps over the two terms after the `=` at these bytes.
 #[tactic(auto, using(crate::proofs::FormulaSteps::equality_steps))]
-fn equality(walk: &mut Walk<'_>, place: Place, equals: Span) -> Result<(), ReadFault>
-    ensures { PassesList result (is_equality (is_term place)) (here walk.old.cursor) (here walk.new.cursor) }
+fn equality(walk: &mut Walk<'_>, context: Context, equals: Span) -> Result<(), ReadFault>
+    ensures { PassesList result (is_equality (is_term context)) (here walk.old.cursor) (here walk.new.cursor) }
 {
-    let _left = side(walk, place, equals)?;
-    let _right = side(walk, place, equals)?;
+    let _left = side(walk, context, equals)?;
+    let _right = side(walk, context, equals)?;
     leave_list(walk)
 }
 
@@ -117,8 +117,8 @@ fn target(walk: &mut Walk<'_>) -> Result<(), ReadFault>
 
 /// Steps over the amount that is all that is left of a list.
 #[tactic(auto, using(crate::proofs::FormulaSteps::amount_steps))]
-fn amount(walk: &mut Walk<'_>, place: Place) -> Result<(), ReadFault>
-    ensures { PassesList result (is_amount (is_term place)) (here walk.old.cursor) (here walk.new.cursor) }
+fn amount(walk: &mut Walk<'_>, context: Context) -> Result<(), ReadFault>
+    ensures { PassesList result (is_amount (is_term context)) (here walk.old.cursor) (here walk.new.cursor) }
 {
     match walk.next() {
         Item::Text(word) => {
@@ -128,7 +128,7 @@ fn amount(walk: &mut Walk<'_>, place: Place) -> Result<(), ReadFault>
             leave_list(walk)
         }
         Item::Open(_) => {
-            function(walk, place)?;
+            function(walk, context)?;
             leave_list(walk)
         }
         Item::Close(span) => Err(ReadFault::new(FaultKind::Expected, span)),
@@ -137,21 +137,21 @@ fn amount(walk: &mut Walk<'_>, place: Place) -> Result<(), ReadFault>
 
 /// Steps over what follows `increase`.
 #[tactic(auto, using(crate::proofs::FormulaSteps::increase_steps))]
-fn increase(walk: &mut Walk<'_>, place: Place) -> Result<(), ReadFault>
-    ensures { PassesList result (is_increase (is_term place)) (here walk.old.cursor) (here walk.new.cursor) }
+fn increase(walk: &mut Walk<'_>, context: Context) -> Result<(), ReadFault>
+    ensures { PassesList result (is_increase (is_term context)) (here walk.old.cursor) (here walk.new.cursor) }
 {
     enter_list(walk)?;
     target(walk)?;
-    amount(walk, place)
+    amount(walk, context)
 }
 
 /// Steps over a function and its value, after `=`.
 #[tactic(auto, using(crate::proofs::FormulaSteps::value_steps))]
-fn value(walk: &mut Walk<'_>, place: Place) -> Result<(), ReadFault>
-    ensures { PassesList result (is_value (is_term place)) (here walk.old.cursor) (here walk.new.cursor) }
+fn value(walk: &mut Walk<'_>, context: Context) -> Result<(), ReadFault>
+    ensures { PassesList result (is_value (is_term context)) (here walk.old.cursor) (here walk.new.cursor) }
 {
     enter_list(walk)?;
-    function(walk, place)?;
+    function(walk, context)?;
     let _value = number(walk)?;
     Ok(())
 }
@@ -163,8 +163,8 @@ fn negated_in(walk: &mut Walk<'_>, scope: Scope) -> Result<(), ReadFault>
 {
     match walk.next() {
         Item::Text(word) => match literal_head(scope, word.text, walk) {
-            LiteralHead::Atom => terms(walk, scope.place),
-            LiteralHead::Equality => equality(walk, scope.place, word.span),
+            LiteralHead::Atom => terms(walk, scope.context),
+            LiteralHead::Equality => equality(walk, scope.context, word.span),
             LiteralHead::Other => Err(ReadFault::new(FaultKind::Expected, word.span)),
             LiteralHead::Not => Err(ReadFault::new(FaultKind::Unsupported, word.span)),
             LiteralHead::Value => Err(ReadFault::new(FaultKind::Unsupported, word.span)),
@@ -192,11 +192,11 @@ pub(crate) fn literal(walk: &mut Walk<'_>, scope: Scope, head: Word<'_>) -> Resu
     ensures { PassesList result (is_literal scope head.entry.text.now) (here walk.old.cursor) (here walk.new.cursor) }
 {
     match literal_head(scope, head.text, walk) {
-        LiteralHead::Atom => terms(walk, scope.place),
+        LiteralHead::Atom => terms(walk, scope.context),
         LiteralHead::Not => negated(walk, scope),
-        LiteralHead::Equality => equality(walk, scope.place, head.span),
-        LiteralHead::Value => value(walk, scope.place),
-        LiteralHead::Increase => increase(walk, scope.place),
+        LiteralHead::Equality => equality(walk, scope.context, head.span),
+        LiteralHead::Value => value(walk, scope.context),
+        LiteralHead::Increase => increase(walk, scope.context),
         LiteralHead::Reserved => Err(ReadFault::new(FaultKind::Unsupported, head.span)),
         LiteralHead::Other => Err(ReadFault::new(FaultKind::Expected, head.span)),
     }

@@ -9,7 +9,7 @@ ghost use Rattle.pddl_syntax.specs.Syntax.{formula_in};
 
 use crate::dialect::Dialect;
 use crate::fault::ReadFault;
-use crate::heads::{Place, Scope, is_and};
+use crate::heads::{Context, Scope, is_and};
 use crate::syntax::LiteralSyntax;
 use crate::syntax::formula::formula;
 use crate::syntax::known::literal;
@@ -51,7 +51,7 @@ impl<'a> Literals<'a> {
             walk: Walk::new(b""),
             scope: Scope {
                 dialect: Dialect::Strips,
-                place: Place::Goal,
+                context: Context::Goal,
             },
             depth: 0,
         }

@@ -10,7 +10,7 @@ ghost use Rattle.pddl_syntax.specs.Presence.{are_initial, is_init_item};
 
 use crate::dialect::Dialect;
 use crate::fault::{FaultKind, ReadFault};
-use crate::heads::{Place, ProblemSection, Scope, problem_section};
+use crate::heads::{Context, ProblemSection, Scope, problem_section};
 use crate::syntax::formula::literal;
 use crate::syntax::lists::{enter_list, expect_word, header, leave_list, lone_name};
 use crate::syntax::literals::{Literals, kept_literals};
@@ -26,9 +26,9 @@ use std::alloc::Global;
 fn init_item(dialect: Dialect, walk: &mut Walk<'_>) -> Result<(), ReadFault>
     ensures { PassesList result (is_init_item dialect) (here walk.old.cursor) (here walk.new.cursor) }
 {
-    let place = Place::Initial;
+    let context = Context::Initial;
     match walk.next() {
-        Item::Text(word) => literal(walk, Scope { dialect, place }, word),
+        Item::Text(word) => literal(walk, Scope { dialect, context }, word),
         Item::Open(span) => Err(ReadFault::new(FaultKind::Expected, span)),
         Item::Close(span) => Err(ReadFault::new(FaultKind::Expected, span)),
     }
@@ -55,8 +55,8 @@ fn init<'a>(dialect: Dialect, walk: &mut Walk<'a>) -> Result<Literals<'a>, ReadF
 {
     let start = walk.fork();
     init_items(dialect, walk)?;
-    let place = Place::Initial;
-    Ok(Literals::within(start, Scope { dialect, place }))
+    let context = Context::Initial;
+    Ok(Literals::within(start, Scope { dialect, context }))
 }
 
 /// Reads the goal.
@@ -65,8 +65,8 @@ fn goal<'a>(dialect: Dialect, walk: &mut Walk<'a>) -> Result<Literals<'a>, ReadF
     ensures { ReadsList (λ l. l) result (goal_of dialect) (here walk.old.cursor) (here walk.new.cursor) }
 {
     enter_list(walk)?;
-    let place = Place::Goal;
-    let literals = kept_literals(walk, Scope { dialect, place })?;
+    let context = Context::Goal;
+    let literals = kept_literals(walk, Scope { dialect, context })?;
     leave_list(walk)?;
     Ok(literals)
 }

@@ -3,7 +3,7 @@
 ghost use Rattle.std.specs.Prelude.{◌≢◌};
 
 use crate::fault::{FaultKind, ReadFault};
-use crate::heads::{Place, is_either, is_name};
+use crate::heads::{Context, is_either, is_name};
 use crate::walk::{Item, Walk, Word};
 use pddl_tokens::{Span, WordKind, word_kind};
 
@@ -29,11 +29,11 @@ pub(crate) fn name_fault(word: Word<'_>) -> ReadFault
 }
 
 /// The fault of a word that is no name where the name of a function is due. In amounts PDDL has the signs of sums and products there.
-pub(crate) fn function_fault(place: Place, word: Word<'_>) -> ReadFault
+pub(crate) fn function_fault(context: Context, word: Word<'_>) -> ReadFault
     ensures { result.kind ≢ FaultKind.OutOfMemory }
 {
-    match (place, word.text) {
-        (Place::Effect, b"+" | b"-" | b"*" | b"/") => {
+    match (context, word.text) {
+        (Context::Effect, b"+" | b"-" | b"*" | b"/") => {
             ReadFault::new(FaultKind::Unsupported, word.span)
         }
         _ => ReadFault::new(FaultKind::Expected, word.span),

@@ -13,12 +13,12 @@ parts-init c = record {
 
 pub returns-then-len-eq-MOST_PLANS : goal.returns-then-len-eq-MOST_PLANS
 returns-then-len-eq-MOST_PLANS c =
-    let place = c.part_from-end.result in
-    let first : parts_from c.args.bundle.now.bytes c.parts.start ≡ slice_range c.args.bundle.now.bytes c.parts.start place.end ∷ parts_behind c.args.bundle.now.bytes place.next =
-    subst (λ (bytes : List ℕ). parts_from bytes c.parts.start ≡ slice_range bytes c.parts.start place.end ∷ parts_behind bytes place.next) c.bytes.ensures c.part_from-end.ensures.first in
+    let index = c.part_from-end.result in
+    let first : parts_from c.args.bundle.now.bytes c.parts.start ≡ slice_range c.args.bundle.now.bytes c.parts.start index.end ∷ parts_behind c.args.bundle.now.bytes index.next =
+    subst (λ (bytes : List ℕ). parts_from bytes c.parts.start ≡ slice_range bytes c.parts.start index.end ∷ parts_behind bytes index.next) c.bytes.ensures c.part_from-end.ensures.first in
     omega (
       arith,
-      parts_past c.args.planner c.args.bundle.now c.parts.start place.end place.next c.args.plans.now.items c.parts.plans.items c.parts.invariant.same first,
+      parts_past c.args.planner c.args.bundle.now c.parts.start index.end index.next c.args.plans.now.items c.parts.plans.items c.parts.invariant.same first,
       c.if-len-eq-MOST_PLANS.true,
       c.len.ensures,
       c.parts.plans.ok.0,

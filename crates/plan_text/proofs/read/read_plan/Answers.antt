@@ -1,5 +1,5 @@
 use Rattle.std.proofs.Common.{sym, ap, ◌∙◌}
-use Rattle.pddl_tokens.proofs.Places.{pieces_within}
+use Rattle.pddl_tokens.proofs.Within.{pieces_within}
 use Rattle.plan_text.specs.PlanReading.{plan_from}
 use Rattle.plan_text.specs.PlanSteps.{reading}
 use Rattle.plan_text.proofs.Steps.{plan_end, plan_bad, plan_goes_on, plan_refused, plan_too_long, plan_short}

@@ -1,5 +1,5 @@
 use Rattle.std.proofs.Common.{◌≡◌, length}
-use Rattle.pddl_tokens.specs.Places.{AreWithin}
+use Rattle.pddl_tokens.specs.Within.{AreWithin}
 use Rattle.plan_text.specs.PlanReading.{plan_from, plan_of}
 use Rattle.plan_text.specs.PlanSteps.{reading, IsReady}
 use Rattle.plan_text.proofs.read.read_plan.Given as goal

@@ -4,5 +4,5 @@ use Rattle.report_text.specs.Format.{after_commas, json_string}
 use Rattle.report_text.proofs.json.push_arguments.Given as goal
 
 -- The names so far are behind the text that was there.
-abbrev pub invariant-loop-place : goal.invariant-loop-place
-invariant-loop-place l = l.text ≡ l.fn.text ++ after_commas (map json_string (take l.place (step_shown l.step).args))
+abbrev pub invariant-loop-index : goal.invariant-loop-index
+invariant-loop-index l = l.text ≡ l.fn.text ++ after_commas (map json_string (take l.index (step_shown l.step).args))

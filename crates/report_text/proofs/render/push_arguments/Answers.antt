@@ -4,12 +4,12 @@ use Rattle.report_text.specs.Report.{spaced}
 use Rattle.report_text.proofs.Rendering.{spaced_more}
 use Rattle.report_text.proofs.render.push_arguments.Goals as goal
 
-pub loop-place-preserved : goal.loop-place-preserved
-loop-place-preserved c =
+pub loop-index-preserved : goal.loop-index-preserved
+loop-index-preserved c =
     let args = (step_shown c.args.step.now).args in
-    let front = spaced (take c.loop-place.place args) in
+    let front = spaced (take c.loop-index.index args) in
     c.in_ok-push-2.ensures
-    ∙ ap (λ l. l ++ c.arg.result.now) (c.in_ok-push.ensures ∙ ap (λ l. l ++ codes " ") c.loop-place.invariant)
+    ∙ ap (λ l. l ++ c.arg.result.now) (c.in_ok-push.ensures ∙ ap (λ l. l ++ codes " ") c.loop-index.invariant)
     ∙ ap (λ l. l ++ c.arg.result.now) (append_assoc c.args.text.now front (codes " "))
     ∙ append_assoc c.args.text.now (front ++ codes " ") c.arg.result.now
-    ∙ ap (λ l. c.args.text.now ++ l) (sym (spaced_more args c.loop-place.place c.arg.result.now c.arg.ensures))
+    ∙ ap (λ l. c.args.text.now ++ l) (sym (spaced_more args c.loop-index.index c.arg.result.now c.arg.ensures))

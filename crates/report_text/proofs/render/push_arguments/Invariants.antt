@@ -4,5 +4,5 @@ use Rattle.report_text.specs.Report.{spaced}
 use Rattle.report_text.proofs.render.push_arguments.Given as goal
 
 -- The names so far stand behind the text that was there.
-abbrev pub invariant-loop-place : goal.invariant-loop-place
-invariant-loop-place l = l.text ≡ l.fn.text ++ spaced (take l.place (step_shown l.step).args)
+abbrev pub invariant-loop-index : goal.invariant-loop-index
+invariant-loop-index l = l.text ≡ l.fn.text ++ spaced (take l.index (step_shown l.step).args)

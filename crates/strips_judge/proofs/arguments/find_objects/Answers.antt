@@ -6,13 +6,13 @@ use Rattle.strips_judge.proofs.arguments.find_objects.Goals as goal
 
 pub returns-in-None-clause-unknown : goal.returns-in-None-clause-unknown
 returns-in-None-clause-unknown c =
-    let lt : c.loop-place.place < length (step_shown c.args.step).args = omega arith in
-    sym (unknown_here c.args.task.now (step_shown c.args.step).args _ c.loop-place.place c.arg.result.now lt
-    (sym (get_or_from_slice_get (step_shown c.args.step).args c.loop-place.place c.arg.result.now c.arg.result.now c.arg.ensures)) c.loop-place.invariant (sym c.in-None.ensures.number))
+    let lt : c.loop-index.index < length (step_shown c.args.step).args = omega arith in
+    sym (unknown_here c.args.task.now (step_shown c.args.step).args _ c.loop-index.index c.arg.result.now lt
+    (sym (get_or_from_slice_get (step_shown c.args.step).args c.loop-index.index c.arg.result.now c.arg.result.now c.arg.ensures)) c.loop-index.invariant (sym c.in-None.ensures.number))
 
-pub loop-place-preserved : goal.loop-place-preserved
-loop-place-preserved c =
-    let lt : c.loop-place.place < length (step_shown c.args.step).args = omega arith in
-    bound_more c.args.task.now (step_shown c.args.step).args _ c.loop-place.place c.arg.result.now lt
-    (sym (get_or_from_slice_get (step_shown c.args.step).args c.loop-place.place c.arg.result.now c.arg.result.now c.arg.ensures)) c.loop-place.invariant c.in-Some.object _ (sym c.in-Some.ensures.number) c.in-Some.ensures.within
+pub loop-index-preserved : goal.loop-index-preserved
+loop-index-preserved c =
+    let lt : c.loop-index.index < length (step_shown c.args.step).args = omega arith in
+    bound_more c.args.task.now (step_shown c.args.step).args _ c.loop-index.index c.arg.result.now lt
+    (sym (get_or_from_slice_get (step_shown c.args.step).args c.loop-index.index c.arg.result.now c.arg.result.now c.arg.ensures)) c.loop-index.invariant c.in-Some.object _ (sym c.in-Some.ensures.number) c.in-Some.ensures.within
     c.in_ok-push-in-Some.ensures.items

@@ -4,6 +4,6 @@ use Rattle.strips_judge.specs.State.{is_in}
 use Rattle.strips_judge.specs.Verdict.{verdict_from}
 use Rattle.strips_judge.proofs.judging.judge_steps.Given as goal
 
-abbrev pub invariant-loop-place : goal.invariant-loop-place
-invariant-loop-place l =
-    verdict_from l.task 0 (is_in l.task.init) l.steps ≡ verdict_from l.task l.place (state_of l.state) (drop l.place l.steps)
+abbrev pub invariant-loop-index : goal.invariant-loop-index
+invariant-loop-index l =
+    verdict_from l.task 0 (is_in l.task.init) l.steps ≡ verdict_from l.task l.index (state_of l.state) (drop l.index l.steps)

@@ -8,24 +8,24 @@ use Rattle.strips_task.proofs.equality.have_same_args.Goals as goal
 
 pub returns-then-ne : goal.returns-then-ne
 returns-then-ne c =
-    let place = c.loop-place.place in
+    let index = c.loop-index.index in
     let xs : List (List ℕ) = (step_shown c.args.first).args in
     let ys : List (List ℕ) = (step_shown c.args.second).args in
     let x : List ℕ = c.arg.result.now in
-    let y : List ℕ = c.arg-in-loop-place.result.now in
-    let here = pairs_here bytes_eq xs ys place x y (omega arith) (omega arith)
-    (get_or_from_slice_get xs place x x c.arg.ensures) (get_or_from_slice_get ys place y y c.arg-in-loop-place.ensures) in
-    sym (c.loop-place.invariant ∙ here
-    ∙ ap (λ b. b && pointwise bytes_eq (drop (place + 1) xs) (drop (place + 1) ys)) (unequal (bytes_eq x y) c.ne.result c.ne.ensures c.if-ne.true))
+    let y : List ℕ = c.arg-in-loop-index.result.now in
+    let here = pairs_here bytes_eq xs ys index x y (omega arith) (omega arith)
+    (get_or_from_slice_get xs index x x c.arg.ensures) (get_or_from_slice_get ys index y y c.arg-in-loop-index.ensures) in
+    sym (c.loop-index.invariant ∙ here
+    ∙ ap (λ b. b && pointwise bytes_eq (drop (index + 1) xs) (drop (index + 1) ys)) (unequal (bytes_eq x y) c.ne.result c.ne.ensures c.if-ne.true))
 
-pub loop-place-preserved : goal.loop-place-preserved
-loop-place-preserved c =
-    let place = c.loop-place.place in
+pub loop-index-preserved : goal.loop-index-preserved
+loop-index-preserved c =
+    let index = c.loop-index.index in
     let xs : List (List ℕ) = (step_shown c.args.first).args in
     let ys : List (List ℕ) = (step_shown c.args.second).args in
     let x : List ℕ = c.arg.result.now in
-    let y : List ℕ = c.arg-in-loop-place.result.now in
-    let here = pairs_here bytes_eq xs ys place x y (omega arith) (omega arith)
-    (get_or_from_slice_get xs place x x c.arg.ensures) (get_or_from_slice_get ys place y y c.arg-in-loop-place.ensures) in
-    c.loop-place.invariant ∙ here
-    ∙ ap (λ b. b && pointwise bytes_eq (drop (place + 1) xs) (drop (place + 1) ys)) (equal (bytes_eq x y) c.ne.result c.ne.ensures c.if-ne.false)
+    let y : List ℕ = c.arg-in-loop-index.result.now in
+    let here = pairs_here bytes_eq xs ys index x y (omega arith) (omega arith)
+    (get_or_from_slice_get xs index x x c.arg.ensures) (get_or_from_slice_get ys index y y c.arg-in-loop-index.ensures) in
+    c.loop-index.invariant ∙ here
+    ∙ ap (λ b. b && pointwise bytes_eq (drop (index + 1) xs) (drop (index + 1) ys)) (equal (bytes_eq x y) c.ne.result c.ne.ensures c.if-ne.false)

@@ -9,24 +9,24 @@ use Rattle.strips_task.proofs.equality.have_same_steps.Goals as goal
 
 pub returns-then-not-are_same : goal.returns-then-not-are_same
 returns-then-not-are_same c =
-    let place = c.loop-place.place in
+    let index = c.loop-index.index in
     let xs : List StepText = c.args.first.now in
     let ys : List StepText = c.args.second.now in
     let x = step_shown c.get.result in
-    let y = step_shown c.get-in-loop-place.result in
-    let here = pairs_here step_eq xs ys place x y (omega arith) (omega arith)
-    (get_or_from_slice_get xs place x x c.get.ensures) (get_or_from_slice_get ys place y y c.get-in-loop-place.ensures) in
-    sym (c.loop-place.invariant ∙ here
-    ∙ ap (λ b. b && pointwise step_eq (drop (place + 1) xs) (drop (place + 1) ys)) (sym c.are_same.ensures ∙ c.if-not-are_same.true))
+    let y = step_shown c.get-in-loop-index.result in
+    let here = pairs_here step_eq xs ys index x y (omega arith) (omega arith)
+    (get_or_from_slice_get xs index x x c.get.ensures) (get_or_from_slice_get ys index y y c.get-in-loop-index.ensures) in
+    sym (c.loop-index.invariant ∙ here
+    ∙ ap (λ b. b && pointwise step_eq (drop (index + 1) xs) (drop (index + 1) ys)) (sym c.are_same.ensures ∙ c.if-not-are_same.true))
 
-pub loop-place-preserved : goal.loop-place-preserved
-loop-place-preserved c =
-    let place = c.loop-place.place in
+pub loop-index-preserved : goal.loop-index-preserved
+loop-index-preserved c =
+    let index = c.loop-index.index in
     let xs : List StepText = c.args.first.now in
     let ys : List StepText = c.args.second.now in
     let x = step_shown c.get.result in
-    let y = step_shown c.get-in-loop-place.result in
-    let here = pairs_here step_eq xs ys place x y (omega arith) (omega arith)
-    (get_or_from_slice_get xs place x x c.get.ensures) (get_or_from_slice_get ys place y y c.get-in-loop-place.ensures) in
-    c.loop-place.invariant ∙ here
-    ∙ ap (λ b. b && pointwise step_eq (drop (place + 1) xs) (drop (place + 1) ys)) (sym c.are_same.ensures ∙ c.if-not-are_same.false)
+    let y = step_shown c.get-in-loop-index.result in
+    let here = pairs_here step_eq xs ys index x y (omega arith) (omega arith)
+    (get_or_from_slice_get xs index x x c.get.ensures) (get_or_from_slice_get ys index y y c.get-in-loop-index.ensures) in
+    c.loop-index.invariant ∙ here
+    ∙ ap (λ b. b && pointwise step_eq (drop (index + 1) xs) (drop (index + 1) ys)) (sym c.are_same.ensures ∙ c.if-not-are_same.false)

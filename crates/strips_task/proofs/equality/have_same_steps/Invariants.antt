@@ -4,5 +4,5 @@ use Rattle.strips_task.specs.Steps.{step_eq}
 use Rattle.strips_task.proofs.equality.have_same_steps.Given as goal
 
 -- What is left decides.
-abbrev pub invariant-loop-place : goal.invariant-loop-place
-invariant-loop-place l = pointwise step_eq l.first l.second ≡ pointwise step_eq (drop l.place l.first) (drop l.place l.second)
+abbrev pub invariant-loop-index : goal.invariant-loop-index
+invariant-loop-index l = pointwise step_eq l.first l.second ≡ pointwise step_eq (drop l.index l.first) (drop l.index l.second)

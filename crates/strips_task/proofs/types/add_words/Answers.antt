@@ -6,4 +6,4 @@ pub returns : goal.returns
 returns g c =
     λ k few.
     row_added c.args.joined.now c.words.joined c.args.table.now c.args.first k
-    (c.words.invariant.done (k / 64) (let within : k / 64 < c.words.place = omega arith in within))
+    (c.words.invariant.done (k / 64) (let within : k / 64 < c.words.index = omega arith in within))

@@ -6,6 +6,6 @@ use Rattle.strips_task.proofs.types.add_words.Given as goal
 abbrev pub invariant-words : goal.invariant-words
 invariant-words g l = record {
   full : length l.joined ≡ g.row.WORDS;
-  done : (j : ℕ) → j < l.place → slice_index l.joined j ≡ bit_or (slice_index l.fn.joined j) (slice_index l.table (l.first + j));
-  rest : (j : ℕ) → l.place ≤ j → slice_index l.joined j ≡ slice_index l.fn.joined j;
+  done : (j : ℕ) → j < l.index → slice_index l.joined j ≡ bit_or (slice_index l.fn.joined j) (slice_index l.table (l.first + j));
+  rest : (j : ℕ) → l.index ≤ j → slice_index l.joined j ≡ slice_index l.fn.joined j;
 }

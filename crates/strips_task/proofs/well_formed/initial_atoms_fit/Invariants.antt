@@ -4,5 +4,5 @@ use Rattle.strips_task.specs.WellFormed.{is_atom}
 use Rattle.strips_task.proofs.well_formed.initial_atoms_fit.Given as goal
 
 -- All atoms so far are of the task.
-abbrev pub invariant-loop-place : goal.invariant-loop-place
-invariant-loop-place l = list_all (is_atom l.parts) (take l.place l.parts.init) ≡ true
+abbrev pub invariant-loop-index : goal.invariant-loop-index
+invariant-loop-index l = list_all (is_atom l.parts) (take l.index l.parts.init) ≡ true

@@ -7,12 +7,12 @@ use Rattle.strips_task.specs.WellFormed.{term_types, is_fitting, are_fitting}
 use Rattle.strips_task.proofs.WellFormedTests.{all_zip-map}
 use Rattle.strips_task.proofs.well_formed.objects_fit.Goals as goal
 
-pub returns-then-objects-places : goal.returns-then-objects-places
+pub returns-then-objects-allowed : goal.returns-then-objects-allowed
 unfolding are_fitting
-returns-then-objects-places c =
+returns-then-objects-allowed c =
     let parents : List ℕ = c.args.parts.now.parents in
     let types : ℕ → Option (List ℕ) = (λ object. term_types c.args.parts.now.objects [] (Object object)) in
-    c.objects_fit_places.ensures
-    ∙ sym (all_zip-map types (is_fitting parents) c.args.objects.now c.args.places.now)
-    ∙ ap (λ b. b && list_all (λ p. is_fitting parents p.0 p.1) (zip (map types c.args.objects.now) c.args.places.now))
-    (sym (eq-eqb (length (map types c.args.objects.now)) (length c.args.places.now) (length-map c.args.objects.now types ∙ c.if-objects-places.true)))
+    c.objects_fit_types.ensures
+    ∙ sym (all_zip-map types (is_fitting parents) c.args.objects.now c.args.allowed.now)
+    ∙ ap (λ b. b && list_all (λ p. is_fitting parents p.0 p.1) (zip (map types c.args.objects.now) c.args.allowed.now))
+    (sym (eq-eqb (length (map types c.args.objects.now)) (length c.args.allowed.now) (length-map c.args.objects.now types ∙ c.if-objects-allowed.true)))

@@ -6,10 +6,10 @@ use Rattle.text_judge.specs.Watches.{AreWatched}
 use Rattle.text_judge.proofs.history.note.Given as goal
 
 -- The atoms so far are watched behind the steps that were taken by now, and those that are left behind those before.
-abbrev pub invariant-loop-place : goal.invariant-loop-place
-invariant-loop-place l = record {
+abbrev pub invariant-loop-index : goal.invariant-loop-index
+invariant-loop-index l = record {
   done : (steps : List StepText) (next : Option StepText) → HasTaken l.judge (with_next steps next) → AreWatched l.judge.task.task steps l.atoms l.fn.watches
-      → AreWatched l.judge.task.task (with_next steps next) (take l.place l.atoms) (take l.place l.watches);
+      → AreWatched l.judge.task.task (with_next steps next) (take l.index l.atoms) (take l.index l.watches);
   left : (steps : List StepText) → AreWatched l.judge.task.task steps l.atoms l.fn.watches
-      → AreWatched l.judge.task.task steps (drop l.place l.atoms) (drop l.place l.watches);
+      → AreWatched l.judge.task.task steps (drop l.index l.atoms) (drop l.index l.watches);
 }

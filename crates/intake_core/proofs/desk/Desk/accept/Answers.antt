@@ -11,7 +11,7 @@ use Rattle.intake_core.proofs.desk.Desk.accept.Goals as goal
 pub link-requires : goal.link-requires
 link-requires c =
     let free : IsAccepted c.self.inside.limit (intake_in c.self.inside.table.items c.self.inside.planners.items) c.args.planner =
-    accepted _ _ _ (subst (λ desk. submit_refusal desk.places desk.intake c.args.planner ≡ None) (sym c.self.view_is) c.requires) in
+    accepted _ _ _ (subst (λ desk. submit_refusal desk.slots desk.intake c.args.planner ≡ None) (sym c.self.view_is) c.requires) in
     let within : c.args.planner < length c.self.inside.planners.items = omega (arith, free.known, length-closed c.self.inside.planners.items) in
     let line = c.self.invariant.0.lines c.args.planner c.index-row.result.now (row-at _ _ _ within c.index-row.ensures) in
     last-within _ _ _ _ _ c.self.invariant.0.numbered (c.self.inside.table.ok.0 ∙ sym (length-jobs c.self.inside.table.items)) line
@@ -19,7 +19,7 @@ link-requires c =
 pub invariant_of-self : goal.invariant_of-self
 invariant_of-self c =
     let free : IsAccepted c.self.inside.limit (intake_in c.self.inside.table.items c.self.inside.planners.items) c.args.planner =
-    accepted _ _ _ (subst (λ desk. submit_refusal desk.places desk.intake c.args.planner ≡ None) (sym c.self.view_is) c.requires) in
+    accepted _ _ _ (subst (λ desk. submit_refusal desk.slots desk.intake c.args.planner ≡ None) (sym c.self.view_is) c.requires) in
     let within : c.args.planner < length c.self.inside.planners.items = omega (arith, free.known, length-closed c.self.inside.planners.items) in
     let number : c.len-number.result ≡ length (jobs_in c.self.inside.table.items) = c.len-number.ensures ∙ c.self.inside.table.ok.0 ∙ sym (length-jobs c.self.inside.table.items) in
     let job : AcceptedPlan = record { number = c.len-number.result; planner = c.args.planner; plan = c.args.plan } in (

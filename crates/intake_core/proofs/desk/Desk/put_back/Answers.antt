@@ -17,7 +17,7 @@ pub insert-requires : goal.insert-requires
 insert-requires c =
     let out : IsOutAt (intake_in c.self.inside.table.items c.self.inside.planners.items) c.args.job =
     out-at _ c.args.job (subst (λ desk. hand_back_refusal desk.intake c.args.job ≡ None) (sym c.self.view_is) c.requires) in
-    omega (arith, out.known, c.self.invariant.0.room, c.self.invariant.0.all_places)
+    omega (arith, out.known, c.self.invariant.0.room, c.self.invariant.0.all_slots)
 
 pub invariant_of-self : goal.invariant_of-self
 invariant_of-self c =

@@ -1,9 +1,9 @@
 use Rattle.std.proofs.Common.{length, sym, subst}
-use Rattle.std.proofs.lemmas.Option.{MatchOption-at_some}
+use Rattle.std.proofs.lemmas.Option.{MatchOption-at_none, MatchOption-at_some}
 use Rattle.judge_bench.specs.Keeping.{KeptFindings}
 use Rattle.judge_bench.specs.Submissions.{job_of}
 use Rattle.judge_bench.proofs.Emissions.{posted}
-use Rattle.judge_bench.proofs.OwnersRun.{one_accepted}
+use Rattle.judge_bench.proofs.OwnersRun.{all_accepted, one_accepted}
 use Rattle.judge_bench.proofs.keeper.Keeper.accept_all.Goals as goal
 
 pub loop-submission-preserved : goal.loop-submission-preserved
@@ -22,3 +22,7 @@ loop-submission-preserved g c =
       so_far = one_accepted setting.slots setting.planners c.args.self.now.owner.view view (to_come c.args.intake.now) (to_come c.loop-submission.intake) c.loop-submission.invariant.so_far
           c.in-Some.submission (to_come c.next.new.self) at later c.accept.ensures.view;
     }
+
+pub returns-clause-jobs : goal.returns-clause-jobs
+returns-clause-jobs g c =
+    all_accepted _ _ _ _ _ _ c.loop-submission.invariant.so_far (MatchOption-at_none _ _ c.in_default.is c.in_ok-submission.ensures).0

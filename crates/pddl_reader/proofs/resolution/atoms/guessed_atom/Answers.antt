@@ -9,11 +9,11 @@ returns-in_err-args c =
     let e = c.in_err-args.ensures in
     rw (p.1, p.2) (
       e.0,
-      λ k. ground_unfit (known_form c.args.known.now) c.args.syntax.now c.in_ok-pred.pred c.places_of-places.result.now c.in_ok-pred.ensures
-          c.places_of-places.ensures.places (rw (← c.as_slice.ensures) (e.1 k)),
+      λ k. ground_unfit (known_form c.args.known.now) c.args.syntax.now c.in_ok-pred.pred c.argument_types_of-argument_types.result.now c.in_ok-pred.ensures
+          c.argument_types_of-argument_types.ensures.argument_types (rw (← c.as_slice.ensures) (e.1 k)),
     )
 
 pub returns : goal.returns
 returns c =
-    ground_fit (known_form c.args.known.now) c.args.syntax.now c.in_ok-pred.pred c.places_of-places.result.now c.in_ok-args.args c.in_ok-pred.ensures
-    c.places_of-places.ensures.places (rw (← c.as_slice.ensures) c.in_ok-args.ensures)
+    ground_fit (known_form c.args.known.now) c.args.syntax.now c.in_ok-pred.pred c.argument_types_of-argument_types.result.now c.in_ok-args.args c.in_ok-pred.ensures
+    c.argument_types_of-argument_types.ensures.argument_types (rw (← c.as_slice.ensures) c.in_ok-args.ensures)

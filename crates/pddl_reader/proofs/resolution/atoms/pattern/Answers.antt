@@ -10,10 +10,10 @@ returns-in_err-terms c =
     rw (p.1, p.2) (
       e.0,
       λ k. pattern_unfit (known_form c.args.known.now) (parameters_form c.args.parameters.now) c.args.syntax.now c.in_ok-pred.pred
-          c.places_of-places.result.now c.in_ok-pred.ensures c.places_of-places.ensures.places (rw (← c.as_slice.ensures) (e.1 k)),
+          c.argument_types_of-argument_types.result.now c.in_ok-pred.ensures c.argument_types_of-argument_types.ensures.argument_types (rw (← c.as_slice.ensures) (e.1 k)),
     )
 
 pub returns : goal.returns
 returns c =
-    pattern_fit (known_form c.args.known.now) (parameters_form c.args.parameters.now) c.args.syntax.now c.in_ok-pred.pred c.places_of-places.result.now
-    c.in_ok-terms.terms c.in_ok-pred.ensures c.places_of-places.ensures.places (rw (← c.as_slice.ensures) c.in_ok-terms.ensures)
+    pattern_fit (known_form c.args.known.now) (parameters_form c.args.parameters.now) c.args.syntax.now c.in_ok-pred.pred c.argument_types_of-argument_types.result.now
+    c.in_ok-terms.terms c.in_ok-pred.ensures c.argument_types_of-argument_types.ensures.argument_types (rw (← c.as_slice.ensures) c.in_ok-terms.ensures)

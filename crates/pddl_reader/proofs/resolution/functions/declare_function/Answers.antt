@@ -10,7 +10,7 @@ use Rattle.pddl_reader.proofs.resolution.functions.declare_function.Goals as goa
 
 pub returns-clause-within : goal.returns-clause-within
 returns-clause-within c =
-    rw c.in_ok-push.ensures.ok (may_declare_length 4096 c.args.table.now c.in_ok-name.name c.in_ok-places.places c.in_ok-check_new.ensures)
+    rw c.in_ok-push.ensures.ok (may_declare_length 4096 c.args.table.now c.in_ok-name.name c.in_ok-argument_types.argument_types c.in_ok-check_new.ensures)
 
 pub returns-clause-given : goal.returns-clause-given
 returns-clause-given c =
@@ -20,5 +20,5 @@ returns-clause-given c =
     let had : may_have (folded function.name) function.variables ≡ true =
     rw (← c.in_ok-name.ensures, ← c.in_ok-variables.ensures, ← c.as_slice.ensures.value) c.in_ok-check_variables.ensures in
     rw (c.in_ok-push.ensures.ok, c.in_ok-name.ensures)
-    (function_declared (keys_of c.args.types.now) table function c.in_ok-places.places allowed had
-    (rw (← c.in_ok-variables.ensures, ← c.as_slice-2.ensures.value) c.in_ok-places.ensures))
+    (function_declared (keys_of c.args.types.now) table function c.in_ok-argument_types.argument_types allowed had
+    (rw (← c.in_ok-variables.ensures, ← c.as_slice-2.ensures.value) c.in_ok-argument_types.ensures))

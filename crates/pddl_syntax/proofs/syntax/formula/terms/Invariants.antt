@@ -7,7 +7,7 @@ use Rattle.pddl_syntax.proofs.syntax.formula.terms.Given as goal
 
 abbrev pub invariant-terms : goal.invariant-terms
 invariant-terms l = record {
-  so_far : are_words (is_term l.place) (here l.walk.cursor).top ≡ are_words (is_term l.place) (here l.fn.walk.cursor).top;
+  so_far : are_words (is_term l.context) (here l.walk.cursor).top ≡ are_words (is_term l.context) (here l.fn.walk.cursor).top;
   below : (here l.walk.cursor).below ≡ (here l.fn.walk.cursor).below;
 }
 

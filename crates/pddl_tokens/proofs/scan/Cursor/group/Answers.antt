@@ -7,8 +7,8 @@ use Rattle.pddl_tokens.proofs.scan.Cursor.group.Goals as goal
 pub returns : goal.returns
 returns c =
     let text = c.self.inside.text.now in
-    let place = c.skip_blanks-open.result in
+    let state = c.skip_blanks-open.result in
     let found = c.in_ok-size.ensures in
     λ plain.
     sym c.self.view_is ∙ sym c.skip_blanks-open.ensures.same
-    ∙ group_at text _ place c.in_ok-size.size (omega arith) c.if-text-open-ne40.false (rest_whole text (place + 1)) found.0.high ((unsigned_Decides _ _).0 found.1) plain
+    ∙ group_at text _ state c.in_ok-size.size (omega arith) c.if-text-open-ne40.false (rest_whole text (state + 1)) found.0.high ((unsigned_Decides _ _).0 found.1) plain

@@ -1,6 +1,6 @@
 use Rattle.std.proofs.Common.{refl, ap, sym, ◌∙◌, subst, length, arith}
-use Rattle.pddl_tokens.specs.Places.{AreWithin}
-use Rattle.pddl_tokens.proofs.Places.{pieces_within}
+use Rattle.pddl_tokens.specs.Within.{AreWithin}
+use Rattle.pddl_tokens.proofs.Within.{pieces_within}
 use Rattle.plan_text.specs.PlanReading.{plan_from, nothing_read}
 use Rattle.plan_text.proofs.Steps.{plan_short, plan_too_long}
 use Rattle.plan_text.proofs.walk.PlanSteps.new.Goals as goal

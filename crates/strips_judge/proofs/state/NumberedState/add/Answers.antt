@@ -1,6 +1,6 @@
 use Rattle.std.proofs.Common.{arith, ◌≡◌, ◌+◌, ◌++◌, ◌∷◌, [], List, Some, None, refl, subst, sym, ap, ◌∙◌, length, length-append}
 use Rattle.strips_task.specs.Atom.{atom_eq}
-use Rattle.strips_task.specs.FirstPlaces.{first_places}
+use Rattle.strips_task.specs.FirstOccurrences.{first_occurrences}
 use Rattle.strips_task.specs.declared.atoms.Atom.{Atom}
 use Rattle.strips_judge.specs.AtomNumbers.{number_in}
 use Rattle.strips_judge.specs.NumberedState.{Numbered, Grows, KeepsNumbers, state_of, state_by}
@@ -11,7 +11,7 @@ use Rattle.strips_judge.proofs.state.NumberedState.add.Goals as goal
 
 pub returns-clause-number : goal.returns-clause-number
 returns-clause-number c =
-    let first = first_places atom_eq c.self.inside.initial.now in
+    let first = first_occurrences atom_eq c.self.inside.initial.now in
     let none : number_in (first ++ c.self.inside.later.keys) c.args.atom.now ≡ None = ap (λ (s : Numbered). number_in s.atoms c.args.atom.now) c.self.view_is ∙ c.requires in
     let all = pushed first c.self.inside.later.keys c.insert.new.self.keys c.args.atom.now c.in_ok-copy.field-0 none c.in_ok-copy.ensures c.in_ok-insert.ensures.keys in
     ap (λ l. number_in l c.args.atom.now) all
@@ -20,7 +20,7 @@ returns-clause-number c =
 
 pub returns-clause-state : goal.returns-clause-state
 returns-clause-state c =
-    let first = first_places atom_eq c.self.inside.initial.now in
+    let first = first_occurrences atom_eq c.self.inside.initial.now in
     let none : number_in (first ++ c.self.inside.later.keys) c.args.atom.now ≡ None = ap (λ (s : Numbered). number_in s.atoms c.args.atom.now) c.self.view_is ∙ c.requires in
     let all = pushed first c.self.inside.later.keys c.insert.new.self.keys c.args.atom.now c.in_ok-copy.field-0 none c.in_ok-copy.ensures c.in_ok-insert.ensures.keys in
     ap (λ l. state_by l c.reserve.new.self) all
@@ -30,7 +30,7 @@ returns-clause-state c =
 
 pub returns-clause-grows : goal.returns-clause-grows
 returns-clause-grows c =
-    let first = first_places atom_eq c.self.inside.initial.now in
+    let first = first_occurrences atom_eq c.self.inside.initial.now in
     let none : number_in (first ++ c.self.inside.later.keys) c.args.atom.now ≡ None = ap (λ (s : Numbered). number_in s.atoms c.args.atom.now) c.self.view_is ∙ c.requires in
     let all = pushed first c.self.inside.later.keys c.insert.new.self.keys c.args.atom.now c.in_ok-copy.field-0 none c.in_ok-copy.ensures c.in_ok-insert.ensures.keys in
     subst (λ (s : Numbered). Grows s (record { initial = c.self.inside.initial.now; atoms = first ++ c.insert.new.self.keys; bits = c.reserve.new.self })) c.self.view_is
@@ -41,7 +41,7 @@ returns-clause-grows c =
 
 pub invariant_of-self-2 : goal.invariant_of-self-2
 invariant_of-self-2 c =
-    let first = first_places atom_eq c.self.inside.initial.now in
+    let first = first_occurrences atom_eq c.self.inside.initial.now in
     let none : number_in (first ++ c.self.inside.later.keys) c.args.atom.now ≡ None = ap (λ (s : Numbered). number_in s.atoms c.args.atom.now) c.self.view_is ∙ c.requires in
     let all = pushed first c.self.inside.later.keys c.insert.new.self.keys c.args.atom.now c.in_ok-copy.field-0 none c.in_ok-copy.ensures c.in_ok-insert.ensures.keys in
     let kept : KeepsNumbers (first ++ c.self.inside.later.keys) (first ++ c.insert.new.self.keys) =

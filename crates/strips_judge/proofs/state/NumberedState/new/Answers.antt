@@ -1,13 +1,13 @@
 use Rattle.std.proofs.Common.{◌∙◌, arith, ap, ltb}
 use Rattle.strips_task.specs.Atom.{atom_eq}
-use Rattle.strips_task.specs.FirstPlaces.{first_places}
+use Rattle.strips_task.specs.FirstOccurrences.{first_occurrences}
 use Rattle.strips_judge.proofs.Growth.{row_for_none}
 use Rattle.strips_judge.proofs.NumberedLaws.{initial_state}
 use Rattle.strips_judge.proofs.state.NumberedState.new.Goals as goal
 
 pub invariant_of-result : goal.invariant_of-result
 invariant_of-result c = (
-  row_for_none (first_places atom_eq c.args.initial.now) c.with_hasher.result.keys c.distinct_len.result c.in_ok-with_first.field-0
+  row_for_none (first_occurrences atom_eq c.args.initial.now) c.with_hasher.result.keys c.distinct_len.result c.in_ok-with_first.field-0
       c.with_hasher.ensures.empty c.distinct_len.ensures (omega arith) c.in_ok-with_first.ensures.first c.in_ok-with_first.ensures.room,
   c.new.ensures _,
 )

@@ -8,16 +8,16 @@ index-requires c = omega (arith, length-shown c.self.inside.distinct.keys c.self
 
 pub unwrap-requires : goal.unwrap-requires
 unwrap-requires c =
-    let place : c.args.place < length c.self.inside.numbers.items =
+    let index : c.args.index < length c.self.inside.numbers.items =
     omega (arith, length-shown c.self.inside.distinct.keys c.self.inside.numbers.items c.self.invariant.0, ap length c.self.view_is) in
-    c.get_index.ensures.found.1 (omega (arith, c.self.invariant.0 c.args.place c.index.result.now place, c.index.ensures))
+    c.get_index.ensures.found.1 (omega (arith, c.self.invariant.0 c.args.index c.index.result.now index, c.index.ensures))
 
 pub returns : goal.returns
 returns c =
-    let place : c.args.place < length c.self.inside.numbers.items =
+    let index : c.args.index < length c.self.inside.numbers.items =
     omega (arith, length-shown c.self.inside.distinct.keys c.self.inside.numbers.items c.self.invariant.0, ap length c.self.view_is) in
-    ap (λ l. slice_get l c.args.place) (sym c.self.view_is)
-    ∙ slice_get-shown c.self.inside.distinct.keys c.self.inside.numbers.items c.self.invariant.0 c.args.place c.index.result.now place
+    ap (λ l. slice_get l c.args.index) (sym c.self.view_is)
+    ∙ slice_get-shown c.self.inside.distinct.keys c.self.inside.numbers.items c.self.invariant.0 c.args.index c.index.result.now index
     ∙ ap (slice_get c.self.inside.distinct.keys) (sym c.index.ensures)
     ∙ sym c.get_index.ensures.key
     ∙ ap option_copied c.unwrap.ensures

@@ -2,9 +2,9 @@ use Rattle.std.proofs.Common.{◌≡◌, ◌++◌, ◌∷◌, [], ap, ◌∙◌,
 use Rattle.std.specs.List.{filter_map}
 use Rattle.indexmap.specs.IndexSet.{insert_key}
 use Rattle.strips_task.specs.Atom.{atom_eq}
-use Rattle.strips_task.specs.FirstPlaces.{first_places}
+use Rattle.strips_task.specs.FirstOccurrences.{first_occurrences}
 use Rattle.strips_task.proofs.AtomEquality.{atom_equiv, atom_same}
-use Rattle.strips_task.proofs.FirstPlaces.{first_places-push}
+use Rattle.strips_task.proofs.FirstOccurrences.{first_occurrences-push}
 use Rattle.strips_task.proofs.Numbered.{shown-insert, all_within-insert}
 use Rattle.strips_task.proofs.initial.InitialAtoms.push.Goals as goal
 
@@ -28,8 +28,8 @@ invariant_of-self-2 c =
       within,
       c.in_ok-number.ensures.keys
           ∙ ap (λ ks. insert_key atom_eq ks c.args.atom) c.self.invariant.1
-          ∙ sym (first_places-push atom_equiv (filter_map (slice_get c.self.inside.distinct.keys) c.self.inside.numbers.items) c.args.atom)
-          ∙ ap (first_places atom_eq) (sym shown),
+          ∙ sym (first_occurrences-push atom_equiv (filter_map (slice_get c.self.inside.distinct.keys) c.self.inside.numbers.items) c.args.atom)
+          ∙ ap (first_occurrences atom_eq) (sym shown),
     )
 
 pub returns-clause-ok : goal.returns-clause-ok

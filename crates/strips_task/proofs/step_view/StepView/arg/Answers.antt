@@ -12,8 +12,8 @@ get-requires c =
 
 pub returns : goal.returns
 returns c =
-    let place : c.args.self.now.first + 1 + c.args.place ≡ c.args.self.now.end - (c.arg_count.result - c.args.place) =
+    let index : c.args.self.now.first + 1 + c.args.index ≡ c.args.self.now.end - (c.arg_count.result - c.args.index) =
     omega (arith, args_count c.args.self.now.words.now c.args.self.now.first c.args.self.now.end c.args.self.now.not_empty c.args.self.now.within, c.arg_count.ensures) in
-    arg_at c.args.self.now.words.now c.args.self.now.first c.args.self.now.end c.args.place c.args.self.now.not_empty c.args.self.now.within c.requires
-    ∙ ap (slice_get c.args.self.now.words.now) place
+    arg_at c.args.self.now.words.now c.args.self.now.first c.args.self.now.end c.args.index c.args.self.now.not_empty c.args.self.now.within c.requires
+    ∙ ap (slice_get c.args.self.now.words.now) index
     ∙ c.get.ensures

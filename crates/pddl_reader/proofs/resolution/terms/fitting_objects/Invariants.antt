@@ -1,0 +1,11 @@
+use Rattle.std.proofs.Common.{◌≡◌, drop}
+use Rattle.pddl_reader.specs.Declarations.{fitted_all, fitting_object}
+use Rattle.pddl_syntax.specs.Forms.{word_forms}
+use Rattle.pddl_syntax.specs.Optional.{with_front}
+use Rattle.pddl_reader.specs.Resolved.{known_form}
+use Rattle.pddl_reader.proofs.resolution.terms.fitting_objects.Given as goal
+
+abbrev pub invariant-argument_types : goal.invariant-argument_types
+invariant-argument_types l =
+    with_front l.objects (fitted_all (fitting_object (known_form l.known)) (drop l.index l.argument_types) (word_forms (drop l.index l.words)))
+    ≡ fitted_all (fitting_object (known_form l.known)) l.argument_types (word_forms l.words)
