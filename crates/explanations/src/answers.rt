@@ -5,10 +5,11 @@ ghost use Rattle.pddl_syntax.specs.declared.fault.FaultKind.TheVariants.{OutOfMe
 ghost use Rattle.explanations.specs.Refused.{kind_of};
 ghost use Rattle.explanations.specs.AllValid.{task_in, is_valid, is_valid_plan, are_valid_in, are_all_valid, all_valid_for};
 
+use crate::causes::push_causes;
 use crate::faults::push_refusal;
 use crate::library::Library;
 use crate::page::Page;
-use crate::plans::{PlanAt, push_assessment, push_name};
+use crate::plans::{PlanAt, missing_of, named_positions, push_assessment, push_name};
 use crate::positions::{LineCount, Range};
 use crate::remarks::{push_empty_end, push_end, push_header, push_other_domain};
 use crate::scene::{Refusal, Scene};
@@ -306,11 +307,21 @@ fn push_plan<'a>(
     ensures valid { IfOk result (λ valid. valid ≡ is_valid_plan judge.old text.now) }
 {
     let assessment = judge.assess(page.alloc(), text)?;
+    let verdict = &assessment.verdict;
     if trace {
-        push_steps(page, judge.task(), plan, &assessment.verdict)?;
+        push_steps(page, judge.task(), plan, verdict)?;
     }
-    push_assessment(page, judge, library, plan, &assessment)?;
-    Ok(is_valid(&assessment.verdict))
+    let positions = named_positions(page.alloc(), plan, verdict)?;
+    push_assessment(page, library, plan, &positions, &assessment);
+    push_causes(
+        page,
+        judge,
+        plan.file,
+        plan.part,
+        &positions,
+        missing_of(verdict),
+    )?;
+    Ok(is_valid(verdict))
 }
 
 /// Whether a verdict is that the plan is valid.
@@ -332,15 +343,22 @@ fn push_steps(
     plan: PlanAt<'_>,
     verdict: &Verdict,
 ) -> Result<(), AllocError> {
-    let most = match verdict {
-        Verdict::Valid { steps } => *steps as usize,
-        Verdict::Fails { step, why: _ } => (*step as usize).saturating_sub(1),
-        Verdict::Goal { missing: _ } => usize::MAX,
-        Verdict::Unreadable { line: _ } => return Ok(()),
+    let Some(most) = steps_shown(verdict) else {
+        return Ok(());
     };
     push_name(page, plan);
     page.say("the steps of plan ");
     page.number(plan.number);
     page.say("\n");
     push_trace(page, task, plan.part.text(), most)
+}
+
+/// How many steps are shown at most. None are shown of a plan that cannot be read.
+fn steps_shown(verdict: &Verdict) -> Option<usize> {
+    match verdict {
+        Verdict::Valid { steps } => Some(*steps as usize),
+        Verdict::Fails { step, why: _ } => Some((*step as usize).saturating_sub(1)),
+        Verdict::Goal { missing: _ } => Some(usize::MAX),
+        Verdict::Unreadable { line: _ } => None,
+    }
 }

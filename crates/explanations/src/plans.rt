@@ -1,9 +1,6 @@
 //! What is found about a plan, and why.
 
-ghost use Rattle.std.specs.Prelude.{◌≡◌};
-
 use crate::SourceText;
-use crate::causes::push_causes;
 use crate::comments::push_cost_remark;
 use crate::hints::push_did_you_mean;
 use crate::library::{Found, Library, push_types};
@@ -13,9 +10,8 @@ use crate::positions::{Position, Range, bytes_at, push_excerpt, push_position};
 use crate::steps::{Part, StepPositions, push_step, word_count, word_of, word_range};
 use crate::unreadable::push_unreadable;
 use plan_cost::{Assessment, Cost};
-use std::alloc::AllocError;
+use std::alloc::{AllocError, Global};
 use strips_judge::{GroundCond, Verdict, Why};
-use text_judge::TextJudge;
 
 /// A plan of a file.
 #[derive(Clone, Copy)]
@@ -29,65 +25,46 @@ pub(crate) struct PlanAt<'a> {
 /// Adds what is found about a plan.
 pub(crate) fn push_assessment<'a>(
     page: &mut Page,
-    judge: &mut TextJudge<'_>,
     library: &mut Library<'a>,
     plan: PlanAt<'a>,
+    positions: &StepPositions,
     assessment: &Assessment,
-) -> Result<(), AllocError>
-    ensures { judge.new ≡ judge.old }
-{
+) {
     match &assessment.verdict {
-        Verdict::Valid { steps } => {
-            push_valid(page, plan, *steps as usize, assessment.cost);
-            Ok(())
-        }
-        Verdict::Unreadable { line: _ } => {
-            push_unreadable(page, library, plan);
-            Ok(())
-        }
-        Verdict::Goal { missing } => push_missed(page, judge, plan, missing.as_slice()),
-        Verdict::Fails { step, why } => {
-            push_failed(page, judge, library, plan, *step as usize, why)
-        }
+        Verdict::Valid { steps } => push_valid(page, plan, *steps as usize, assessment.cost),
+        Verdict::Fails { step, why } => push_failure(
+            page,
+            library,
+            plan,
+            positions,
+            *step as usize,
+            why,
+        ),
+        Verdict::Goal { missing } => push_goal(page, plan, missing.as_slice().len()),
+        Verdict::Unreadable { line: _ } => push_unreadable(page, library, plan),
     }
 }
 
-/// Adds that a plan misses the goal, and which steps made its conditions false.
-fn push_missed(
-    page: &mut Page,
-    judge: &mut TextJudge<'_>,
+/// The positions of a plan's steps, as far as what is found about it names steps.
+pub(crate) fn named_positions(
+    alloc: Global,
     plan: PlanAt<'_>,
-    missing: &[GroundCond],
-) -> Result<(), AllocError>
-    ensures { judge.new ≡ judge.old }
-{
-    push_name(page, plan);
-    push_goal(page, plan.number, missing.len());
-    let positions = StepPositions::new(page.alloc(), plan.part)?;
-    push_causes(page, judge, plan.file, plan.part, &positions, missing)
+    verdict: &Verdict,
+) -> Result<StepPositions, AllocError> {
+    match verdict {
+        Verdict::Fails { .. } | Verdict::Goal { .. } => StepPositions::new(alloc, plan.part),
+        Verdict::Valid { .. } | Verdict::Unreadable { .. } => Ok(StepPositions::none(alloc)),
+    }
 }
 
-/// Adds which step of a plan fails, and which steps made its conditions false.
-fn push_failed<'a>(
-    page: &mut Page,
-    judge: &mut TextJudge<'_>,
-    library: &mut Library<'a>,
-    plan: PlanAt<'a>,
-    step: usize,
-    why: &Why,
-) -> Result<(), AllocError>
-    ensures { judge.new ≡ judge.old }
-{
-    let positions = StepPositions::new(page.alloc(), plan.part)?;
-    push_failure(page, library, plan, positions.get(step), step, why);
-    let missing = missing_of(why);
-    push_causes(page, judge, plan.file, plan.part, &positions, missing)
-}
-
-/// The conditions that do not hold before a step.
-fn missing_of(why: &Why) -> &[GroundCond] {
-    match why {
-        Why::Missing(missing) => missing.as_slice(),
+/// The conditions that do not hold before the step that fails, or at the end.
+pub(crate) fn missing_of(verdict: &Verdict) -> &[GroundCond] {
+    match verdict {
+        Verdict::Fails {
+            why: Why::Missing(missing),
+            ..
+        } => missing.as_slice(),
+        Verdict::Goal { missing } => missing.as_slice(),
         _ => &[],
     }
 }
@@ -117,9 +94,10 @@ fn push_valid(page: &mut Page, plan: PlanAt<'_>, steps: usize, cost: Cost) {
 }
 
 /// Adds that a plan misses the goal.
-fn push_goal(page: &mut Page, number: usize, missing: usize) {
+fn push_goal(page: &mut Page, plan: PlanAt<'_>, missing: usize) {
+    push_name(page, plan);
     page.say("plan ");
-    page.number(number);
+    page.number(plan.number);
     page.say(" misses the goal: ");
     push_conditions(page, missing);
     page.say(" at the end\n");
@@ -135,11 +113,11 @@ fn push_failure<'a>(
     page: &mut Page,
     library: &mut Library<'a>,
     plan: PlanAt<'a>,
-    position: Option<Position>,
+    positions: &StepPositions,
     number: usize,
     why: &Why,
 ) {
-    let Some(position) = position else {
+    let Some(position) = positions.get(number) else {
         return;
     };
     let step = bytes_at(plan.file.bytes, position.range);

@@ -41,6 +41,13 @@ pub(crate) struct StepPositions {
 }
 
 impl StepPositions {
+    /// No positions.
+    pub(crate) fn none(alloc: Global) -> Self {
+        StepPositions {
+            positions: Vec::new(alloc),
+        }
+    }
+
     /// Finds the steps of a plan that can be read, in one pass.
     pub(crate) fn new(alloc: Global, part: Part<'_>) -> Result<Self, AllocError> {
         let mut positions = Vec::new(alloc);

@@ -27,22 +27,13 @@ pub(crate) fn push_trace(
     text: &[u8],
     most: usize,
 ) -> Result<(), AllocError> {
-    let Some(mut walk) = PlanSteps::new(text) else {
-        return Ok(());
-    };
-    let mut trace = Trace::new(page.alloc(), task);
-    'steps: while walk.count() < most {
-        match walk.next_step() {
-            TextStep::Step { words, key: _ } => {
-                let number = walk.count();
-                trace.read(&words)?;
-                trace.push_step(page, number)?;
-            }
-            TextStep::End => return Ok(()),
-            TextStep::Unreadable { line: _ } => return Ok(()),
+    match PlanSteps::new(text) {
+        Some(mut walk) => {
+            let mut trace = Trace::new(page.alloc(), task);
+            trace.push_steps(page, &mut walk, most)
         }
+        None => Ok(()),
     }
-    Ok(())
 }
 
 impl<'t> Trace<'t> {
@@ -57,6 +48,26 @@ impl<'t> Trace<'t> {
                 None => Cost::NotCounted,
             },
         }
+    }
+
+    /// Adds the steps of a walk until it has come to `most` of them.
+    fn push_steps(
+        &mut self,
+        page: &mut Page,
+        walk: &mut PlanSteps<'_>,
+        most: usize,
+    ) -> Result<(), AllocError> {
+        'steps: while walk.count() < most {
+            match walk.next_step() {
+                TextStep::Step { words, key: _ } => {
+                    self.read(&words)?;
+                    self.push_step(page, walk.count())?;
+                }
+                TextStep::End => return Ok(()),
+                TextStep::Unreadable { line: _ } => return Ok(()),
+            }
+        }
+        Ok(())
     }
 
     /// Reads the words of the next step.

@@ -1,5 +1,5 @@
 use Rattle.std.proofs.Common.{length}
-use Rattle.explanations.proofs.trace.push_trace.Given as goal
+use Rattle.explanations.proofs.trace.Trace.push_steps.Given as goal
 
 abbrev pub decreases-steps : goal.decreases-steps
 decreases-steps l = length l.walk.rest
