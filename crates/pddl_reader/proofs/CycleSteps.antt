@@ -25,7 +25,7 @@ use Rattle.pddl_reader.specs.TypeCycles.{is_under_itself, numbers_cycle, names_c
 use Rattle.pddl_syntax.proofs.Guards.{guard_held}
 use Rattle.pddl_reader.proofs.Through.{through_keeps}
 use Rattle.pddl_reader.proofs.TypeCycles.{tree_without_cycles}
-use Rattle.pddl_reader.proofs.TableSteps.{entry_at}
+use Rattle.strips_task.proofs.NamedEntries.{entry_at}
 use Rattle.pddl_reader.proofs.TypeSteps.{parent_unnamed}
 use Rattle.pddl_reader.proofs.TypeTests.{tree_from, no_cycle}
 

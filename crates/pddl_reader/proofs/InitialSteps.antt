@@ -1,6 +1,8 @@
 -- What the initial literals of a problem give, one equation for each case.
 
-use Rattle.std.proofs.Common.{◌≡◌, ℕ, ◌++◌, Bool, true, false, List, [], ◌∷◌, Option, Some, None, Result, Ok, Err, refl}
+use Rattle.std.proofs.Common.{◌≡◌, ℕ, ◌+◌, ◌++◌, Bool, true, false, List, [], ◌∷◌, Option, Some, None, Result, Ok, Err, length, map, refl, ap, sym, ◌∙◌, append_assoc}
+use Rattle.std.proofs.lemmas.List.{append-nil, length-append, length-map}
+use Rattle.std.specs.Option.{option_and_then}
 use Rattle.strips_task.specs.declared.atoms.Atom.{Atom}
 use Rattle.plan_cost.specs.declared.values.Given.TheVariants.{First, Again, Another}
 use Rattle.plan_cost.specs.Values.{value_of, given_over, with_value}
@@ -11,6 +13,7 @@ use Rattle.pddl_syntax.specs.Syntax.{AtomForm, EqualityForm, AmountForm, ValueFo
 use Rattle.pddl_reader.specs.declared.resolution.initial.InitialState.{InitialState}
 use Rattle.pddl_reader.specs.Declarations.{Known, ground_of}
 use Rattle.pddl_reader.specs.Functions.{Vocabulary, is_not_another, value_given, with_value_of}
+use Rattle.pddl_reader.specs.Rows.{BeginWithAtoms}
 use Rattle.pddl_reader.specs.Problem.{no_initial, with_atom, given_atoms, given_values, with_initial, initial_of}
 
 pub atom_unknown : (atoms : List Atom) (positive : Bool) (atom : Option Atom) → atom ≡ None → with_atom atoms positive atom ≡ None
@@ -97,3 +100,39 @@ unfolding initial_of
 initial_start v ls = refl
 
 pub ruleset initial_steps = (initial_start)
+
+-- one atom more is given
+with_one : (v : Vocabulary) (initial : InitialState) (form : AtomForm) (atom : Atom) → ground_of v.atoms form ≡ Some atom →
+    with_initial v initial (atom_literal true form) ≡ Some (given_atoms initial (initial.atoms ++ atom ∷ []))
+with_one v initial form atom h =
+    one_atom v initial true form (initial.atoms ++ atom ∷ []) (atom_positive initial.atoms true (ground_of v.atoms form) atom h refl)
+
+-- literals that are atoms give these
+through_forms : (v : Vocabulary) (initial : InitialState) (forms : List AtomForm) (atoms : List Atom) (others : List LiteralForm) →
+    map (ground_of v.atoms) forms ≡ map Some atoms →
+    through (with_initial v) (given_atoms initial (initial.atoms ++ atoms)) others ≡ through (with_initial v) initial (map (atom_literal true) forms ++ others)
+unfolding through
+through_forms v initial [] [] others e = rw append-nil refl
+through_forms v initial [] (a ∷ rest) others e = cc
+through_forms v initial (f ∷ fs) [] others e = cc
+through_forms v initial (f ∷ fs) (a ∷ atoms) others e =
+    let head : ground_of v.atoms f ≡ Some a = cc in
+    let rest : map (ground_of v.atoms) fs ≡ map Some atoms = cc in
+    let next = given_atoms initial (initial.atoms ++ a ∷ []) in
+    ap (λ list. through (with_initial v) (given_atoms initial list) others) (sym (append_assoc initial.atoms (a ∷ []) atoms))
+    ∙ through_forms v next fs atoms others rest
+    ∙ ap (option_and_then (λ s. through (with_initial v) s (map (atom_literal true) fs ++ others))) (sym (with_one v initial f a head))
+
+-- literals that begin with atoms give these, and then what the others give
+pub through_atoms : (v : Vocabulary) (initial : InitialState) (literals others : List LiteralForm) (atoms : List Atom) → BeginWithAtoms v.atoms literals atoms others →
+    through (with_initial v) (given_atoms initial (initial.atoms ++ atoms)) others ≡ through (with_initial v) initial literals
+through_atoms v initial literals others atoms begin =
+    through_forms v initial begin.forms atoms others begin.stand_for ∙ ap (through (with_initial v) initial) (sym begin.first)
+
+-- and there are as many literals fewer
+pub atoms_fewer : (known : Known) (literals others : List LiteralForm) (atoms : List Atom) → BeginWithAtoms known literals atoms others →
+    length literals ≡ length atoms + length others
+atoms_fewer known literals others atoms begin =
+    ap length begin.first ∙ length-append (map (atom_literal true) begin.forms) others
+    ∙ ap (λ n. n + length others) (length-map begin.forms (atom_literal true) ∙ sym (length-map begin.forms (ground_of known))
+    ∙ ap length begin.stand_for ∙ length-map atoms (λ (a : Atom). Some a))

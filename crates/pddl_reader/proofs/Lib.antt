@@ -10,10 +10,10 @@ pub mod KeptObjects
 pub mod MoreObjects
 pub mod ExtendedDomains
 pub mod TableSteps
-pub mod NamedEntries
 pub mod VariableMeaning
 pub mod TermSteps
 pub mod AtomSteps
+pub mod RowSteps
 pub mod KeptVariables
 pub mod FittingAtoms
 pub mod KnownTerms
@@ -25,6 +25,5 @@ pub mod WellFormedTasks
 pub mod DomainMeaning
 pub mod ProblemMeaning
 pub mod InitialSteps
-pub mod BatchSteps
 pub mod TextSteps
 pub mod DialectTexts

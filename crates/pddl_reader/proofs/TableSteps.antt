@@ -1,14 +1,11 @@
 -- Names declared in tables and found there, one equation for each case.
 
-use Rattle.std.proofs.Common.{◌≡◌, ℕ, ◌<◌, ◌≤◌, ◌&&◌, Bool, true, false, nat_eq, nat_lt, is_none, is_some, List, length, Option, Some, None, unwrap_or, cond, suc, ◌+◌, [], ◌∷◌, refl, ap, sym, ◌∙◌, subst, arith}
+use Rattle.std.proofs.Common.{◌≡◌, ℕ, ◌<◌, ◌≤◌, ◌&&◌, Bool, true, false, nat_eq, nat_lt, is_none, is_some, List, length, Option, Some, None, refl, ap, ◌∙◌, arith}
 use Rattle.std.proofs.lemmas.Bool.{le-ltb, lt-ltb}
 use Rattle.std.proofs.lemmas.List.{length-map}
 use Rattle.std.proofs.lemmas.Option.{slice_get-map, slice_get_within}
-use Rattle.std.proofs.lemmas.Slice.Eq.{bytes_eq-Decides}
-use Rattle.std.specs.List.{position_from, slice_get}
-use Rattle.std.specs.Map.{keys_of, values_of}
-use Rattle.std.specs.Option.{option_map}
-use Rattle.std.specs.Str.{bytes_eq}
+use Rattle.std.specs.List.{slice_get}
+use Rattle.std.specs.Map.{values_of}
 use Rattle.pddl_words.specs.Words.{folded}
 use Rattle.strips_task.specs.Names.{number_named}
 use Rattle.pddl_syntax.specs.Optional.{guard}
@@ -112,41 +109,7 @@ pub argument_types_at : (predicates : Predicates) (number : ℕ) (name : List �
     slice_get (values_of predicates) number ≡ Some argument_types
 argument_types_at predicates number name argument_types h = rw (slice_get-map (λ (e : List ℕ × List (List ℕ)). e.1) predicates number, h) refl
 
--- the entry with a number that a name has
-entry_from : {V : Type 0} (name : List ℕ) (at number : ℕ) (entries : List (List ℕ × V)) → position_from (bytes_eq name) at (keys_of entries) ≡ Some number →
-    (k : ℕ) × (v : V) × (number ≡ at + k) × (slice_get entries k ≡ Some (name, v))
-entry_from name at number [] h = cc
-entry_from {V} name at number ((key, v) ∷ entries) h = by (entry_from name (at + 1) number entries) (bytes_eq name key) refl h
-  where
-    by : (position_from (bytes_eq name) (at + 1) (keys_of entries) ≡ Some number → ((k : ℕ) × (w : V) × (number ≡ at + 1 + k) × (slice_get entries k ≡ Some (name, w)))) →
-        (test : Bool) → bytes_eq name key ≡ test → cond (bytes_eq name key) (Some at) (position_from (bytes_eq name) (at + 1) (keys_of entries)) ≡ Some number →
-        (k : ℕ) × (w : V) × (number ≡ at + k) × (slice_get ((key, v) ∷ entries) k ≡ Some (name, w))
-    by rest true e k =
-        let same : name ≡ key = (bytes_eq-Decides name key).0 e in
-        let here : Some at ≡ Some number = sym (ap (λ b. cond b (Some at) (position_from (bytes_eq name) (at + 1) (keys_of entries))) e) ∙ k in
-        let first : at ≡ number = cc in
-        (0, v, omega (arith, first), ap (λ n. Some (n, v)) (sym same))
-    by rest false e k =
-        let there = rest (sym (ap (λ b. cond b (Some at) (position_from (bytes_eq name) (at + 1) (keys_of entries))) e) ∙ k) in
-        let far : number ≡ at + 1 + there.0 = there.2 in
-        (suc there.0, there.1, omega (arith, far), there.3)
-
--- the entry with the number of a name has the name
-pub entry_at : {V : Type 0} (entries : List (List ℕ × V)) (name : List ℕ) (number : ℕ) → number_named entries name ≡ Some number →
-    (v : V) × (slice_get entries number ≡ Some (name, v))
-unfolding number_named
-entry_at entries name number h =
-    let found = entry_from name 0 number entries h in
-    let k : ℕ = found.0 in
-    let is : number ≡ 0 + k = found.2 in
-    let same : k ≡ number = omega (arith, is) in
-    (found.1, subst (λ i. slice_get entries i ≡ Some (name, found.1)) same found.3)
-
--- a word that names an entry as it stands is in lower case, as the entry's name is
-pub named_as_written : {V : Type 0} (table : List (List ℕ × V)) (word key : List ℕ) (number : ℕ) (value : V) → number_named table word ≡ Some number →
-    slice_get table number ≡ Some (key, value) → folded key ≡ key → number_named table (folded word) ≡ Some number
-named_as_written {V} table word key number value named is low =
-    let entry = entry_at table word number named in
-    let same : Some (word, entry.0) ≡ Some (key, value) = sym entry.1 ∙ is in
-    let key_is : word ≡ key = ap (λ (o : Option (List ℕ × V)). unwrap_or (option_map (λ e. e.0) o) word) same in
-    ap (number_named table) (ap folded key_is ∙ low ∙ sym key_is) ∙ named
+-- a word in lower case that names an entry names it in any case
+pub named_as_written : {V : Type 0} (table : List (List ℕ × V)) (word : List ℕ) (number : ℕ) → number_named table word ≡ Some number →
+    folded word ≡ word → number_named table (folded word) ≡ Some number
+named_as_written table word number named low = ap (number_named table) low ∙ named

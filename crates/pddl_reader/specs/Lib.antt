@@ -7,6 +7,7 @@ pub mod Variables
 pub mod Declarations
 pub mod Functions
 pub mod Resolved
+pub mod Rows
 pub mod Domain
 pub mod DomainTables
 pub mod Problem

@@ -1,20 +1,19 @@
 //! The third layer: names are looked up, and the domain and the task are made.
 //!
-//! Tables are filled in text order, so that a name's number is its index among those declared. Each look-up is one hash;
-//! the names of initial literals, which are the most numerous, are guessed first.
+//! Tables are filled in text order, so that a name's number is its index among those declared. Most look-ups are one read of memory. Initial atoms,
+//! which are the most numerous, are looked up in rows, as they are written.
 
 pub(crate) mod actions;
 pub(crate) mod atoms;
 pub(crate) mod domain;
 pub(crate) mod functions;
-pub(crate) mod guesses;
-pub(crate) mod hints;
 pub(crate) mod initial;
 pub(crate) mod literals;
 pub(crate) mod names;
 pub(crate) mod objects;
 pub(crate) mod parts;
 pub(crate) mod problem;
+pub(crate) mod rows;
 pub(crate) mod tables;
 pub(crate) mod terms;
 pub(crate) mod types;

@@ -71,7 +71,7 @@ some_behind_left : (after : Option Levels) → IsSome (option_and_then before_le
 some_behind_left None h = cc
 some_behind_left (Some l) h = refl
 
-some_behind_token : (kind : TokenKind) (span : Span) (text : List ℕ) (more : List Piece) → IsSome (levels (token kind span text ∷ more)) → IsSome (levels more)
+pub some_behind_token : (kind : TokenKind) (span : Span) (text : List ℕ) (more : List Piece) → IsSome (levels (token kind span text ∷ more)) → IsSome (levels more)
 unfolding levels
 some_behind_token Word span text more h = some_behind_map (before_word text) (levels more) h
 some_behind_token Left span text more h = some_behind_left (levels more) h

@@ -21,3 +21,4 @@ pub mod Memory
 pub mod FunctionSteps
 pub mod KnownSteps
 pub mod DialectLaws
+pub mod RowSteps

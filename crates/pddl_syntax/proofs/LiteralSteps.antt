@@ -41,7 +41,7 @@ unfolding joined
 is_first None b h = cc
 is_first (Some xs) b h = refl
 
-is_second : (a b : Option (List LiteralForm)) → IsSome (joined a b) → IsSome b
+pub is_second : (a b : Option (List LiteralForm)) → IsSome (joined a b) → IsSome b
 unfolding joined with_front
 is_second None b h = cc
 is_second (Some xs) None h = cc
@@ -53,7 +53,7 @@ formula_left scope none h = refl
 formula_left scope (word w f) h = refl
 formula_left scope (list k f) h = cc
 
-conjuncts_left : (scope : Scope) (f : Trees) → IsSome (conjuncts_of scope f) → literals_in scope f ≡ conjuncts_of scope f
+pub conjuncts_left : (scope : Scope) (f : Trees) → IsSome (conjuncts_of scope f) → literals_in scope f ≡ conjuncts_of scope f
 unfolding literals_in conjuncts_of
 conjuncts_left scope none h = refl
 conjuncts_left scope (word w f) h = cc
@@ -110,7 +110,7 @@ left_and scope (suc depth) w f below h a s =
     let e = and_left scope w f a in
     ap (λ ls. joined ls rest) (conjuncts_left scope f (subst IsSome e here) ∙ sym e)
 
-literal_joined : (l : LiteralForm) (rest : Option (List LiteralForm)) → joined (Some (l ∷ [])) rest ≡ followed_by (Some l) rest
+pub literal_joined : (l : LiteralForm) (rest : Option (List LiteralForm)) → joined (Some (l ∷ [])) rest ≡ followed_by (Some l) rest
 unfolding joined with_front followed_by
 literal_joined l None = refl
 literal_joined l (Some ls) = refl
@@ -221,7 +221,7 @@ absurd_and dialect w f l e h = none_some (literal_of (scope_at dialect context.I
     none_some (Some m) e h = cc
 
 -- an initial atom is a formula, which gives it alone
-initial_formula : (dialect : Dialect) (k : Trees) (l : LiteralForm) → init_item_in dialect k ≡ Some l → formula_in (scope_at dialect context.Initial) k ≡ Some (l ∷ [])
+pub initial_formula : (dialect : Dialect) (k : Trees) (l : LiteralForm) → init_item_in dialect k ≡ Some l → formula_in (scope_at dialect context.Initial) k ≡ Some (l ∷ [])
 unfolding init_item_in formula_in
 initial_formula dialect none l h = cc
 initial_formula dialect (word w f) l h = by (is_and w) refl

@@ -14,5 +14,6 @@ pub mod TypesAhead
 pub mod Presence
 pub mod Reading
 pub mod Forms
+pub mod Rows
 pub mod Remaining
 pub mod Dialects

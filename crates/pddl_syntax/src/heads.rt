@@ -1,9 +1,11 @@
 //! What the first word of a list says about the list.
 
-ghost use Rattle.std.specs.Prelude.{◌≡◌};
+ghost use Rattle.std.specs.Prelude.{◌≡◌, ◌≤◌, length};
+ghost use Rattle.std.specs.List.{prefix_len};
 ghost use Rattle.pddl_words.specs.Words.{is_name};
 ghost use Rattle.pddl_syntax.specs.Keywords.{is_change, is_connective, is_quantifier, is_comparison, is_other_reserved};
 ghost use Rattle.pddl_syntax.specs.Levels.{here};
+ghost use Rattle.pddl_syntax.specs.Rows.{atom_spelled, heads_atom, is_in_word};
 ghost use Rattle.pddl_syntax.specs.Trees.{begins_with_list};
 ghost use Rattle.pddl_syntax.specs.Heads.{is_and, is_dash, is_either, is_keyword, is_term, is_variable, equals_head, has_changes, has_functions, formula_head, literal_head, name_head, reserved_head, domain_section, action_part, problem_section};
 
@@ -374,4 +376,26 @@ fn is_comparison(word: &[u8]) -> bool
         || same_folded(word, b">")
         || same_folded(word, b"<=")
         || same_folded(word, b">=")
+}
+
+/// How many bytes there are before the first space.
+fn first_word_len(row: &[u8]) -> usize
+    ensures run { result ≡ prefix_len is_in_word row.now }
+    ensures within { result ≤ length row.now }
+{
+    row.iter().take_while(|b| **b != b' ').count()
+}
+
+/// Whether the first word of a row is a name that is not reserved. A row of names is then an atom, wherever numbers are not changed.
+#[tactic(auto, unfolding(crate::specs::Rows::heads_atom), using(crate::proofs::RowSteps::first_word))]
+pub(crate) fn heads_atom(row: &[u8]) -> bool
+    ensures { result ≡ heads_atom row.now }
+{
+    match formula_head(&row[..first_word_len(row)]) {
+        FormulaHead::Name => true,
+        FormulaHead::And => false,
+        FormulaHead::Not => false,
+        FormulaHead::Reserved => false,
+        FormulaHead::Other => false,
+    }
 }

@@ -3,14 +3,15 @@
 //! The walk builds no tree. Contracts see it as what is left of each open list, so that a reader's contract can speak of the
 //! trees that it reads.
 
-ghost use Rattle.std.specs.Prelude.{◌≡◌, ◌<◌, ◌^◌, IsSome, IsTrue, None};
+ghost use Rattle.std.specs.Prelude.{◌≡◌, ◌<◌, ◌^◌, IfSome, IsSome, IsTrue, None};
 ghost use Rattle.pddl_words.specs.Words.{is_name};
 ghost use Rattle.pddl_tokens.specs.Tokens.{pieces};
 ghost use Rattle.pddl_syntax.specs.Trees.{begins_with_list, text_fault};
 ghost use Rattle.pddl_syntax.specs.Levels.{here, levels};
 ghost use Rattle.pddl_syntax.specs.Sizes.{ahead};
+ghost use Rattle.pddl_syntax.specs.Rows.{AreNames, ComesNext, PassesRow};
 
-use pddl_tokens::{Cursor, Span, TokenKind};
+use pddl_tokens::{Cursor, Group, Span, TokenKind};
 
 /// A word of a text with its span.
 #[derive(Clone, Copy, Debug)]
@@ -119,6 +120,24 @@ impl<'a> Walk<'a> {
             Item::Text(_) => false,
             Item::Close(_) => false,
         }
+    }
+
+    /// The list that may follow, as the bytes between its parentheses.
+    ///
+    /// These bytes were not read yet. They are the next list only if they are known to be names with a single space between each two.
+    pub(crate) fn next_group(&self) -> Option<Group<'a>>
+        ensures { IfSome result (λ group. ComesNext self.now.cursor group) }
+    {
+        self.cursor.group()
+    }
+
+    /// Steps over the list that follows, which the key of its group must spell.
+    pub(crate) fn pass(&mut self, group: Group<'a>)
+        requires next { ComesNext self.old.cursor group }
+        requires spelled { AreNames group.key.now }
+        ensures { PassesRow group.entry.key.now (here self.old.cursor) (here self.new.cursor) }
+    {
+        self.cursor = group.rest;
     }
 
     /// Steps over the next word, into the next list, or out of the list that the walk is in.

@@ -13,6 +13,7 @@
 
 ghost use Rattle.std.specs.Prelude.{◌≡◌};
 ghost use Rattle.pddl_words.specs.Words.{is_name, is_name_byte};
+ghost use Rattle.pddl_words.specs.SpacedWords.{words_of};
 ghost use Rattle.pddl_words.specs.Kinds.{kind_of_word, is_marked_name, is_same_word};
 ghost use Rattle.std.specs.List.{list_all};
 
@@ -60,6 +61,26 @@ pub fn same_folded(a: &[u8], b: &[u8]) -> bool
     ensures { result ≡ is_same_word a.now b.now }
 {
     a.eq_ignore_ascii_case(b)
+}
+
+/// Whether a row of bytes is names, with a single space between each two. Takes one pass over the bytes.
+pub fn are_names(row: &[u8]) -> bool
+    ensures { result ≡ list_all is_name (words_of row.now) }
+{
+    let mut begins = true;
+    for b in row {
+        if begins {
+            if !b.is_ascii_alphabetic() {
+                return false;
+            }
+            begins = false;
+        } else if *b == b' ' {
+            begins = true;
+        } else if !is_name_byte(*b) {
+            return false;
+        }
+    }
+    !begins
 }
 
 /// Whether the bytes are a mark and then a name.

@@ -1,8 +1,6 @@
 //! A walk over the steps of a plan text, none of which is kept.
 
 ghost use Rattle.std.specs.Prelude.{◌≡◌, ◌<◌, ◌≤◌, ◌^◌, [], ◌∷◌, ◌++◌, length, map, ℕ, List, false, IsTrue, MatchOption, IfSome, IfOk};
-ghost use Rattle.std.specs.List.{list_all};
-ghost use Rattle.pddl_words.specs.SpacedWords.{words_of};
 ghost use Rattle.pddl_words.specs.Words.{is_name, folded};
 ghost use Rattle.pddl_tokens.specs.declared.spans.Span.{Span};
 ghost use Rattle.pddl_tokens.specs.declared.spans.TokenKind.TheVariants.{Left};
@@ -19,6 +17,7 @@ ghost use Rattle.strips_task.specs.declared.steps.TheConstants.{MOST_STEPS};
 use crate::between::read_between;
 use crate::want::{Expected, Want};
 use pddl_tokens::{Cursor, Group, TokenKind, WordKind, line_of, word_kind};
+use pddl_words::are_names;
 use std::alloc::AllocError;
 use std::marker::Model;
 use strips_task::{MOST_STEPS, OpenSteps};
@@ -295,13 +294,6 @@ fn words_inside<'a>(cursor: &Cursor<'a>) -> StepWords<'a>
     let mut inside = cursor.fork();
     let _ = inside.next();
     StepWords { cursor: inside }
-}
-
-/// Whether all words of a row are names.
-fn are_names(row: &[u8]) -> bool
-    ensures { result ≡ list_all is_name (words_of row.now) }
-{
-    row.split(|b| *b == b' ').all(|word| is_name(word))
 }
 
 /// Whether a word is a name.

@@ -24,7 +24,8 @@ use Rattle.pddl_reader.specs.TypeOrder.{TypeNames, TypeParents, numbered, under,
 use Rattle.pddl_reader.proofs.CycleSteps.{put_together}
 use Rattle.reading_laws.proofs.KeptEntries.{put_by, put, IsRoom, all_put, all_accepted}
 use Rattle.reading_laws.proofs.ThroughLists.{through_same, through_append, through_map, through_flat, through_idle, through_behind_one, through_both}
-use Rattle.pddl_reader.proofs.TableSteps.{entry_at, value_numbered, value_unnamed}
+use Rattle.strips_task.proofs.NamedEntries.{entry_at}
+use Rattle.pddl_reader.proofs.TableSteps.{value_numbered, value_unnamed}
 use Rattle.reading_laws.specs.ReadTables.{type_given}
 
 -- the names of the types, and the declared parents

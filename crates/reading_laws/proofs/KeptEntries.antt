@@ -21,8 +21,9 @@ use Rattle.pddl_reader.specs.Tables.{value_at, value_named}
 use Rattle.reading_laws.specs.DeclaredOnce.{is_same_entry}
 use Rattle.reading_laws.proofs.DeclaredTables.{fresh}
 use Rattle.pddl_reader.proofs.KeptObjects.{unnamed_value}
-use Rattle.pddl_reader.proofs.NamedEntries.{entry_numbered}
-use Rattle.pddl_reader.proofs.TableSteps.{entry_at, value_numbered, value_unnamed}
+use Rattle.reading_laws.proofs.NamedEntries.{entry_numbered}
+use Rattle.strips_task.proofs.NamedEntries.{entry_at}
+use Rattle.pddl_reader.proofs.TableSteps.{value_numbered, value_unnamed}
 
 -- an item that passes a test is found by it
 pub passes_at : {A : Type 0} (p : A → Bool) (xs : List A) (n : ℕ) (x : A) → slice_get xs n ≡ Some x → p x ≡ true → list_any p xs ≡ true

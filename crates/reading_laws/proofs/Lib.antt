@@ -1,3 +1,4 @@
+pub mod NamedEntries
 pub mod Guards
 pub mod TextTrees
 pub mod TypedLists

@@ -21,8 +21,8 @@ use Rattle.pddl_syntax.specs.Syntax.{NameGroup}
 use Rattle.pddl_syntax.proofs.Guards.{guard_held}
 use Rattle.pddl_reader.specs.Tables.{value_named}
 use Rattle.pddl_reader.specs.TypeOrder.{TypeNames, counts_as_parent, types_declared, parent_name, parent_number, parents_of, is_tree, ordered, types_of}
-use Rattle.pddl_reader.proofs.NamedEntries.{entry_numbered}
-use Rattle.pddl_reader.proofs.TableSteps.{entry_at}
+use Rattle.reading_laws.proofs.NamedEntries.{entry_numbered}
+use Rattle.strips_task.proofs.NamedEntries.{entry_at}
 use Rattle.pddl_reader.proofs.TypeTests.{tree_from, tree_tested}
 use Rattle.reading_laws.specs.DeclaredOnce.{is_same_entry, group_types, group_parents, AreTypesFrom, AreTypesDeclared}
 use Rattle.reading_laws.specs.ReadTables.{KnownTypes}

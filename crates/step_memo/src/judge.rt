@@ -26,8 +26,12 @@ use strips_judge::{
 };
 use strips_task::StepView;
 
-/// How many atoms besides the initial ones may have numbers while steps are still learned, and kept from one plan to the next.
-pub const MOST_LATER: usize = 32_768;
+/// How many atoms besides the initial ones may have numbers that are kept from one plan to the next, with all that was learned.
+pub const MOST_LATER: usize = 131_072;
+
+/// How many atoms besides the initial ones may have numbers while steps are still learned. A plan that brings up more of them repeats few of its
+/// steps.
+const LATER_TO_LEARN: usize = 32_768;
 
 /// A judge of plans of one task. Contracts see the task and what is kept of the plan that is being judged.
 ///
@@ -163,8 +167,8 @@ impl<'t> Judge<'t> {
     /// Takes the step that a row spells, if its names are known and it is applicable, and otherwise changes no atom. Returns whether it did. Learns a
     /// step that has a code while there is room.
     ///
-    /// Takes a hash and a read of memory for each name and each atom that was used recently, more for others, and memory for what is new. If memory
-    /// runs out, the plan is over.
+    /// Takes one read of memory for most names and for each atom that was used recently, more for others, and memory for what is new. If memory runs
+    /// out, the plan is over.
     pub fn take_row(&mut self, alloc: Global, row: &[u8]) -> Result<bool, AllocError>
         requires { self.old.count < MOST_STEPS }
         ensures task { self.new.task ≡ self.old.task }
@@ -205,7 +209,7 @@ impl<'t> Judge<'t> {
 
     /// Whether steps may be learned: only if known steps are being found, and not too many atoms have numbers.
     fn may_learn(&self) -> bool {
-        self.usage.asks() && self.state.later_len() <= MOST_LATER
+        self.usage.asks() && self.state.later_len() <= LATER_TO_LEARN
     }
 
     /// Takes a step if it is applicable, and otherwise returns why it is not.

@@ -8,6 +8,7 @@ ghost use Rattle.strips_judge.specs.Codes.{code_shown};
 ghost use Rattle.step_memo.specs.Known.{known_at, IsEntry, IsEntryFor};
 
 use crate::room::Room;
+use joined_bytes::are_same;
 use std::alloc::{AllocError, Global};
 use std::hash::{BuildHasher, Hasher};
 use std::marker::Model;
@@ -170,7 +171,7 @@ fn find_entry(
             return None;
         }
         let entry = &entries[number];
-        if entry.hash == hash && key_of(entry, bytes) == key {
+        if entry.hash == hash && are_same(key_of(entry, bytes), key) {
             return Some(number);
         }
         slot = slot.wrapping_add(1);

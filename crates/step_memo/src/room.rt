@@ -7,21 +7,22 @@ pub const MOST_JUDGES: u32 = 32;
 /// The room is divided as if there were at least this many judges, so that a single judge does not take all of it.
 const FEWEST_JUDGES: u32 = 4;
 
-/// How many steps all judges keep. Each takes 48 bytes besides its key and its code, and up to 16 for its slots: 16 MiB.
+/// How many steps all judges keep. Each takes 48 bytes besides its key and its code, and up to 16 for its slots: 16 MiB. With the rooms below, that
+/// is 64 MiB.
 pub const ALL_CODES: usize = 262_144;
 
-/// How many numbers the codes of all judges have, of four bytes each: 16 MiB.
-pub const ALL_NUMBERS: usize = 4_194_304;
+/// How many numbers the codes of all judges have, of four bytes each: 10 MiB.
+pub const ALL_NUMBERS: usize = 2_621_440;
 
-/// How many bytes the keys of all judges have: 20 MiB.
-pub const ALL_KEY_BYTES: usize = 20_971_520;
+/// How many bytes the keys of all judges have: 10 MiB.
+pub const ALL_KEY_BYTES: usize = 10_485_760;
 
-/// How many slots all judges have for recently used atoms, of 16 bytes each: 8 MiB.
+/// How many slots all judges have for recently used atoms, of 16 bytes each: 8 MiB. With each slot they have eight cells for atoms of one or two
+/// objects, of four bytes each: 16 MiB.
 pub const ALL_RECENT_ATOMS: usize = 524_288;
 
-/// How many slots all judges have for recently used names of objects, of 32 bytes each: 8 MiB. They may have as many for names of actions, but
-/// make only as many as they use.
-pub const ALL_RECENT_NAMES: usize = 262_144;
+/// How many slots all judges have for recently used names of objects, and how many for names of actions, of 32 bytes each: 4 MiB for both.
+pub const ALL_RECENT_NAMES: usize = 65_536;
 
 /// How much one judge may keep.
 #[derive(Clone, Copy, Debug)]

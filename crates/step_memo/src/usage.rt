@@ -3,8 +3,8 @@
 /// After how many look-ups that is decided.
 const TRIAL: u32 = 16_384;
 
-/// One look-up in this many must find a step.
-const WORTH: u32 = 4;
+/// One look-up in this many must find a step. To look up a step that is not found takes half as long as to take it by its names.
+const WORTH: u32 = 2;
 
 /// For how many plans no step is looked up if it does not pay: the first time, and at most. Each time there are twice as many as before.
 const FIRST_REST: u32 = 16;

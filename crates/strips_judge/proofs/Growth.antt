@@ -8,8 +8,8 @@ use Rattle.indexmap.specs.IndexSet.{insert_key}
 use Rattle.strips_task.specs.Atom.{atom_eq}
 use Rattle.strips_task.specs.declared.atoms.Atom.{Atom}
 use Rattle.strips_judge.specs.AtomNumbers.{number_in}
-use Rattle.strips_judge.specs.declared.recent.Slot.{Slot}
-use Rattle.strips_judge.specs.Recent.{IsRecent}
+use Rattle.strips_judge.specs.declared.recent.Bucket.{Bucket}
+use Rattle.strips_judge.specs.Recent.{AreRecent}
 use Rattle.strips_judge.specs.NumberedState.{Numbered, KeepsNumbers, Grows, IsRowFor}
 use Rattle.strips_judge.proofs.Numbering.{number_in-first, number_in-none_later, number_in-lt, insert_key-new}
 
@@ -66,8 +66,13 @@ row_for_first first later count old bits kept is long of_bits =
     }
 
 -- what was looked up of late has the same number still
-pub recent_kept : (old new : List Atom) (slots : List Slot) → KeepsNumbers old new → All (IsRecent old) slots → All (IsRecent new) slots
-recent_kept old new slots keeps recent = λ k d lt few. keeps _ _ (recent k d lt few)
+pub recent_kept : (old new : List Atom) (buckets : List Bucket) → KeepsNumbers old new → All (AreRecent old) buckets → All (AreRecent new) buckets
+recent_kept old new buckets keeps recent = λ k d lt. record {
+  first = λ few. keeps _ _ ((recent k d lt).first few);
+  second = λ few. keeps _ _ ((recent k d lt).second few);
+  third = λ few. keeps _ _ ((recent k d lt).third few);
+  fourth = λ few. keeps _ _ ((recent k d lt).fourth few);
+}
 
 -- the row of a state with one atom more, which is false
 pub row_for_more : (first later new : List Atom) (copy : Atom) (count len : ℕ) (old bits : List ℕ) → IsRowFor (first ++ later) old → first ++ new ≡ (first ++ later) ++ copy ∷ []

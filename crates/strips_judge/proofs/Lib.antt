@@ -2,6 +2,7 @@ pub mod Applicable
 pub mod Bound
 pub mod VerdictMeanings
 pub mod NumberedLaws
+pub mod CellLaws
 pub mod CodeLaws
 pub mod Fits
 pub mod Growth
@@ -12,4 +13,3 @@ pub mod StepLaws
 pub mod VerdictLaws
 pub mod NumberedSteps
 pub mod FoundNames
-pub mod ShortWordLaws

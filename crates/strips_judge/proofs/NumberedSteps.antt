@@ -1,40 +1,22 @@
 -- Steps by numbers: one word more, and what the numbers of all words say of a step.
 
-use Rattle.std.proofs.Common.{◌≡◌, ◌<◌, ◌+◌, ℕ, suc, Bool, true, false, cond, ◌&&◌, List, [], ◌∷◌, ◌++◌, Some, None, All, refl, ap, sym, ◌∙◌, length, map, eqb, is_none, slice_get, option_map, option_and_then, arith, true≢false}
-use Rattle.std.specs.List.{list_all, position_from, cons_option, zip}
+use Rattle.std.proofs.Common.{◌≡◌, ◌<◌, ◌+◌, ℕ, suc, Bool, true, false, cond, List, [], ◌∷◌, ◌++◌, Some, None, All, refl, ap, sym, ◌∙◌, length, map, eqb, is_none, slice_get, option_map, option_and_then, arith, true≢false}
+use Rattle.std.specs.List.{position_from, cons_option, zip}
 use Rattle.std.specs.Map.{keys_of, values_of}
 use Rattle.std.specs.Option.{option_or}
 use Rattle.std.specs.Str.{bytes_eq}
-use Rattle.std.proofs.lemmas.Bool.Decides.{nat_tests}
 use Rattle.std.proofs.lemmas.List.Elements.{All-nil, All-cons}
-use Rattle.pddl_words.specs.Words.{is_name, folded}
+use Rattle.pddl_words.specs.Words.{folded}
 use Rattle.strips_task.specs.declared.actions.Action.{Action}
 use Rattle.strips_task.specs.declared.steps.StepText.{StepText}
 use Rattle.strips_task.specs.declared.tasks.TaskParts.{TaskParts}
 use Rattle.strips_task.specs.Names.{number_named}
 use Rattle.strips_task.specs.Steps.{step_of}
-use Rattle.strips_task.proofs.AtomEquality.{both_hold}
+use Rattle.strips_task.proofs.NamedRows.{none_yet}
 use Rattle.strips_judge.specs.declared.verdict.Why.TheVariants.{WrongCount, UnknownObject, WrongType}
 use Rattle.strips_judge.specs.Step.{action_named, objects_named, is_unknown, is_ill_typed, fault, fault_by}
 use Rattle.strips_judge.specs.StepNumbers.{number_by, numbers_named, IsNumbered, AreWithin}
 use Rattle.strips_judge.proofs.Numbering.{index-lt}
-
--- whether there is no number yet
-abbrev pub none_yet : List ℕ → Bool
-none_yet [] = true
-none_yet (number ∷ numbers) = false
-
--- and that is whether there are none
-pub none_yet-length : (numbers : List ℕ) → eqb (length numbers) 0 ≡ none_yet numbers
-none_yet-length [] = refl
-none_yet-length (number ∷ numbers) = grind (arith, nat_tests)
-
--- one name more
-pub names_more : (words : List (List ℕ)) (word : List ℕ) → list_all is_name words ≡ true → is_name word ≡ true → list_all is_name (words ++ word ∷ []) ≡ true
-names_more [] word names is = ap (λ b. b && true) is
-names_more (first ∷ words) word names is =
-    let both = both_hold (is_name first) (list_all is_name words) names in
-    (λ j. both.0 j && names_more words word both.1 is j)
 
 module _ (parts : TaskParts) where
   -- one word more has one number more

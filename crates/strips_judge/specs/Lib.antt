@@ -2,6 +2,7 @@ pub mod Codes
 pub mod Grounding
 pub mod NumberedState
 pub mod AtomNumbers
+pub mod AtomCells
 pub mod State
 pub mod ShortAtoms
 pub mod Recent
@@ -9,6 +10,5 @@ pub mod Step
 pub mod Verdict
 pub mod Validity
 pub mod Laws
-pub mod ShortWords
 pub mod RecentNames
 pub mod StepNumbers

@@ -19,6 +19,7 @@
 #![tactic(auto)]
 
 mod arguments;
+mod atom_cells;
 mod codes;
 mod conditions;
 mod effects;
@@ -30,7 +31,6 @@ mod numbers;
 mod recent;
 mod recent_names;
 mod short_atoms;
-mod short_words;
 mod slot_count;
 mod state;
 mod step_names;

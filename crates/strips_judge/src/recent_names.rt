@@ -7,10 +7,9 @@
 ghost use Rattle.std.specs.Prelude.{◌≡◌, ℕ, List, Option, All, IfOk, IfSome, Some, true};
 ghost use Rattle.pddl_words.specs.Words.{is_name, folded};
 ghost use Rattle.strips_judge.specs.RecentNames.{IsRecentName};
-ghost use Rattle.strips_judge.specs.ShortWords.{IsWord};
 
-use crate::short_words::ShortWord;
 use crate::slot_count::{SlotCount, index_of};
+use joined_bytes::ShortWord;
 use std::alloc::{AllocError, Global};
 use std::marker::Model;
 

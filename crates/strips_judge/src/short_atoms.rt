@@ -26,6 +26,7 @@ pub(crate) struct ShortAtom {
 
 impl ShortAtom {
     /// What is no atom.
+    #[inline(always)]
     pub(crate) fn none() -> ShortAtom
         ensures { result.count ≡ NO_ATOM }
     {
@@ -40,6 +41,7 @@ impl ShortAtom {
     }
 
     /// The atom that a pattern stands for, unless it has more than four objects.
+    #[inline(always)]
     pub(crate) fn of(pattern: &Pattern, objects: &[u16]) -> Option<ShortAtom>
         requires { IsPatternWithin (length objects.now) pattern.now }
         ensures atom { IfSome result (λ atom. atom_of atom ≡ ground objects.now pattern.now) }
@@ -89,7 +91,29 @@ impl ShortAtom {
         self.count <= 4
     }
 
+    /// The number of the predicate.
+    pub(crate) fn pred(self) -> u16
+        ensures { result ≡ self.pred }
+    {
+        self.pred
+    }
+
+    /// How many objects it has.
+    pub(crate) fn count(self) -> u16
+        ensures { result ≡ self.count }
+    {
+        self.count
+    }
+
+    /// The first two objects.
+    pub(crate) fn pair(self) -> (u16, u16)
+        ensures { result ≡ (self.first, self.second) }
+    {
+        (self.first, self.second)
+    }
+
     /// Whether two are the same.
+    #[inline(always)]
     pub(crate) fn is(self, other: ShortAtom) -> bool
         ensures atom { IsTrue result → atom_of self ≡ atom_of other }
         ensures count { IsTrue result → self.count ≡ other.count }
@@ -103,6 +127,7 @@ impl ShortAtom {
     }
 
     /// A hash, which is no secret. Its high bits are the best.
+    #[inline(always)]
     pub(crate) fn hash(self) -> u64 {
         let objects = u64::from(self.first)
             | u64::from(self.second) << 16

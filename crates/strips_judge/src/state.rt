@@ -12,6 +12,7 @@ ghost use Rattle.strips_judge.specs.AtomNumbers.{number_in};
 ghost use Rattle.strips_judge.specs.ShortAtoms.{atom_of};
 ghost use Rattle.strips_judge.specs.State.{is_in, without, with_all};
 
+use crate::atom_cells::AtomCells;
 use crate::grounding::ground;
 use crate::numbers::number_in;
 use crate::recent::RecentAtoms;
@@ -22,12 +23,16 @@ use std::alloc::{AllocError, Global};
 use std::marker::Model;
 use strips_task::{Atom, InitialAtoms, Pattern, Seed};
 
+/// How many cells there may be for each slot for a recently used atom.
+const CELLS_FOR_A_SLOT: usize = 8;
+
 /// A set of ground atoms of a task, each with a number. Contracts see the initial atoms of the task, the atoms that have numbers and the bits.
 #[derive(Drop)]
 pub struct NumberedState<'t> {
     initial: &'t InitialAtoms,
     later: IndexSet<Atom, Seed>,
     bits: Row,
+    cells: AtomCells,
     recent: RecentAtoms,
 }
 
@@ -36,21 +41,23 @@ impl<'t> Model for NumberedState<'t> {
     ghost use Rattle.strips_task.specs.Atom.{atom_eq};
     ghost use Rattle.strips_task.specs.FirstOccurrences.{first_occurrences};
     ghost use Rattle.strips_judge.specs.NumberedState.{Numbered, IsRowFor};
-    ghost use Rattle.strips_judge.specs.Recent.{IsRecent};
+    ghost use Rattle.strips_judge.specs.AtomCells.{AreCells};
+    ghost use Rattle.strips_judge.specs.Recent.{AreRecent};
 
     ghost Value = { Numbered };
 
     ghost view = { λ s. record { initial = s.initial.now; atoms = first_occurrences atom_eq s.initial.now ++ s.later.keys; bits = s.bits } };
 
     ghost invariant = { λ s. IsRowFor (first_occurrences atom_eq s.initial.now ++ s.later.keys) s.bits
-        × All (IsRecent (first_occurrences atom_eq s.initial.now ++ s.later.keys)) s.recent };
+        × AreCells (first_occurrences atom_eq s.initial.now ++ s.later.keys) s.cells
+        × All (AreRecent (first_occurrences atom_eq s.initial.now ++ s.later.keys)) s.recent };
 }
 
 impl NumberedState<'_> {
     /// The state in which the initial atoms are true, and no others. Takes a bit for each of them.
     ///
-    /// At most `most_recent` of the atoms that were looked up are found by one read of memory the next time. That takes up to 16 bytes for each,
-    /// once there are as many.
+    /// At most `most_recent` of the atoms that were looked up are found by one read of memory the next time, and so are atoms that have cells, of
+    /// which there are at most eight times as many. That takes up to 48 bytes for each, once there are as many.
     pub fn new(
         alloc: Global,
         initial: &InitialAtoms,
@@ -63,6 +70,7 @@ impl NumberedState<'_> {
             initial,
             later: IndexSet::with_hasher(alloc, initial.seed()),
             bits: Row::with_first(alloc, initial.distinct_len())?,
+            cells: AtomCells::new(alloc, most_recent.saturating_mul(CELLS_FOR_A_SLOT)),
             recent: RecentAtoms::new(alloc, most_recent),
         })
     }
@@ -98,29 +106,78 @@ impl NumberedState<'_> {
         ensures number { IfOk result (λ number. number ≡ number_in self.old.atoms (ground objects.now pattern.now)) }
         ensures same { self.new ≡ self.old }
     {
-        let short = ShortAtom::of(pattern, objects);
-        if let Some(atom) = short {
-            if let Some(number) = self.recent.find(atom) {
-                return Ok(Some(number));
-            }
+        match self.recall(pattern, objects) {
+            Some(number) => Ok(Some(number)),
+            None => self.look_up_in_tables(pattern, objects, atom),
         }
+    }
+
+    /// The number of the atom that a pattern stands for, if it has one, by the tables of all atoms. Keeps it.
+    #[inline(never)]
+    fn look_up_in_tables(
+        &mut self,
+        pattern: &Pattern,
+        objects: &[u16],
+        atom: &mut Atom,
+    ) -> Result<Option<usize>, AllocError>
+        requires { IsPatternWithin (length objects.now) pattern.now }
+        ensures number { IfOk result (λ number. number ≡ number_in self.old.atoms (ground objects.now pattern.now)) }
+        ensures same { self.new ≡ self.old }
+    {
         ground(pattern, objects, atom)?;
         let Some(number) = self.number_in_tables(atom) else {
             return Ok(None);
         };
-        self.keep(short, number)?;
+        self.keep(pattern, objects, number)?;
         Ok(Some(number))
     }
 
-    /// Keeps the number of an atom that was looked up.
-    fn keep(&mut self, short: Option<ShortAtom>, number: usize) -> Result<(), AllocError>
-        requires { IfSome short (λ atom. number_in self.old.atoms (atom_of atom) ≡ Some number) }
+    /// The number of the atom that a pattern stands for, if it was looked up before and kept.
+    #[inline(always)]
+    fn recall(&self, pattern: &Pattern, objects: &[u16]) -> Option<usize>
+        requires { IsPatternWithin (length objects.now) pattern.now }
+        ensures { IfSome result (λ number. number_in self.now.atoms (ground objects.now pattern.now) ≡ Some number) }
+    {
+        match ShortAtom::of(pattern, objects) {
+            Some(atom) => self.recall_short(atom),
+            None => None,
+        }
+    }
+
+    /// The number of an atom of few objects, if it was looked up before and kept.
+    #[inline(always)]
+    fn recall_short(&self, atom: ShortAtom) -> Option<usize>
+        requires { atom.count ≤ 4 }
+        ensures { IfSome result (λ number. number_in self.now.atoms (atom_of atom) ≡ Some number) }
+    {
+        match self.cells.cell_of(atom) {
+            Some(cell) => self.cells.number_at(cell),
+            None => self.recent.find(atom),
+        }
+    }
+
+    /// Keeps the number of the atom that a pattern stands for.
+    fn keep(&mut self, pattern: &Pattern, objects: &[u16], number: usize) -> Result<(), AllocError>
+        requires within { IsPatternWithin (length objects.now) pattern.now }
+        requires number { number_in self.old.atoms (ground objects.now pattern.now) ≡ Some number }
         ensures { self.new ≡ self.old }
     {
-        if let Some(atom) = short {
-            self.recent.keep(atom, number)?;
+        match ShortAtom::of(pattern, objects) {
+            Some(atom) => self.keep_short(atom, number),
+            None => Ok(()),
         }
-        Ok(())
+    }
+
+    /// Keeps the number of an atom of few objects.
+    fn keep_short(&mut self, atom: ShortAtom, number: usize) -> Result<(), AllocError>
+        requires { number_in self.old.atoms (atom_of atom) ≡ Some number }
+        ensures { self.new ≡ self.old }
+    {
+        self.cells.miss();
+        match self.cells.cell_of(atom) {
+            Some(cell) => self.cells.keep(cell, number),
+            None => self.recent.keep(atom, number),
+        }
     }
 
     /// The number of an atom, if it has one, by the tables of all atoms.
@@ -149,15 +206,29 @@ impl NumberedState<'_> {
         ensures state { state_of self.new ≡ state_of self.old }
         ensures grows { Grows self.old self.new }
     {
-        let short = ShortAtom::of(pattern, objects);
-        if let Some(atom) = short {
-            if let Some(number) = self.recent.find(atom) {
-                return Ok(number);
-            }
+        match self.recall(pattern, objects) {
+            Some(number) => Ok(number),
+            None => self.number_by_tables(alloc, pattern, objects, atom),
         }
+    }
+
+    /// The number of the atom that a pattern stands for, by the tables of all atoms. An atom without a number gets the next one. Keeps it.
+    #[inline(never)]
+    fn number_by_tables(
+        &mut self,
+        alloc: Global,
+        pattern: &Pattern,
+        objects: &[u16],
+        atom: &mut Atom,
+    ) -> Result<usize, AllocError>
+        requires { IsPatternWithin (length objects.now) pattern.now }
+        ensures number { IfOk result (λ number. number_in self.new.atoms (ground objects.now pattern.now) ≡ Some number) }
+        ensures state { state_of self.new ≡ state_of self.old }
+        ensures grows { Grows self.old self.new }
+    {
         ground(pattern, objects, atom)?;
         let number = self.number_for(alloc, atom)?;
-        self.keep(short, number)?;
+        self.keep(pattern, objects, number)?;
         Ok(number)
     }
 

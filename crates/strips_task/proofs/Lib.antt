@@ -3,6 +3,8 @@ pub mod JoinedRanges
 pub mod Numbered
 pub mod AtomEquality
 pub mod NameNumbers
+pub mod NamedEntries
+pub mod NamedRows
 pub mod TypeTrees
 pub mod TypeWalks
 pub mod TypeRows

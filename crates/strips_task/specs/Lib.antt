@@ -16,4 +16,5 @@ pub mod Types
 pub mod WellFormed
 pub mod Within
 pub mod Ranges
+pub mod ShortNames
 pub mod Spelled

@@ -28,6 +28,7 @@ mod ranges;
 mod seed;
 mod seq;
 mod short;
+mod short_names;
 mod step_view;
 mod steps;
 mod table;

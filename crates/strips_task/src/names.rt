@@ -2,7 +2,7 @@
 //!
 //! A name is stored in lower case, since case is not significant in PDDL. Names of up to 22 bytes are kept in the value itself
 //! and take no memory of their own. Names are looked up in tables by a borrowed [`NameKey`], which takes none either.
-ghost use Rattle.std.specs.Prelude.{◌≡◌, List, ℕ, nat_eq, length, IsTrue, IfOk, ◌∷◌, []};
+ghost use Rattle.std.specs.Prelude.{◌≡◌, List, ℕ, nat_eq, length, true, IsTrue, IfOk, ◌∷◌, []};
 ghost use Rattle.std.specs.Str.{bytes_eq};
 ghost use Rattle.std.specs.Hash as fed;
 ghost use Rattle.std.specs.Cmp.Rules.{comparing, hashing};
@@ -19,21 +19,22 @@ use std::marker::Model;
 /// How many bytes of a name fit in the value itself.
 const INLINE: usize = 22;
 
-/// A name in lower case, seen by contracts as the list of its bytes.
+/// A name in lower case, seen by contracts as the list of its bytes. They are always a name of PDDL, which is a letter and then letters, digits,
+/// `-` and `_`.
 #[derive(Debug, Drop)]
 pub struct Name {
     bytes: SmallVec<u8, INLINE>,
 }
 
 impl Model for Name {
-    ghost use Rattle.std.specs.Prelude.{◌≡◌, List, ℕ};
-    ghost use Rattle.pddl_words.specs.Words.{folded};
+    ghost use Rattle.std.specs.Prelude.{List, ℕ};
+    ghost use Rattle.strips_task.specs.Names.{IsStoredName};
 
     ghost Value = { List ℕ };
 
     ghost view = { λ n. n.bytes.items };
 
-    ghost invariant = { λ n. folded n.bytes.items ≡ n.bytes.items };
+    ghost invariant = { λ n. IsStoredName n.bytes.items };
 }
 
 impl Name {
@@ -54,6 +55,7 @@ impl Name {
     pub fn as_bytes(&self) -> &[u8]
         ensures bytes { result.now ≡ self.now }
         ensures in_lower_case { folded self.now ≡ self.now }
+        ensures named { is_name self.now ≡ true }
     {
         self.bytes.as_slice()
     }

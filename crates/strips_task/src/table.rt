@@ -1,35 +1,40 @@
 //! Tables of things that have names: objects, predicates and actions.
 //!
-//! The number of an entry is its index in the table. An entry is found by its number or by the bytes of its name. A look-up hashes the bytes once
-//! and takes no memory.
-ghost use Rattle.std.specs.Prelude.{◌≡◌, ◌+◌, ◌<◌, ℕ, List, [], ◌∷◌, ◌++◌, length, slice_get, IsTrue, IfSome, OnOk, OnErr, IfErr, Some, None};
+//! The number of an entry is its index in the table. An entry is found by its number or by the bytes of its name. A look-up takes no memory. A name
+//! of at most 16 bytes is mostly found by one read of memory, among the short names. For any other word, the bytes are hashed once and compared with
+//! a name elsewhere in memory.
+ghost use Rattle.std.specs.Prelude.{◌≡◌, ◌+◌, ◌<◌, ℕ, List, [], ◌∷◌, ◌++◌, true, length, slice_get, IsTrue, IfSome, OnOk, OnErr, IfErr, Some, None};
+ghost use Rattle.pddl_words.specs.Words.{is_name, folded};
 ghost use Rattle.std.specs.Map.{keys_of, values_of};
 ghost use Rattle.std.specs.Map.Iter.{ShowsInOrder, deref};
 ghost use Rattle.std.specs.Option.{option_copied};
 ghost use Rattle.strips_task.specs.Names.{number_named, are_distinct};
 
+use crate::short_names::ShortNames;
 use crate::{Name, NameKey, Seed};
 use indexmap::IndexMap;
 use indexmap::map::Values;
-use std::alloc::{AllocFailed, Global};
+use joined_bytes::ShortWord;
+use std::alloc::{AllocError, AllocFailed, Global};
 use std::marker::Model;
 
 /// A table from distinct names to values, in the order in which they were inserted. Contracts see the list of its entries.
 #[derive(Debug, Drop)]
 pub struct NameTable<V> {
     entries: IndexMap<Name, V, Seed>,
+    /// The names of at most 16 bytes, or some of them. No answer depends on which.
+    short_names: ShortNames,
 }
 
 impl<V> Model for NameTable<V> {
-    ghost use Rattle.std.specs.Prelude.{List, ℕ, IsTrue};
-    ghost use Rattle.std.specs.Map.{keys_of};
-    ghost use Rattle.strips_task.specs.Names.{are_distinct};
+    ghost use Rattle.std.specs.Prelude.{List, ℕ};
+    ghost use Rattle.strips_task.specs.ShortNames.{IsTable};
 
     ghost Value = { List (List ℕ × V) };
 
     ghost view = { λ t. t.entries.entries };
 
-    ghost invariant = { λ t. IsTrue (are_distinct (keys_of t.entries.entries)) };
+    ghost invariant = { λ t. IsTable t.entries.entries t.short_names };
 }
 
 impl<V> NameTable<V> {
@@ -39,6 +44,7 @@ impl<V> NameTable<V> {
     {
         NameTable {
             entries: IndexMap::with_hasher(alloc, seed),
+            short_names: ShortNames::new(alloc),
         }
     }
 
@@ -55,13 +61,34 @@ impl<V> NameTable<V> {
         self.entries.len()
     }
 
-    /// The number of the entry with a name, by the bytes as they are: a word that is not in lower case has none.
-    /// Takes one hash of the bytes, and no memory.
+    /// The number of the entry with a name, by the bytes as they are: a word that is not in lower case has none. If it has a number, it is a name.
+    /// Takes no memory.
+    #[inline]
     pub fn number_of(&self, word: &[u8]) -> Option<usize>
         ensures number { result ≡ number_named self.now word.now }
         ensures within { IfSome result (λ number. number < length self.now) }
+        ensures named { IfSome result (λ _. (is_name word.now ≡ true) × (folded word.now ≡ word.now)) }
     {
-        self.entries.get_index_of(NameKey { bytes: word })
+        match self.short_names.find(word) {
+            Some(number) => Some(number),
+            None => self.number_among_all(word),
+        }
+    }
+
+    /// The number of the entry with a name, as by `number_of`. Takes one hash of the bytes.
+    fn number_among_all(&self, word: &[u8]) -> Option<usize>
+        ensures number { result ≡ number_named self.now word.now }
+        ensures within { IfSome result (λ number. number < length self.now) }
+        ensures named { IfSome result (λ _. (is_name word.now ≡ true) × (folded word.now ≡ word.now)) }
+    {
+        match self.entries.get_index_of(NameKey { bytes: word }) {
+            Some(number) => {
+                // The word is the name of an entry, which is in lower case.
+                let _name = self.get(number).0.as_bytes();
+                Some(number)
+            }
+            None => None,
+        }
     }
 
     /// The name and the value of the entry with a number.
@@ -100,7 +127,27 @@ impl<V: Drop> NameTable<V> {
         ensures err { OnErr result (self.new ≡ self.old) }
         ensures value_returned { IfErr result (λ failed. failed.value ≡ (name, value)) }
     {
+        match self.short_names.make_room(self.entries.len()) {
+            Ok(()) => self.push_entry(name, value),
+            Err(AllocError) => Err(AllocFailed {
+                value: (name, value),
+            }),
+        }
+    }
+
+    /// Adds an entry, as `push` does, and keeps its name among the short names if they have room for it.
+    fn push_entry(&mut self, name: Name, value: V) -> Result<(), AllocFailed<(Name, V)>>
+        requires new_name { number_named self.old name ≡ None }
+        ensures ok { OnOk result (self.new ≡ self.old ++ (name, value) ∷ []) }
+        ensures err { OnErr result (self.new ≡ self.old) }
+        ensures value_returned { IfErr result (λ failed. failed.value ≡ (name, value)) }
+    {
+        let short = ShortWord::of(name.as_bytes());
+        let number = self.entries.len();
         self.entries.insert(name, value)?;
+        if let Some(short) = short {
+            self.short_names.keep(short, number);
+        }
         Ok(())
     }
 }

@@ -135,7 +135,9 @@ impl Task {
         self.parts.actions.get(usize::from(number)).1
     }
 
-    /// The number of the action with a name, by the bytes as they are: a word that is not in lower case has none. One hash, no memory.
+    /// The number of the action with a name, by the bytes as they are: a word that is not in lower case has none. Takes one
+    /// read of memory for most names of at most 16 bytes ([`NameTable::number_of`]).
+    #[inline]
     pub fn action_named(&self, word: &[u8]) -> Option<u16>
         ensures number { result ≡ number_named self.now.actions word.now }
         ensures within { IfSome result (λ number. number < length self.now.actions) }
@@ -146,7 +148,9 @@ impl Task {
         }
     }
 
-    /// The number of the object with a name, by the bytes as they are: a word that is not in lower case has none. One hash, no memory.
+    /// The number of the object with a name, by the bytes as they are: a word that is not in lower case has none. Takes one
+    /// read of memory for most names of at most 16 bytes ([`NameTable::number_of`]).
+    #[inline]
     pub fn object_named(&self, word: &[u8]) -> Option<u16>
         ensures number { result ≡ number_named self.now.objects word.now }
         ensures within { IfSome result (λ number. number < length self.now.objects) }

@@ -8,7 +8,6 @@ ghost use Rattle.pddl_syntax.specs.Forms.{atom_form};
 ghost use Rattle.pddl_syntax.specs.Reading.{Gives};
 ghost use Rattle.pddl_reader.specs.Resolved.{known_form, parameters_form};
 
-use crate::resolution::guesses::{Guess, NO_GUESS};
 use crate::resolution::names::predicate_number;
 use crate::resolution::tables::Declared;
 use crate::resolution::terms::{fitting_objects, fitting_terms};
@@ -31,29 +30,8 @@ fn argument_types_of(
     predicates.get(usize::from(number)).1.as_slice()
 }
 
-/// The ground atom that an atom of a problem stands for. Its names may be guessed.
-#[tactic(auto, using(crate::proofs::AtomSteps::ground_steps))]
-pub(crate) fn guessed_atom(
-    alloc: Global,
-    known: &Declared<'_>,
-    guess: &Guess,
-    syntax: &AtomSyntax<'_>,
-) -> Result<Atom, ReadFault>
-    ensures { Gives (λ atom. atom) result (ground_of (known_form known.now) (atom_form syntax.now)) }
-{
-    let pred = predicate_number(alloc, known.predicates, guess.predicate, syntax)?;
-    let argument_types = argument_types_of(known.predicates, pred, syntax.terms.len());
-    let args = fitting_objects(
-        alloc,
-        known,
-        argument_types,
-        &guess.objects,
-        syntax.terms.as_slice(),
-    )?;
-    Ok(Atom { pred, args })
-}
-
 /// The ground atom that an atom of a problem stands for.
+#[tactic(auto, using(crate::proofs::AtomSteps::ground_steps))]
 pub(crate) fn ground_atom(
     alloc: Global,
     known: &Declared<'_>,
@@ -61,7 +39,10 @@ pub(crate) fn ground_atom(
 ) -> Result<Atom, ReadFault>
     ensures { Gives (λ atom. atom) result (ground_of (known_form known.now) (atom_form syntax.now)) }
 {
-    guessed_atom(alloc, known, &Guess::none(), syntax)
+    let pred = predicate_number(alloc, known.predicates, syntax)?;
+    let argument_types = argument_types_of(known.predicates, pred, syntax.terms.len());
+    let args = fitting_objects(alloc, known, argument_types, syntax.terms.as_slice())?;
+    Ok(Atom { pred, args })
 }
 
 /// The pattern that an atom of an action stands for.
@@ -75,7 +56,7 @@ pub(crate) fn pattern(
     requires { length parameters.now.names.items ≤ most_variables }
     ensures { Gives (λ pattern. pattern) result (pattern_of (known_form known.now) (parameters_form parameters.now) (atom_form syntax.now)) }
 {
-    let pred = predicate_number(alloc, known.predicates, NO_GUESS, syntax)?;
+    let pred = predicate_number(alloc, known.predicates, syntax)?;
     let argument_types = argument_types_of(known.predicates, pred, syntax.terms.len());
     let terms = fitting_terms(
         alloc,

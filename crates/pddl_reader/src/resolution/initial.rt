@@ -1,29 +1,23 @@
 //! What a problem gives initially: its atoms, and the values of functions.
 
-ghost use Rattle.std.specs.Prelude.{◌≡◌, ◌≤◌, ◌∷◌, ◌++◌, length, MatchResult};
+ghost use Rattle.std.specs.Prelude.{◌≡◌, ◌<◌, ◌≤◌, length, IfOk, IsTrue, OnOk};
 ghost use Rattle.pddl_syntax.specs.Forms.{atom_form, literal_form, value_form};
 ghost use Rattle.pddl_syntax.specs.Optional.{through};
-ghost use Rattle.pddl_syntax.specs.ReadFault.{out_of_memory};
 ghost use Rattle.pddl_syntax.specs.Reading.{Gives, Puts};
 ghost use Rattle.pddl_reader.specs.Declarations.{ground_of};
 ghost use Rattle.pddl_reader.specs.Functions.{with_value_of};
 ghost use Rattle.pddl_reader.specs.Problem.{initial_of, with_atom, with_initial};
-ghost use Rattle.pddl_reader.specs.Parts.{literal_forms};
 ghost use Rattle.pddl_reader.specs.Resolved.{known_form, vocabulary_form};
 
-use crate::resolution::atoms::{ground_atom, guessed_atom};
-use crate::resolution::guesses::{Guess, atoms_guessed, guess_of, guesses};
-use crate::resolution::hints::Hints;
+use crate::resolution::atoms::ground_atom;
 use crate::resolution::literals::unsupported;
+use crate::resolution::rows::{next_atoms, put_atoms};
 use crate::resolution::tables::Declared;
 use crate::resolution::vocabulary::Vocabulary;
 use pddl_syntax::{AtomSyntax, FaultKind, LiteralSyntax, Literals, ReadFault, ValueSyntax};
 use plan_cost::{FunctionValues, Given};
 use std::alloc::{AllocError, Global};
 use strips_task::InitialAtoms;
-
-/// How many literals are read before their names are looked up.
-const BATCH: usize = 32;
 
 /// One initial atom is expected for this many bytes of a problem. Many problems have one for every 20 to 40 bytes.
 const BYTES_FOR_AN_ATOM: usize = 32;
@@ -42,12 +36,11 @@ fn put_atom(
     known: &Declared<'_>,
     atoms: &mut InitialAtoms,
     positive: bool,
-    guess: &Guess,
     atom: &AtomSyntax<'_>,
 ) -> Result<(), ReadFault>
     ensures { Puts result (with_atom atoms.old positive (ground_of (known_form known.now) (atom_form atom.now))) atoms.new }
 {
-    let atom = guessed_atom(alloc, known, guess, atom)?;
+    let atom = ground_atom(alloc, known, atom)?;
     if positive {
         atoms.push(atom)?;
     }
@@ -78,7 +71,6 @@ fn put_initial(
     alloc: Global,
     vocabulary: &Vocabulary<'_>,
     state: &mut InitialState,
-    guess: &Guess,
     literal: &LiteralSyntax<'_>,
 ) -> Result<(), ReadFault>
     ensures { Puts result (with_initial (vocabulary_form vocabulary.now) state.old (literal_form literal.now)) state.new }
@@ -89,7 +81,6 @@ fn put_initial(
             &vocabulary.atoms,
             &mut state.atoms,
             *positive,
-            guess,
             atom,
         ),
         LiteralSyntax::Equality { equality, .. } => Err(unsupported(equality.left.span)),
@@ -100,77 +91,28 @@ fn put_initial(
     }
 }
 
-/// Adds what initial literals give, in their order.
-#[tactic(auto, using(crate::proofs::Through::through_steps, crate::proofs::BatchSteps::form_steps))]
-fn put_guessed(
+/// Adds the atoms that the next literals stand for, as long as these are written as rows and have no fault, up to a batch. Returns whether there
+/// was one. The last argument is room for numbers.
+fn put_rows(
     alloc: Global,
     vocabulary: &Vocabulary<'_>,
+    literals: &mut Literals<'_>,
     state: &mut InitialState,
-    guesses: &[Guess],
-    literals: &[LiteralSyntax<'_>],
-) -> Result<(), ReadFault>
-    ensures { Puts result (through (with_initial (vocabulary_form vocabulary.now)) state.old (literal_forms literals.now)) state.new }
+    numbers: &mut Vec<u16>,
+) -> Result<bool, AllocError>
+    ensures same { OnOk result (through (with_initial (vocabulary_form vocabulary.now)) state.new literals.new
+        ≡ through (with_initial (vocabulary_form vocabulary.now)) state.old literals.old) }
+    ensures fewer { IfOk result (λ some. IsTrue some → length literals.new < length literals.old) }
+    ensures not_more { OnOk result (length literals.new ≤ length literals.old) }
 {
-    'literals: for index in 0..literals.len() {
-        let guess = guess_of(guesses, index);
-        put_initial(alloc, vocabulary, state, &guess, &literals[index])?;
-    }
-    Ok(())
-}
-
-/// Looks up the atoms that literals stand for if the guesses are right, and makes room for the new ones.
-fn make_ready(
-    alloc: Global,
-    atoms: &mut InitialAtoms,
-    guesses: &[Guess],
-    literals: &[LiteralSyntax<'_>],
-) -> Result<(), AllocError>
-    ensures { atoms.new ≡ atoms.old }
-{
-    let guessed = atoms_guessed(alloc, guesses, literals)?;
-    let known = atoms.known(guessed.as_slice());
-    atoms.expect(guessed.len() - known);
-    Ok(())
-}
-
-/// Guesses the names of initial literals, and adds what the literals give.
-fn put_batch(
-    alloc: Global,
-    vocabulary: &Vocabulary<'_>,
-    hints: &Hints,
-    state: &mut InitialState,
-    literals: &[LiteralSyntax<'_>],
-) -> Result<(), ReadFault>
-    ensures { Puts result (through (with_initial (vocabulary_form vocabulary.now)) state.old (literal_forms literals.now)) state.new }
-{
-    let guesses = guesses(alloc, &vocabulary.atoms, hints, literals)?;
-    make_ready(alloc, &mut state.atoms, guesses.as_slice(), literals)?;
-    put_guessed(alloc, vocabulary, state, guesses.as_slice(), literals)
-}
-
-/// A literal with those that follow it, up to a batch.
-#[tactic(auto, using(crate::proofs::BatchSteps::batch_steps))]
-fn batch_from<'a>(
-    alloc: Global,
-    first: LiteralSyntax<'a>,
-    literals: &mut Literals<'a>,
-) -> Result<Vec<LiteralSyntax<'a>>, ReadFault>
-    ensures fewer { length literals.new ≤ length literals.old }
-    ensures taken { MatchResult result (λ batch. literal_form first.entry ∷ literals.old ≡ literal_forms batch.items ++ literals.new) (λ e. e ≡ out_of_memory) }
-{
-    let mut batch = Vec::with_capacity(alloc, BATCH)?;
-    batch.push(first)?;
-    'literals: for _ in 1..BATCH {
-        match literals.next(alloc)? {
-            Some(literal) => batch.push(literal)?,
-            None => return Ok(batch),
-        }
-    }
-    Ok(batch)
+    let atoms = next_atoms(alloc, &vocabulary.atoms, literals, numbers)?;
+    let some = !atoms.is_empty();
+    put_atoms(&mut state.atoms, atoms)?;
+    Ok(some)
 }
 
 /// What the initial literals of a problem of `size` bytes give. No answer depends on the size.
-#[tactic(auto, using(crate::proofs::Through::through_steps, crate::proofs::InitialSteps::initial_steps, crate::proofs::BatchSteps::through_append))]
+#[tactic(auto, using(crate::proofs::Through::through_steps, crate::proofs::InitialSteps::initial_steps))]
 pub(crate) fn initial(
     alloc: Global,
     vocabulary: &Vocabulary<'_>,
@@ -179,16 +121,20 @@ pub(crate) fn initial(
 ) -> Result<InitialState, ReadFault>
     ensures { Gives (λ state. state) result (initial_of (vocabulary_form vocabulary.now) literals.entry) }
 {
-    let hints = Hints::new(alloc, vocabulary.atoms.objects)?;
     let seed = vocabulary.atoms.objects.seed();
     let mut state = InitialState {
         atoms: InitialAtoms::new(alloc, seed),
         values: FunctionValues::new(alloc, seed),
     };
     state.atoms.expect(size / BYTES_FOR_AN_ATOM);
-    'literals: while let Some(first) = literals.next(alloc)? {
-        let batch = batch_from(alloc, first, &mut literals)?;
-        put_batch(alloc, vocabulary, &hints, &mut state, batch.as_slice())?;
+    let mut numbers = Vec::new(alloc);
+    'literals: loop {
+        if put_rows(alloc, vocabulary, &mut literals, &mut state, &mut numbers)? {
+            continue 'literals;
+        }
+        match literals.next(alloc)? {
+            Some(literal) => put_initial(alloc, vocabulary, &mut state, &literal)?,
+            None => return Ok(state),
+        }
     }
-    Ok(state)
 }

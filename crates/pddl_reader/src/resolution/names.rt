@@ -20,7 +20,7 @@ pub(crate) fn name(alloc: Global, word: NameWord<'_>) -> Result<Name, ReadFault>
     Ok(Name::from_word(alloc, word.text)?)
 }
 
-/// The number of the entry that a word names. A word that is written like the entry, in lower case, takes one hash and no memory.
+/// The number of the entry that a word names. A word that is written like the entry, in lower case, takes no memory.
 #[tactic(auto, using(crate::proofs::TableSteps::named_as_written))]
 pub(crate) fn number_of<V>(
     alloc: Global,
@@ -31,40 +31,10 @@ pub(crate) fn number_of<V>(
     ensures within { IfOk result (λ found. IfSome found (λ number. number < length table.now)) }
 {
     if let Some(number) = table.number_of(word) {
-        // The names of the table are in lower case, and so is the word that is one of them.
-        let _name = table.get(number).0.as_bytes();
         return Ok(Some(number));
     }
     let folded = word.to_ascii_lowercase(alloc)?;
     Ok(table.number_of(folded.as_slice()))
-}
-
-/// Whether there is an entry with a number whose name is exactly this word, which is then in lower case.
-#[tactic(auto, using(crate::proofs::NamedEntries::named_steps))]
-pub(crate) fn is_named<V>(table: &NameTable<V>, number: usize, word: &[u8]) -> bool
-    ensures named { IsTrue result → number_named table.now (folded word.now) ≡ Some number }
-    ensures within { IsTrue result → number < length table.now }
-{
-    if number >= table.len() {
-        return false;
-    }
-    table.get(number).0.as_bytes() == word
-}
-
-/// The number of the entry that a word names, as by `number_of`. If the guess is right, it takes one comparison and no hash.
-pub(crate) fn number_near<V>(
-    alloc: Global,
-    table: &NameTable<V>,
-    guess: usize,
-    word: &[u8],
-) -> Result<Option<usize>, ReadFault>
-    ensures number { GivesOption result (number_named table.now (folded word.now)) }
-    ensures within { IfOk result (λ found. IfSome found (λ number. number < length table.now)) }
-{
-    if is_named(table, guess, word) {
-        return Ok(Some(guess));
-    }
-    number_of(alloc, table, word)
 }
 
 /// Whether two names are the same.
@@ -102,19 +72,18 @@ fn takes_terms(predicates: &NameTable<Seq<Alternatives>>, number: usize, count: 
     predicates.get(number).1.len() == count
 }
 
-/// The number of the predicate of an atom, which takes as many terms as the atom has. It may be guessed.
+/// The number of the predicate of an atom, which takes as many terms as the atom has.
 #[tactic(auto, using(crate::proofs::TableSteps::number_steps))]
 pub(crate) fn predicate_number(
     alloc: Global,
     predicates: &NameTable<Seq<Alternatives>>,
-    guess: u16,
     atom: &AtomSyntax<'_>,
 ) -> Result<u16, ReadFault>
     requires { length predicates.now ≤ most_predicates }
     ensures { Gives (λ number. number) result (predicate_number predicates.now (atom_form atom.now)) }
 {
     let word = atom.predicate;
-    let Some(number) = number_near(alloc, predicates, usize::from(guess), word.text)? else {
+    let Some(number) = number_of(alloc, predicates, word.text)? else {
         return Err(ReadFault::new(FaultKind::UnknownName, word.span));
     };
     if !takes_terms(predicates, number, atom.terms.len()) {

@@ -7,79 +7,63 @@ ghost use Rattle.pddl_syntax.specs.Forms.{word_forms};
 ghost use Rattle.pddl_syntax.specs.Reading.{Gives, GivesOption};
 ghost use Rattle.pddl_reader.specs.Resolved.{known_form, parameters_form};
 
-use crate::resolution::guesses::{NO_GUESS, guess_at};
-use crate::resolution::names::number_near;
+use crate::resolution::names::number_of;
 use crate::resolution::tables::Declared;
 use crate::resolution::variables::{ActionParameters, parameter_number};
 use pddl_syntax::{FaultKind, ReadFault, Word, is_variable};
 use std::alloc::Global;
 use strips_task::{Alternatives, NameTable, ShortSeq, Term, object_fits, term_fits};
 
-/// The number of the object that a word names, which may be guessed.
+/// The number of the object that a word names.
 #[tactic(auto, using(crate::proofs::TermSteps::object_steps))]
 fn object_number(
     alloc: Global,
     objects: &NameTable<u16>,
-    guess: u16,
     word: Word<'_>,
 ) -> Result<Option<u16>, ReadFault>
     requires { length objects.now ≤ most_objects }
     ensures { GivesOption result (object_number objects.now word.entry.text.now) }
 {
-    match number_near(alloc, objects, usize::from(guess), word.text)? {
+    match number_of(alloc, objects, word.text)? {
         Some(number) => Ok(Some(number as u16)),
         None => Ok(None),
     }
 }
 
-/// The object that a word names, of whatever type. It may be guessed.
+/// The object that a word names, of whatever type.
 #[tactic(auto, using(crate::proofs::TermSteps::object_steps))]
-fn object_near(
-    alloc: Global,
-    known: &Declared<'_>,
-    guess: u16,
-    word: Word<'_>,
-) -> Result<u16, ReadFault>
+pub(crate) fn object(alloc: Global, known: &Declared<'_>, word: Word<'_>) -> Result<u16, ReadFault>
     ensures { Gives (λ number. number) result (object_number known.now.objects.now word.entry.text.now) }
 {
-    match object_number(alloc, known.objects, guess, word)? {
+    match object_number(alloc, known.objects, word)? {
         Some(number) => Ok(number),
         None => Err(ReadFault::new(FaultKind::UnknownName, word.span)),
     }
 }
 
-/// The object that a word names, of whatever type.
-pub(crate) fn object(alloc: Global, known: &Declared<'_>, word: Word<'_>) -> Result<u16, ReadFault>
-    ensures { Gives (λ number. number) result (object_number known.now.objects.now word.entry.text.now) }
-{
-    object_near(alloc, known, NO_GUESS, word)
-}
-
-/// The object that a word names, if it fits its argument. It may be guessed.
+/// The object that a word names, if it fits its argument.
 #[tactic(auto, using(crate::proofs::TermSteps::fitting_object_steps))]
 fn fitting_object(
     alloc: Global,
     known: &Declared<'_>,
     allowed: &[u16],
-    guess: u16,
     word: Word<'_>,
 ) -> Result<u16, ReadFault>
     ensures { Gives (λ number. number) result (fitting_object (known_form known.now) allowed.now word.entry.text.now) }
 {
-    let number = object_near(alloc, known, guess, word)?;
+    let number = object(alloc, known, word)?;
     if !object_fits(known.parents, known.objects, number, allowed) {
         return Err(ReadFault::new(FaultKind::WrongType, word.span));
     }
     Ok(number)
 }
 
-/// The objects that words name, if each fits its argument. The first of them may be guessed.
+/// The objects that words name, if each fits its argument.
 #[tactic(auto, using(crate::proofs::TermSteps::fitted_steps))]
 pub(crate) fn fitting_objects(
     alloc: Global,
     known: &Declared<'_>,
     argument_types: &[Alternatives],
-    guesses: &[u16],
     words: &[Word<'_>],
 ) -> Result<ShortSeq<u16>, ReadFault>
     requires { length argument_types.now ≡ length words.now }
@@ -87,14 +71,7 @@ pub(crate) fn fitting_objects(
 {
     let mut objects = ShortSeq::new(alloc);
     'argument_types: for index in 0..argument_types.len() {
-        let guess = guess_at(guesses, index);
-        let number = fitting_object(
-            alloc,
-            known,
-            argument_types[index].as_slice(),
-            guess,
-            words[index],
-        )?;
+        let number = fitting_object(alloc, known, argument_types[index].as_slice(), words[index])?;
         objects.push(number)?;
     }
     Ok(objects)

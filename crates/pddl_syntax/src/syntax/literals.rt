@@ -1,19 +1,21 @@
 //! The literals of formulas, effects and initial atoms. Only where they begin is kept, and they are read again one by one.
 
-ghost use Rattle.std.specs.Prelude.{◌≡◌, ◌+◌, ◌<◌, ◌^◌, [], IsSome, Some};
+ghost use Rattle.std.specs.Prelude.{◌≡◌, ◌+◌, ◌<◌, ◌^◌, [], ◌∷◌, true, IfSome, IsSome, Some};
 ghost use Rattle.pddl_syntax.specs.Levels.{here};
 ghost use Rattle.pddl_syntax.specs.Sizes.{ahead};
 ghost use Rattle.pddl_syntax.specs.Reading.{ReadsList};
 ghost use Rattle.pddl_syntax.specs.Remaining.{ReadsNext, TakesNext, literals_in, remaining};
-ghost use Rattle.pddl_syntax.specs.Syntax.{formula_in};
+ghost use Rattle.pddl_syntax.specs.Syntax.{atom_literal, formula_in};
+ghost use Rattle.pddl_syntax.specs.Rows.{AreNames, atom_spelled};
 
 use crate::dialect::Dialect;
 use crate::fault::ReadFault;
-use crate::heads::{Context, Scope, is_and};
+use crate::heads::{Context, Scope, heads_atom, is_and};
 use crate::syntax::LiteralSyntax;
 use crate::syntax::formula::formula;
 use crate::syntax::known::literal;
 use crate::walk::{Item, Walk};
+use pddl_tokens::Group;
 use std::alloc::Global;
 use std::marker::Model;
 
@@ -81,12 +83,94 @@ impl<'a> Literals<'a> {
         }
     }
 
+    /// The next literal as a row of bytes, if it may be an initial atom that is written as names with a single space between each two.
+    pub fn row(&self) -> Option<InitialRow<'a>>
+        ensures { IfSome result (λ row. row.before ≡ self.now) }
+    {
+        if self.depth != 1 {
+            return None;
+        }
+        let Context::Initial = self.scope.context else {
+            return None;
+        };
+        let group = self.walk.next_group()?;
+        if !heads_atom(group.key) {
+            return None;
+        }
+        Some(InitialRow {
+            walk: self.walk.fork(),
+            dialect: self.scope.dialect,
+            group,
+        })
+    }
+
+    /// Passes the next literal, which the words of its row must spell: all of them are names.
+    pub fn pass(&mut self, row: InitialRow<'a>)
+        requires next { row.before ≡ self.old }
+        requires spelled { AreNames row.bytes }
+        ensures { self.old ≡ atom_literal true (atom_spelled row.entry.bytes) ∷ self.new }
+    {
+        *self = row.literals_after();
+    }
+
     /// The next literal, or `None` if none follows. The only fault is running out of memory, and no literal follows it.
     #[tactic(auto, using(crate::proofs::LiteralSteps::next_steps))]
     pub fn next(&mut self, alloc: Global) -> Result<Option<LiteralSyntax<'a>>, ReadFault>
         ensures { TakesNext result self.old self.new }
     {
         next_literal(alloc, &mut self.walk, self.scope, &mut self.depth)
+    }
+}
+
+/// The bytes between the parentheses of a literal, which may be names with a single space between each two.
+///
+/// Only its first word is known to be a name. If all words are, the first is the predicate of an initial atom and the others are its terms.
+#[derive(Drop)]
+pub struct InitialRow<'a> {
+    walk: Walk<'a>,
+    dialect: Dialect,
+    group: Group<'a>,
+}
+
+impl<'a> Model for InitialRow<'a> {
+    ghost use Rattle.std.specs.Prelude.{◌≡◌, [], true, IsSome, unwrap_or};
+    ghost use Rattle.pddl_syntax.specs.declared.heads.Context.TheVariants.{Initial};
+    ghost use Rattle.pddl_syntax.specs.Heads.{scope_at};
+    ghost use Rattle.pddl_syntax.specs.Levels.{here};
+    ghost use Rattle.pddl_syntax.specs.Remaining.{remaining};
+    ghost use Rattle.pddl_syntax.specs.Rows.{ComesNext, RowAhead, heads_atom};
+
+    ghost Value = { RowAhead };
+
+    ghost view = { λ r. record { bytes = r.group.key.now; before = unwrap_or (remaining (scope_at r.dialect Initial) 1 (here r.walk.cursor)) [] } };
+
+    ghost invariant = { λ r. IsSome (remaining (scope_at r.dialect Initial) 1 (here r.walk.cursor)) × ComesNext r.walk.cursor r.group
+        × (heads_atom r.group.key.now ≡ true) };
+}
+
+impl<'a> InitialRow<'a> {
+    /// The bytes.
+    pub fn bytes(&self) -> &'a [u8]
+        ensures { result.now ≡ self.now.bytes }
+    {
+        self.group.key
+    }
+
+    /// The literals after it, if its words are names.
+    fn literals_after(self) -> Literals<'a>
+        requires { AreNames self.bytes }
+        ensures { self.entry.before ≡ atom_literal true (atom_spelled self.entry.bytes) ∷ result }
+    {
+        let mut walk = self.walk;
+        walk.pass(self.group);
+        Literals {
+            walk,
+            scope: Scope {
+                dialect: self.dialect,
+                context: Context::Initial,
+            },
+            depth: 1,
+        }
     }
 }
 

@@ -1,16 +1,17 @@
 //! Problems: a name, and sections in any order, each at most once; `:domain` and `:goal` must be given.
 
-ghost use Rattle.std.specs.Prelude.{◌≡◌, None};
+ghost use Rattle.std.specs.Prelude.{◌≡◌, false, IsTrue, None};
 ghost use Rattle.pddl_syntax.specs.Levels.{here, trees};
 ghost use Rattle.pddl_syntax.specs.Trees.{text_fault};
 ghost use Rattle.pddl_syntax.specs.Reading.{Gives, PassesList, ReadsInto, ReadsList};
 ghost use Rattle.pddl_syntax.specs.Forms.{problem_sections_form, problem_syntax_form};
 ghost use Rattle.pddl_syntax.specs.Syntax.{goal_of, init_item_in, is_problem_section_given, lists_of, no_problem_sections, problem_in, problem_section_by, problem_section_in, problem_sections_of, problem_syntax};
 ghost use Rattle.pddl_syntax.specs.Presence.{are_initial, is_init_item};
+ghost use Rattle.pddl_syntax.specs.Rows.{PassesAtom};
 
 use crate::dialect::Dialect;
 use crate::fault::{FaultKind, ReadFault};
-use crate::heads::{Context, ProblemSection, Scope, problem_section};
+use crate::heads::{Context, ProblemSection, Scope, heads_atom, problem_section};
 use crate::syntax::formula::literal;
 use crate::syntax::lists::{enter_list, expect_word, header, leave_list, lone_name};
 use crate::syntax::literals::{Literals, kept_literals};
@@ -19,6 +20,7 @@ use crate::syntax::typed::{keywords, skip, typed_names};
 use crate::syntax::{ProblemSections, ProblemSyntax};
 use crate::walk::{Item, Walk};
 use pddl_tokens::Span;
+use pddl_words::are_names;
 use std::alloc::Global;
 
 /// Steps over an initial atom, which may be negated, or the value of a function.
@@ -34,12 +36,33 @@ fn init_item(dialect: Dialect, walk: &mut Walk<'_>) -> Result<(), ReadFault>
     }
 }
 
+/// Steps over the initial atom that follows, if it is written as names with a single space between each two. Returns whether it was.
+fn pass_row(walk: &mut Walk<'_>) -> bool
+    ensures atom { IsTrue result → PassesAtom (here walk.old.cursor) (here walk.new.cursor) }
+    ensures other { result ≡ false → here walk.new.cursor ≡ here walk.old.cursor }
+{
+    let Some(group) = walk.next_group() else {
+        return false;
+    };
+    if !heads_atom(group.key) {
+        return false;
+    }
+    if !are_names(group.key) {
+        return false;
+    }
+    walk.pass(group);
+    true
+}
+
 /// Steps over the initial atoms and values.
-#[tactic(auto, using(crate::proofs::ProblemSteps::init_steps))]
+#[tactic(auto, using(crate::proofs::ProblemSteps::init_steps, crate::proofs::RowSteps::atom_steps))]
 fn init_items(dialect: Dialect, walk: &mut Walk<'_>) -> Result<(), ReadFault>
     ensures { PassesList result (are_initial dialect) (here walk.old.cursor) (here walk.new.cursor) }
 {
     'items: loop {
+        if pass_row(walk) {
+            continue 'items;
+        }
         match walk.next() {
             Item::Close(_) => return Ok(()),
             Item::Text(word) => return Err(ReadFault::new(FaultKind::Expected, word.span)),

@@ -1,5 +1,5 @@
 use Rattle.strips_judge.proofs.recent.put_all.Goals as goal
 
-pub loop-slot-preserved : goal.loop-slot-preserved
-loop-slot-preserved c = λ atoms others slots.
-    c.put.ensures atoms (others c.loop-slot.slot-index _ c.loop-slot-test.true) (c.loop-slot.invariant atoms others slots)
+pub loop-bucket-preserved : goal.loop-bucket-preserved
+loop-bucket-preserved c = λ atoms others buckets.
+    c.put_each.ensures atoms (others c.loop-bucket.bucket-index _ c.loop-bucket-test.true) (c.loop-bucket.invariant atoms others buckets)

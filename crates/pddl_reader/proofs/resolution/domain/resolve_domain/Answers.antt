@@ -1,4 +1,5 @@
-use Rattle.std.proofs.Common.{[], refl}
+use Rattle.std.proofs.Common.{[], refl, ◌∙◌}
+use Rattle.std.proofs.lemmas.Result.{err_from_is_err_and}
 use Rattle.std.specs.Map.{keys_of}
 use Rattle.pddl_reader.specs.Domain.{functions_from, predicates_from}
 use Rattle.pddl_syntax.specs.Forms.{domain_syntax_form, predicate_forms}
@@ -23,3 +24,9 @@ assemble-requires c =
 
 pub returns : goal.returns
 returns c = rw (with_head c.args.dialect c.args.syntax.now c.in_ok-head.head c.in_ok-head.ensures, c.assemble.ensures) c.in_ok-tables.ensures
+
+pub returns-in_err-tables : goal.returns-in_err-tables
+returns-in_err-tables c =
+    let p = err_from_is_err_and c.from_residual-in_err-tables.result c.from_residual-in_err-tables.ensures.1 in
+    let e = c.in_err-tables.ensures in
+    rw (p.1, p.2) (e.0, λ k. with_head c.args.dialect c.args.syntax.now c.in_ok-head.head c.in_ok-head.ensures ∙ e.1 k)

@@ -1,4 +1,6 @@
-use Rattle.std.proofs.Common.{List, All, refl, sym, subst, arith}
+use Rattle.std.proofs.Common.{List, All, sym, subst, ap, ◌∙◌}
+use Rattle.joined_bytes.specs.declared.short_words.ShortWord.{ShortWord}
+use Rattle.joined_bytes.specs.ShortWords.{IsWord}
 use Rattle.strips_judge.specs.declared.recent_names.NameSlot.{NameSlot}
 use Rattle.strips_judge.specs.RecentNames.{IsRecentName}
 use Rattle.strips_judge.proofs.recent_names.RecentNames.find.Goals as goal
@@ -11,4 +13,6 @@ returns-then-is c = λ number_of recent.
     let slot : IsRecentName number_of c.in_ok-slot.slot.now =
     subst (IsRecentName number_of) (sym (found.1 c.in_ok-slot.slot.now)) (all c.index_of.result c.in_ok-slot.slot.now found.0)
     in
-    slot (omega (arith, c.if-is.ensures.len refl, c.in_ok-asked.ensures.few)) c.args.word.now (c.if-is.ensures.word refl c.args.word.now c.in_ok-asked.ensures.word)
+    let same = c.is.ensures.0 c.if-is.true in
+    slot (λ none. c.in_ok-asked.ensures.some (sym (ap (λ (short : ShortWord). short.len) same) ∙ none)) c.args.word.now
+    (subst (λ (short : ShortWord). IsWord short c.args.word.now) (sym same) c.in_ok-asked.ensures.word)

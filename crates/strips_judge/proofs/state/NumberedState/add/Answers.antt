@@ -1,9 +1,12 @@
-use Rattle.std.proofs.Common.{arith, ◌≡◌, ◌+◌, ◌++◌, ◌∷◌, [], List, Some, None, refl, subst, sym, ap, ◌∙◌, length, length-append}
+use Rattle.std.proofs.Common.{arith, All, ◌≡◌, ◌+◌, ◌++◌, ◌∷◌, [], List, Some, None, refl, subst, sym, ap, ◌∙◌, length, length-append}
 use Rattle.strips_task.specs.Atom.{atom_eq}
 use Rattle.strips_task.specs.FirstOccurrences.{first_occurrences}
 use Rattle.strips_task.specs.declared.atoms.Atom.{Atom}
+use Rattle.strips_judge.specs.AtomCells.{AreCells}
 use Rattle.strips_judge.specs.AtomNumbers.{number_in}
-use Rattle.strips_judge.specs.NumberedState.{Numbered, Grows, KeepsNumbers, state_of, state_by}
+use Rattle.strips_judge.specs.NumberedState.{Numbered, Grows, IsRowFor, KeepsNumbers, state_of, state_by}
+use Rattle.strips_judge.specs.Recent.{AreRecent}
+use Rattle.strips_judge.proofs.CellLaws.{cells_kept}
 use Rattle.strips_judge.proofs.Growth.{pushed, keeps_more, recent_kept, row_for_more}
 use Rattle.strips_judge.proofs.NumberedLaws.{state_by-push, state_by-same}
 use Rattle.strips_judge.proofs.Numbering.{number_in-push_new}
@@ -51,5 +54,20 @@ invariant_of-self-2 c =
           c.distinct_len.ensures c.len.ensures.len c.in_ok-reserve.ensures.room
           (let both = length-append first c.self.inside.later.keys in omega (arith, c.if-number.false, c.self.invariant.0.countable, both, c.distinct_len.ensures, c.len.ensures.len))
           c.reserve.ensures.same,
-      recent_kept (first ++ c.self.inside.later.keys) (first ++ c.insert.new.self.keys) c.self.inside.recent kept c.self.invariant.1,
+      cells_kept (first ++ c.self.inside.later.keys) (first ++ c.insert.new.self.keys) c.self.inside.cells kept c.self.invariant.1,
+      recent_kept (first ++ c.self.inside.later.keys) (first ++ c.insert.new.self.keys) c.self.inside.recent kept c.self.invariant.2,
+    )
+
+pub invariant_of-self-in_err-insert : goal.invariant_of-self-in_err-insert
+invariant_of-self-in_err-insert c =
+    let first = first_occurrences atom_eq c.self.inside.initial.now in
+    let same : c.self.inside.later.keys ≡ c.insert.new.self.keys = sym c.in_err-insert.ensures.err in
+    subst (λ (l : List Atom). IsRowFor (first ++ l) c.reserve.new.self × AreCells (first ++ l) c.self.inside.cells × All (AreRecent (first ++ l)) c.self.inside.recent) same (
+      record {
+        room = omega (arith, c.self.invariant.0.room, c.reserve.ensures.longer);
+        clear = λ k le. c.reserve.ensures.same k ∙ c.self.invariant.0.clear k le;
+        countable = c.self.invariant.0.countable;
+      },
+      c.self.invariant.1,
+      c.self.invariant.2,
     )

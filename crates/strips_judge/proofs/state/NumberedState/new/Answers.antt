@@ -10,6 +10,7 @@ invariant_of-result c = (
   row_for_none (first_occurrences atom_eq c.args.initial.now) c.with_hasher.result.keys c.distinct_len.result c.in_ok-with_first.field-0
       c.with_hasher.ensures.empty c.distinct_len.ensures (omega arith) c.in_ok-with_first.ensures.first c.in_ok-with_first.ensures.room,
   c.new.ensures _,
+  c.new-2.ensures _,
 )
 
 pub returns-clause-state : goal.returns-clause-state

@@ -7,7 +7,8 @@ use Rattle.std.proofs.lemmas.Iterator.Splits.{YieldsList-from_slice_split}
 use Rattle.pddl_words.specs.SpacedWords.{is_space, words_of}
 use Rattle.pddl_words.specs.Words.{is_name, folded}
 use Rattle.strips_judge.specs.StepNumbers.{number_by, numbers_named}
-use Rattle.strips_judge.proofs.NumberedSteps.{none_yet, none_yet-length, names_more, numbered_more, numbered_within, spelled_numbered}
+use Rattle.strips_task.proofs.NamedRows.{none_yet, none_yet-length, names_more}
+use Rattle.strips_judge.proofs.NumberedSteps.{numbered_more, numbered_within, spelled_numbered}
 use Rattle.strips_judge.proofs.step_names.StepNames.number.Goals as goal
 
 pub loop-word-preserved : goal.loop-word-preserved

@@ -1,14 +1,16 @@
-use Rattle.std.proofs.Common.{ap, ◌∙◌}
-use Rattle.std.proofs.lemmas.Iterator.Adapters.{position_from-zero}
-use Rattle.std.specs.List.{position_from}
-use Rattle.std.specs.Map.{keys_of}
-use Rattle.std.specs.Str.{bytes_eq}
+use Rattle.std.proofs.Common.{ap, ◌∙◌, sym}
 use Rattle.strips_task.specs.Names.{number_named}
+use Rattle.strips_task.proofs.NamedEntries.{number_within}
 use Rattle.strips_task.proofs.table.NameTable.number_of.Goals as goal
 
-pub returns-clause-number : goal.returns-clause-number
-unfolding number_named
-returns-clause-number g c =
-    c.get_index_of.ensures.index
-    ∙ position_from-zero (bytes_eq c.args.word.now) (keys_of c.self.inside.entries.entries)
-    ∙ ap (λ es. position_from (bytes_eq c.args.word.now) 0 (keys_of es)) c.self.view_is
+pub returns-in-Some-clause-number : goal.returns-in-Some-clause-number
+returns-in-Some-clause-number g c =
+    let found = c.in-Some.ensures (number_named c.self.inside.entries.entries) c.self.invariant.numbered in
+    sym found.1 ∙ ap (λ es. number_named es c.args.word.now) c.self.view_is
+
+pub returns-in-Some-clause-within : goal.returns-in-Some-clause-within
+returns-in-Some-clause-within g c = number_within c.args.self.now c.args.word.now c.in-Some.number (sym (returns-in-Some-clause-number g c))
+
+pub returns-in-Some-clause-named : goal.returns-in-Some-clause-named
+returns-in-Some-clause-named g c =
+    let found = c.in-Some.ensures (number_named c.self.inside.entries.entries) c.self.invariant.numbered in (found.0.named, found.0.in_lower_case)

@@ -1,0 +1,2 @@
+pub mod JoinedBytes
+pub mod ShortWords

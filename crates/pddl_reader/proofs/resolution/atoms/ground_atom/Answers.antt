@@ -1,0 +1,19 @@
+use Rattle.std.proofs.lemmas.Result.{err_from_is_err_and}
+use Rattle.pddl_reader.specs.Resolved.{known_form}
+use Rattle.pddl_reader.proofs.AtomSteps.{ground_unfit, ground_fit}
+use Rattle.pddl_reader.proofs.resolution.atoms.ground_atom.Goals as goal
+
+pub returns-in_err-args : goal.returns-in_err-args
+returns-in_err-args c =
+    let p = err_from_is_err_and c.from_residual-in_err-args.result c.from_residual-in_err-args.ensures.1 in
+    let e = c.in_err-args.ensures in
+    rw (p.1, p.2) (
+      e.0,
+      λ k. ground_unfit (known_form c.args.known.now) c.args.syntax.now c.in_ok-pred.pred c.argument_types_of-argument_types.result.now c.in_ok-pred.ensures
+          c.argument_types_of-argument_types.ensures.argument_types (rw (← c.as_slice.ensures) (e.1 k)),
+    )
+
+pub returns : goal.returns
+returns c =
+    ground_fit (known_form c.args.known.now) c.args.syntax.now c.in_ok-pred.pred c.argument_types_of-argument_types.result.now c.in_ok-args.args c.in_ok-pred.ensures
+    c.argument_types_of-argument_types.ensures.argument_types (rw (← c.as_slice.ensures) c.in_ok-args.ensures)

@@ -1,0 +1,12 @@
+use Rattle.std.proofs.Common.{ap, ◌∙◌}
+use Rattle.pddl_syntax.specs.Optional.{through}
+use Rattle.pddl_reader.specs.Problem.{with_initial, given_atoms}
+use Rattle.pddl_reader.specs.Resolved.{vocabulary_form}
+use Rattle.pddl_reader.proofs.InitialSteps.{through_atoms}
+use Rattle.pddl_reader.proofs.resolution.initial.put_rows.Goals as goal
+
+pub returns-clause-same : goal.returns-clause-same
+returns-clause-same c =
+    let vocabulary = vocabulary_form c.args.vocabulary.now in
+    ap (λ atoms. through (with_initial vocabulary) (given_atoms c.args.state.now atoms) c.next_atoms.new.literals) c.in_ok-put_atoms.ensures
+    ∙ through_atoms vocabulary c.args.state.now c.args.literals.now c.next_atoms.new.literals c.in_ok-atoms.atoms.items c.in_ok-atoms.ensures

@@ -1,0 +1,137 @@
+-- The entry of a number, and the numbers of names when an entry is added at the end.
+
+use Rattle.std.proofs.Common.{◌≡◌, ℕ, ◌<◌, Bool, true, false, cond, unwrap_or, ◌+◌, suc, List, [], ◌∷◌, ◌++◌, length, All, Option, None, Some, refl, ap, sym, ◌∙◌, subst, arith, slice_get, zero-add}
+use Rattle.std.specs.List.{position_from}
+use Rattle.std.specs.Map.{keys_of}
+use Rattle.std.specs.Str.{bytes_eq}
+use Rattle.std.proofs.lemmas.List.{map-append}
+use Rattle.std.proofs.lemmas.Option.{slice_get_within}
+use Rattle.std.proofs.lemmas.Slice.Eq.{bytes_eq-Decides}
+use Rattle.std.specs.Option.{option_map}
+use Rattle.pddl_words.specs.Words.{is_name, folded}
+use Rattle.joined_bytes.specs.declared.short_words.ShortWord.{ShortWord}
+use Rattle.joined_bytes.specs.ShortWords.{IsWord}
+use Rattle.joined_bytes.proofs.ShortWordLaws.{one_word}
+use Rattle.strips_task.specs.declared.short_names.Slot.{Slot}
+use Rattle.strips_task.specs.Names.{number_named, IsStoredName}
+use Rattle.strips_task.specs.ShortNames.{IsNumbered, IsTable}
+use Rattle.strips_task.proofs.NameNumbers.{entries_distinct}
+
+-- the entry with a number that a name has
+entry_from : {V : Type 0} (name : List ℕ) (at number : ℕ) (entries : List (List ℕ × V)) → position_from (bytes_eq name) at (keys_of entries) ≡ Some number
+    → (k : ℕ) × (v : V) × (number ≡ at + k) × (slice_get entries k ≡ Some (name, v))
+entry_from name at number [] h = cc
+entry_from {V} name at number ((key, v) ∷ entries) h = by (entry_from name (at + 1) number entries) (bytes_eq name key) refl h
+  where
+    by : (position_from (bytes_eq name) (at + 1) (keys_of entries) ≡ Some number → ((k : ℕ) × (w : V) × (number ≡ at + 1 + k) × (slice_get entries k ≡ Some (name, w))))
+        → (test : Bool) → bytes_eq name key ≡ test → cond (bytes_eq name key) (Some at) (position_from (bytes_eq name) (at + 1) (keys_of entries)) ≡ Some number
+        → (k : ℕ) × (w : V) × (number ≡ at + k) × (slice_get ((key, v) ∷ entries) k ≡ Some (name, w))
+    by rest true e k =
+        let same : name ≡ key = (bytes_eq-Decides name key).0 e in
+        let here : Some at ≡ Some number = sym (ap (λ b. cond b (Some at) (position_from (bytes_eq name) (at + 1) (keys_of entries))) e) ∙ k in
+        let first : at ≡ number = cc in
+        (0, v, omega (arith, first), ap (λ n. Some (n, v)) (sym same))
+    by rest false e k =
+        let there = rest (sym (ap (λ b. cond b (Some at) (position_from (bytes_eq name) (at + 1) (keys_of entries))) e) ∙ k) in
+        let far : number ≡ at + 1 + there.0 = there.2 in
+        (suc there.0, there.1, omega (arith, far), there.3)
+
+-- the entry with the number of a name has the name
+pub entry_at : {V : Type 0} (entries : List (List ℕ × V)) (name : List ℕ) (number : ℕ) → number_named entries name ≡ Some number
+    → (v : V) × (slice_get entries number ≡ Some (name, v))
+unfolding number_named
+entry_at entries name number h =
+    let found = entry_from name 0 number entries h in
+    let k : ℕ = found.0 in
+    let is : number ≡ 0 + k = found.2 in
+    let same : k ≡ number = omega (arith, is) in
+    (found.1, subst (λ i. slice_get entries i ≡ Some (name, found.1)) same found.3)
+
+-- a number that a name has is within
+pub number_within : {V : Type 0} (entries : List (List ℕ × V)) (name : List ℕ) (number : ℕ) → number_named entries name ≡ Some number → number < length entries
+number_within {V} entries name number h = let entry = entry_at entries name number h in slice_get_within entries number (name, entry.0) entry.1
+
+-- a word that has the number of an entry is its name
+pub word_stored : {V : Type 0} (entries : List (List ℕ × V)) (word key : List ℕ) (number : ℕ) (value : V) → number_named entries word ≡ Some number
+    → slice_get entries number ≡ Some (key, value) → folded key ≡ key → is_name key ≡ true → (is_name word ≡ true) × (folded word ≡ word)
+word_stored {V} entries word key number value named at low is =
+    let entry = entry_at entries word number named in
+    let same : Some (word, entry.0) ≡ Some (key, value) = sym entry.1 ∙ at in
+    let key_is : word ≡ key = ap (λ (o : Option (List ℕ × V)). unwrap_or (option_map (λ e. e.0) o) word) same in
+    (ap is_name key_is ∙ is, ap folded key_is ∙ low ∙ sym key_is)
+
+-- the first item that passes a test stays the first one when others follow
+position_more : {A : Type 0} (p : A → Bool) (at number : ℕ) (xs ys : List A) → position_from p at xs ≡ Some number → position_from p at (xs ++ ys) ≡ Some number
+position_more p at number [] ys h = cc
+position_more p at number (x ∷ xs) ys h = by (p x) refl (position_more p (at + 1) number xs ys)
+  where
+    by : (b : Bool) → p x ≡ b → (position_from p (at + 1) xs ≡ Some number → position_from p (at + 1) (xs ++ ys) ≡ Some number)
+        → position_from p at (x ∷ xs ++ ys) ≡ Some number
+    by true is rest =
+        ap (λ b. cond b (Some at) (position_from p (at + 1) (xs ++ ys))) is ∙ sym (ap (λ b. cond b (Some at) (position_from p (at + 1) xs)) is) ∙ h
+    by false is rest =
+        ap (λ b. cond b (Some at) (position_from p (at + 1) (xs ++ ys))) is
+        ∙ rest (sym (ap (λ b. cond b (Some at) (position_from p (at + 1) xs)) is) ∙ h)
+
+-- an item that alone passes a test is found at the end
+position_last : {A : Type 0} (p : A → Bool) (at : ℕ) (xs : List A) (y : A) → position_from p at xs ≡ None → p y ≡ true
+    → position_from p at (xs ++ y ∷ []) ≡ Some (at + length xs)
+position_last p at [] y none is = ap (λ b. cond b (Some at) None) is ∙ ap Some (omega arith)
+position_last p at (x ∷ xs) y none is = by (p x) refl (λ rest. position_last p (at + 1) xs y rest is)
+  where
+    by : (b : Bool) → p x ≡ b → (position_from p (at + 1) xs ≡ None → position_from p (at + 1) (xs ++ y ∷ []) ≡ Some (at + 1 + length xs))
+        → position_from p at (x ∷ xs ++ y ∷ []) ≡ Some (at + suc (length xs))
+    by true e rest = let found : Some at ≡ None = sym (ap (λ b. cond b (Some at) (position_from p (at + 1) xs)) e) ∙ none in cc
+    by false e rest =
+        let far : at + 1 + length xs ≡ at + suc (length xs) = omega arith in
+        ap (λ b. cond b (Some at) (position_from p (at + 1) (xs ++ y ∷ []))) e
+        ∙ rest (sym (ap (λ b. cond b (Some at) (position_from p (at + 1) xs)) e) ∙ none)
+        ∙ ap Some far
+
+-- a name keeps its number when entries follow
+pub named_more : {V : Type 0} (entries more : List (List ℕ × V)) (name : List ℕ) (number : ℕ) → number_named entries name ≡ Some number
+    → number_named (entries ++ more) name ≡ Some number
+unfolding number_named
+named_more entries more name number h =
+    ap (position_from (bytes_eq name) 0) (map-append (λ e. e.0) entries more) ∙ position_more (bytes_eq name) 0 number (keys_of entries) (keys_of more) h
+
+length_keys : {V : Type 0} (entries : List (List ℕ × V)) → length (keys_of entries) ≡ length entries
+length_keys [] = refl
+length_keys (entry ∷ entries) = ap suc (length_keys entries)
+
+-- a new name has the last number
+pub named_last : {V : Type 0} (entries : List (List ℕ × V)) (name : List ℕ) (value : V) → number_named entries name ≡ None
+    → number_named (entries ++ (name, value) ∷ []) name ≡ Some (length entries)
+unfolding number_named
+named_last entries name value new =
+    ap (position_from (bytes_eq name) 0) (map-append (λ e. e.0) entries ((name, value) ∷ []))
+    ∙ position_last (bytes_eq name) 0 (keys_of entries) name new ((bytes_eq-Decides name name).1 refl)
+    ∙ ap Some (zero-add (length (keys_of entries)) ∙ length_keys entries)
+
+-- and so do the names in slots
+pub numbered_more : {V : Type 0} (entries more : List (List ℕ × V)) (slots : List Slot) → All (IsNumbered (number_named entries)) slots
+    → All (IsNumbered (number_named (entries ++ more))) slots
+numbered_more entries more slots all = λ k d within taken word is.
+    let found = all k d within taken word is in
+    (found.0, named_more entries more word _ found.1)
+
+-- a new entry leaves a table a table
+pub table_more : {V : Type 0} (entries more : List (List ℕ × V)) (name : List ℕ) (value : V) (slots : List Slot) → more ≡ entries ++ (name, value) ∷ []
+    → number_named entries name ≡ None → IsTable entries slots → IsTable more slots
+table_more {V} entries more name value slots is new table =
+    subst (λ (es : List (List ℕ × V)). IsTable es slots) (sym is)
+    (let after : IsTable (entries ++ (name, value) ∷ []) slots = record {
+      distinct = entries_distinct entries name value new table.distinct;
+      numbered = numbered_more entries ((name, value) ∷ []) slots table.numbered;
+    }
+    in after)
+
+-- and its name has the last number, whatever word the name's numbers stand for
+pub name_numbered : {V : Type 0} (entries more : List (List ℕ × V)) (name bytes : List ℕ) (value : V) (short : ShortWord) (number : ℕ)
+    → more ≡ entries ++ (name, value) ∷ [] → number_named entries name ≡ None → number ≡ length entries → IsStoredName name → bytes ≡ name → IsWord short bytes
+    → (word : List ℕ) → IsWord short word → IsStoredName word × (number_named more word ≡ Some number)
+name_numbered {V} entries more name bytes value short number is new last stored same short_of word word_of =
+    let word_is : word ≡ name = one_word short word bytes word_of short_of ∙ same in (
+      subst IsStoredName (sym word_is) stored,
+      ap (λ (es : List (List ℕ × V)). number_named es word) is ∙ ap (number_named (entries ++ (name, value) ∷ [])) word_is ∙ named_last entries name value new ∙ ap Some (sym last),
+    )
