@@ -2,7 +2,7 @@
 //!
 //! Word s + 1 is that of slot s: 0 if the slot is unused, 1 if its job waits, 2 if it is out, 3 if it is finished, and 4 if its finding was
 //! emitted. Word 0 is 1 once the bench is shut. No step waits, and none takes memory.
-ghost use Rattle.std.specs.Prelude.{◌≡◌, ◌<◌, ◌≤◌, ◌+◌, ℕ, true, false, IsTrue, [], ◌∷◌, ◌++◌, length, None, MatchOption};
+ghost use Rattle.std.specs.Prelude.{◌≡◌, ◌<◌, ◌≤◌, ◌+◌, true, false, IsTrue, [], ◌∷◌, ◌++◌, length, None, MatchOption};
 ghost use Rattle.intake_rules.specs.Findings.{IsRight};
 ghost use Rattle.intake_rules.specs.Jobs.{AcceptedPlan};
 ghost use Rattle.bench_rule.specs.declared.views.Role.TheVariants.{Worker};

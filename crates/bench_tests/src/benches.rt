@@ -4,9 +4,10 @@ ghost use Rattle.std.specs.Prelude.{◌≡◌, ◌<◌, ◌≤◌, IfSome};
 ghost use Rattle.bench_rule.specs.Views.{HoldsJob};
 ghost use Rattle.judge_bench.specs.Seats.{SitsAt};
 
-use crate::lamp::{is_raised_in_time, lamp_1, light, steps_if_valid};
+use crate::lamp::{discard, is_raised_in_time, lamp_1, light, steps_if_valid};
 use intake_rules::{Finding, Refusal};
 use judge_bench::{Bench, Ended, Gate, Open, Owner, Ticket, WorkFault, WorkerSeat, work};
+use pddl_reader::ReadFault;
 use plan_cost::CostedTask;
 use std::alloc::{AllocError, Global};
 use std::sync::atomic::{AtomicBool, Ordering};
@@ -273,10 +274,17 @@ fn one_step(job: u32) -> Result<Emitted, Refusal> {
     })
 }
 
+/// What one thread sees when it judges plans for the lamp.
+fn one_thread_at_the_lamp(alloc: Global) -> Result<Option<OneThread>, ReadFault> {
+    let task = lamp_1(alloc)?;
+    let seen = one_thread_judges(alloc, &task);
+    discard(task);
+    Ok(seen?)
+}
+
 #[test]
 fn one_thread_has_every_seat(rt: HostRuntime) -> Result<(), Fail> {
-    let task = lamp_1(rt.alloc())?;
-    let seen = one_thread_judges(rt.alloc(), &task)?;
+    let seen = one_thread_at_the_lamp(rt.alloc())?;
     let expected = OneThread {
         submitted: [Ok(0), Ok(1), Err(Refusal::Full)],
         out: 2,
@@ -411,10 +419,23 @@ fn judges_all<G: Gate + Sync>(
     }))
 }
 
+/// What is wrong when two threads judge plans for the lamp.
+fn faults_at_the_lamp<G: Gate + Sync>(
+    rt: &(impl AllocGlobal + Threads + Sync),
+    plans: u32,
+    gate: &G,
+) -> Result<Option<Faults>, ReadFault>
+    requires { plans ≤ 100 }
+{
+    let task = lamp_1(rt.alloc())?;
+    let faults = judges_all(rt, &task, plans, gate);
+    discard(task);
+    Ok(faults?)
+}
+
 #[test]
 fn two_threads_judge_a_hundred_plans(rt: HostRuntime) -> Result<(), Fail> {
-    let task = lamp_1(rt.alloc())?;
-    let faults = judges_all(&rt, &task, 100, &Open)?;
+    let faults = faults_at_the_lamp(&rt, 100, &Open)?;
     assert_eq!(rt; faults, Some(NO_FAULTS));
     Ok(())
 }
@@ -447,7 +468,6 @@ impl Gate for Triangle {
 
 #[test]
 fn who_is_free_takes_the_next_job(rt: HostRuntime) -> Result<(), Fail> {
-    let task = lamp_1(rt.alloc())?;
     for waits_for_both in 0..2 {
         let gate = Triangle {
             waits_for_both,
@@ -457,7 +477,7 @@ fn who_is_free_takes_the_next_job(rt: HostRuntime) -> Result<(), Fail> {
                 AtomicBool::new(false),
             ],
         };
-        let faults = judges_all(&rt, &task, 3, &gate)?;
+        let faults = faults_at_the_lamp(&rt, 3, &gate)?;
         assert_eq!(rt;
             faults,
             Some(NO_FAULTS),
@@ -497,10 +517,17 @@ fn work_before_and_after_shut(
     Ok([(was_shut, idle), (is_shut, ended)])
 }
 
+/// What such a worker sees at a bench for the lamp.
+fn work_at_the_lamp(alloc: Global) -> Result<[(bool, Option<WorkFault>); 2], ReadFault> {
+    let task = lamp_1(alloc)?;
+    let seen = work_before_and_after_shut(alloc, &task);
+    discard(task);
+    Ok(seen?)
+}
+
 #[test]
 fn work_ends_once_the_bench_is_shut(rt: HostRuntime) -> Result<(), Fail> {
-    let task = lamp_1(rt.alloc())?;
-    let seen = work_before_and_after_shut(rt.alloc(), &task)?;
+    let seen = work_at_the_lamp(rt.alloc())?;
     assert_eq!(rt; seen, [(false, Some(WorkFault::Idle)), (true, None)]);
     Ok(())
 }

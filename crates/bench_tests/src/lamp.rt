@@ -28,6 +28,9 @@ pub(crate) fn lamp_1(alloc: Global) -> Result<CostedTask, ReadFault> {
     Ok(CostedTask { task, costs: None })
 }
 
+/// Drops a task. The prover takes some fifteen seconds for each function that drops one, so the others leave it to this one.
+pub(crate) fn discard(_task: CostedTask) {}
+
 /// The plan of the first planner that lights the lamp.
 pub(crate) fn light(alloc: Global) -> Result<Submission, AllocError>
     ensures { IfOk result (λ plan. plan.planner ≡ 0) }

@@ -17,7 +17,7 @@ use crate::steps::Part;
 use crate::trace::push_trace;
 use crate::{Explanation, Options, SourceText};
 use pddl_reader::{Dialect, FaultKind, ReadFault, read_domain_in, read_problem_in};
-use plan_cost::CostedTask;
+use plan_cost::{Assessment, CostedTask};
 use plan_text::{PartEnd, part_from};
 use std::alloc::{AllocError, Global};
 use strips_judge::Verdict;
@@ -307,12 +307,29 @@ fn push_plan<'a>(
     ensures valid { IfOk result (λ valid. valid ≡ is_valid_plan judge.old text.now) }
 {
     let assessment = judge.assess(page.alloc(), text)?;
+    match push_found(page, judge, library, trace, plan, &assessment) {
+        Ok(()) => Ok(is_valid(&assessment.verdict)),
+        Err(AllocError) => Err(AllocError),
+    }
+}
+
+/// Adds what is found about a plan.
+fn push_found<'a>(
+    page: &mut Page,
+    judge: &mut TextJudge<'_>,
+    library: &mut Library<'a>,
+    trace: bool,
+    plan: PlanAt<'a>,
+    assessment: &Assessment,
+) -> Result<(), AllocError>
+    ensures { judge.new ≡ judge.old }
+{
     let verdict = &assessment.verdict;
     if trace {
         push_steps(page, judge.task(), plan, verdict)?;
     }
     let positions = named_positions(page.alloc(), plan, verdict)?;
-    push_assessment(page, library, plan, &positions, &assessment);
+    push_assessment(page, library, plan, &positions, assessment);
     push_causes(
         page,
         judge,
@@ -320,8 +337,7 @@ fn push_plan<'a>(
         plan.part,
         &positions,
         missing_of(verdict),
-    )?;
-    Ok(is_valid(verdict))
+    )
 }
 
 /// Whether a verdict is that the plan is valid.

@@ -1,10 +1,10 @@
 //! The desk: each call asks first whether the rules refuse it, and only then changes the tables.
 ghost use Rattle.std.specs.Arc.{arc_value};
 ghost use Rattle.std.specs.Option.{option_copied};
-ghost use Rattle.std.specs.Prelude.{◌≡◌, ◌≤◌, ◌<◌, ◌++◌, ◌∷◌, [], length, slice_get, Option, None, Some, true, false, IfOk, IfErr, OnErr, MatchResult, vec_len, vec_capacity, replicate, IfSome, slice_set};
+ghost use Rattle.std.specs.Prelude.{◌≡◌, ◌≤◌, ◌<◌, ◌++◌, ◌∷◌, [], length, slice_get, Option, None, Some, true, false, IfOk, IfErr, MatchResult, vec_len, vec_capacity, IfSome, slice_set};
 ghost use Rattle.intake_rules.specs.Findings.{IsRight};
 ghost use Rattle.intake_rules.specs.Intake.{next_job, with_job, with_stage, with_closed, with_emitted, empty_intake};
-ghost use Rattle.intake_rules.specs.Rules.{Event, submit, close, take_job, hand_back, finish, emit, submit_refusal, close_refusal, hand_back_refusal, finish_refusal, emit_reply};
+ghost use Rattle.intake_rules.specs.Rules.{submit, close, take_job, hand_back, finish, emit, submit_refusal, close_refusal, hand_back_refusal, finish_refusal, emit_reply};
 ghost use Rattle.intake_rules.specs.Answers.{submit_reply, close_reply, take_reply, hand_back_reply, finish_reply, emit_answer};
 ghost use Rattle.intake_core.specs.Histories.{GoesOn, Leaves};
 ghost use Rattle.intake_core.specs.Rows.{jobs_in, stages_in, links_in, linked, rests_at, IsReady};

@@ -1,5 +1,5 @@
 //! The workers of a run, each on a thread of its own.
-ghost use Rattle.std.specs.Prelude.{◌≡◌, ◌<◌, ◌≤◌, ◌+◌, ℕ, [], Some, IfSome, OnOk, IfErr, List, length, vec_len, vec_capacity};
+ghost use Rattle.std.specs.Prelude.{◌≡◌, ◌<◌, ◌≤◌, ◌+◌, ℕ, [], Some, IfSome, OnOk, List, length, vec_len, vec_capacity};
 ghost use Rattle.bench_rule.specs.Views.{worker_view};
 ghost use Rattle.judge_bench.specs.Keeping.{with_all_joined, with_all_out, with_more_finished};
 ghost use Rattle.judge_bench.specs.Seats.{SitsAt};

@@ -1,5 +1,5 @@
 //! The seat of a worker.
-ghost use Rattle.std.specs.Prelude.{◌≡◌, ◌<◌, ◌≤◌, ◌+◌, ◌-◌, IsTrue, true, false, length, MatchBool, MatchOption, Option, []};
+ghost use Rattle.std.specs.Prelude.{◌≡◌, ◌<◌, ◌≤◌, ◌+◌, ◌-◌, IsTrue, true, length, MatchBool, MatchOption, Option, []};
 ghost use Rattle.intake_rules.specs.Findings.{IsRight};
 ghost use Rattle.bench_rule.specs.Views.{HoldsJob, with_finished, with_handed_back, with_miss, with_note, with_taken, worker_view};
 ghost use Rattle.bench_rule.specs.declared.views.Role.TheVariants.{Worker};

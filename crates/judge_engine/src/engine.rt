@@ -2,7 +2,7 @@
 //!
 //! [`judge_bytes`] reads the domain and the problem, cuts the planners' files into plans, has these read and judged on several threads, and
 //! makes the whole report. Its contract says that the report is the stated function of the bytes that came in, for any number of threads.
-ghost use Rattle.std.specs.Prelude.{◌≡◌, ◌≢◌, ◌↔◌, ◌+◌, ◌<◌, ◌≤◌, ◌^◌, [], ℕ, List, length, map, IfOk, IfErr, Some, None, Err, MatchOption};
+ghost use Rattle.std.specs.Prelude.{◌≡◌, ◌≢◌, ◌↔◌, ◌+◌, ◌<◌, ◌≤◌, ℕ, length, map, IfOk, IfErr, Some, None, Err};
 ghost use Rattle.judge_bench.specs.Findings.{findings_of};
 ghost use Rattle.pddl_syntax.specs.declared.fault.ReadFault as read_fault;
 ghost use Rattle.pddl_syntax.specs.Trees.{text_fault};

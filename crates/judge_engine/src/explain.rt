@@ -1,5 +1,5 @@
 //! The command `explain`: reads the files that it names, and explains them.
-ghost use Rattle.std.specs.Prelude.{◌≡◌, ◌≤◌, List, true, map, length, IfOk};
+ghost use Rattle.std.specs.Prelude.{◌≡◌, List, true, map, IfOk};
 ghost use Rattle.explanations.specs.AllValid.{all_valid_for, task_in};
 ghost use Rattle.judge_engine.specs.Run.{AreAllValidOver, AreTexts, file_named};
 

@@ -2,7 +2,7 @@
 //!
 //! [`Sources`] gives the text of a file; [`Files`] does so for the real ones. A file is read through an [`Inlet`], at most one byte past
 //! the limit, so that a run can say that it is too large, and a pipe is read like any file.
-ghost use Rattle.std.specs.Prelude.{◌≡◌, ◌↔◌, ◌+◌, ◌≤◌, ◌||◌, ⊤, ℕ, Bool, true, false, List, Option, length, take, IfOk, IfErr, IfSome, OnOk};
+ghost use Rattle.std.specs.Prelude.{◌≡◌, ◌↔◌, ◌+◌, ◌≤◌, ◌||◌, ⊤, ℕ, Bool, true, false, List, Option, length, take, IfOk, IfSome};
 ghost use Rattle.std.specs.Io.KnownBytes.{ReadConsumes, Consumes, IsAtEnd};
 ghost use Rattle.judge_engine.specs.Inlet.{get_fails};
 ghost use Rattle.judge_engine.specs.declared.inlet.InFault.TheVariants.{Unreadable, OutOfMemory};

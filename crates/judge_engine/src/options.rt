@@ -1,7 +1,7 @@
 //! The dialect and the format that the words of a command line name.
-ghost use Rattle.std.specs.Prelude.{◌≡◌, map, codes};
+ghost use Rattle.std.specs.Prelude.{◌≡◌, map};
 ghost use Rattle.std.specs.String.{string_bytes};
-ghost use Rattle.judge_engine.specs.Command.{dialect_asked, dialect_named, dialect_or_default, format_asked, format_named, format_or_default};
+ghost use Rattle.judge_engine.specs.Command.{dialect_asked, dialect_named, format_asked, format_named};
 
 use command_words::value_of;
 use pddl_reader::Dialect;

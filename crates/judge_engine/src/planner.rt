@@ -1,6 +1,5 @@
 //! What a report says about one planner: what was found about its plans, how many of them are valid, and the best of these.
 ghost use Rattle.std.specs.Prelude.{◌≡◌, ◌++◌, ◌<◌, ◌≤◌, [], length, map, slice_index_or, OnOk};
-ghost use Rattle.plan_cost.specs.Costs.{cost_answer};
 ghost use Rattle.report_text.specs.Format.{planner_text};
 ghost use Rattle.report_text.specs.Report.{as_judged, defined_cost, least_cost, steps_if_valid};
 ghost use Rattle.judge_engine.specs.Tally.{lesser, tally_over, tally_with};

@@ -1,5 +1,5 @@
 //! The lines of a replay: what an intake answered, one answer on each line.
-ghost use Rattle.std.specs.Prelude.{◌≡◌, ◌++◌, ◌∷◌, [], ℕ, List, IfOk, OnOk, codes, decimal};
+ghost use Rattle.std.specs.Prelude.{◌≡◌, ◌++◌, IfOk, OnOk, codes, decimal};
 ghost use Rattle.intake_rules.specs.Refusals.{refusal_word};
 ghost use Rattle.judge_engine.specs.ReplayText.{refusal_number, reply_text, reply_line, reply_lines};
 

@@ -1,6 +1,6 @@
 //! Runs with gates that hold jobs. That several threads really judge at once is shown by a gate where two jobs wait for each other.
 
-ghost use Rattle.std.specs.Prelude.{◌≡◌, ◌≤◌};
+ghost use Rattle.std.specs.Prelude.{◌≤◌};
 
 use crate::fixtures::{LAMP, LAMP_1, is_raised_in_time};
 use judge_bench::{Gate, Open};

@@ -38,10 +38,12 @@ fn hash_of_dark(rt: &impl AllocGlobal, seed: Seed) -> Result<u64, ReadFault> {
     let domain = read_domain(rt.alloc(), seed, LAMP)?;
     let task = read_problem(rt.alloc(), domain, LAMP_1)?;
     let atoms = task.initial_atoms();
-    if atoms.len() == 0 {
-        return Ok(0);
-    }
-    Ok(atoms.seed().hash_one(atoms.get(0)))
+    let hash = if atoms.len() == 0 {
+        0
+    } else {
+        atoms.seed().hash_one(atoms.get(0))
+    };
+    Ok(hash)
 }
 
 /// The report of a planner with two plans, of which the second fails.

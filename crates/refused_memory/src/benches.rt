@@ -5,7 +5,7 @@ ghost use Rattle.judge_bench.specs.Seats.{SitsAt};
 
 use crate::desks::is_valid;
 use crate::seen::Seen;
-use crate::tasks::{lamp, light};
+use crate::tasks::{discard, lamp, light};
 use judge_bench::{Bench, Ended, Open, Owner, WorkFault, work};
 use plan_cost::CostedTask;
 use std::alloc::{AllocError, Global};
@@ -16,21 +16,39 @@ use submitted_plan::SubmittedPlan;
 /// A bench is made.
 pub(crate) fn bench_row(alloc: Global) -> Seen {
     match lamp(alloc) {
-        Ok(task) => match Bench::make(alloc, &task, 1, 2) {
-            Ok((bench, owner)) => Seen::whole_if(bench.slots() == 2 && owner.seats_out() == 0),
-            Err(AllocError) => Seen::Refused,
-        },
+        Ok(task) => {
+            let seen = made(alloc, &task);
+            discard(task);
+            seen
+        }
         Err(seen) => seen,
+    }
+}
+
+/// Makes a bench. Whether it has its slots, and no seat is out.
+fn made(alloc: Global, task: &CostedTask) -> Seen {
+    match Bench::make(alloc, task, 1, 2) {
+        Ok((bench, owner)) => Seen::whole_if(bench.slots() == 2 && owner.seats_out() == 0),
+        Err(AllocError) => Seen::Refused,
     }
 }
 
 /// A worker judges two plans.
 pub(crate) fn work_row(alloc: Global) -> Seen {
     match lamp(alloc) {
-        Ok(task) => match light(alloc) {
-            Ok(plan) => work_on(alloc, &task, &plan),
-            Err(seen) => seen,
-        },
+        Ok(task) => {
+            let seen = light_and_work(alloc, &task);
+            discard(task);
+            seen
+        }
+        Err(seen) => seen,
+    }
+}
+
+/// A worker judges two plans for this task.
+fn light_and_work(alloc: Global, task: &CostedTask) -> Seen {
+    match light(alloc) {
+        Ok(plan) => work_on(alloc, task, &plan),
         Err(seen) => seen,
     }
 }

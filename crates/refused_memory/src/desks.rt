@@ -1,7 +1,7 @@
 //! A desk that is made, and steps that are replayed.
 
 use crate::seen::Seen;
-use crate::tasks::{Found, found_in, lamp};
+use crate::tasks::{Found, discard, found_in, lamp};
 use crate::texts::STEPS;
 use intake_core::{Desk, Finding, Refusal, ReplayFault, Reply, StepsToRun, replay};
 use plan_cost::CostedTask;
@@ -11,23 +11,41 @@ use steps_text::{StepsRefusal, read_steps};
 /// A desk is made.
 pub(crate) fn desk_row(alloc: Global) -> Seen {
     match lamp(alloc) {
-        Ok(task) => match Desk::make(alloc, &task, 1, 2) {
-            Ok(desk) => Seen::whole_if(desk.job(0).is_none()),
-            Err(AllocError) => Seen::Refused,
-        },
+        Ok(task) => {
+            let seen = made(alloc, &task);
+            discard(task);
+            seen
+        }
         Err(seen) => seen,
+    }
+}
+
+/// Makes a desk. Whether it has no job.
+fn made(alloc: Global, task: &CostedTask) -> Seen {
+    match Desk::make(alloc, task, 1, 2) {
+        Ok(desk) => Seen::whole_if(desk.job(0).is_none()),
+        Err(AllocError) => Seen::Refused,
     }
 }
 
 /// Steps are read and replayed.
 pub(crate) fn replay_row(alloc: Global) -> Seen {
     match lamp(alloc) {
-        Ok(task) => match read_steps(alloc, STEPS) {
-            Ok(read) => replayed(alloc, &task, read.steps),
-            Err(StepsRefusal::OutOfMemory) => Seen::Refused,
-            Err(StepsRefusal::Fault(_)) => Seen::Wrong,
-        },
+        Ok(task) => {
+            let seen = read_and_replayed(alloc, &task);
+            discard(task);
+            seen
+        }
         Err(seen) => seen,
+    }
+}
+
+/// Reads steps and replays them.
+fn read_and_replayed(alloc: Global, task: &CostedTask) -> Seen {
+    match read_steps(alloc, STEPS) {
+        Ok(read) => replayed(alloc, task, read.steps),
+        Err(StepsRefusal::OutOfMemory) => Seen::Refused,
+        Err(StepsRefusal::Fault(_)) => Seen::Wrong,
     }
 }
 

@@ -2,9 +2,9 @@
 //!
 //! Each row first makes what its calls need, and then makes the calls if `makes_calls` is set. After the set-up all memory can be refused.
 
-use crate::programs::Page;
+use crate::page::Page;
 use crate::seen::{Seen, of_engine};
-use crate::tasks::blocks;
+use crate::tasks::{blocks, discard};
 use crate::texts::{BOTH, LAMP, LAMP_1, LIGHT, LIGHT_TWICE, REPLIES, STEPS};
 use intake_core::Refusal;
 use judge_engine::Seed;
@@ -21,11 +21,18 @@ use strips_judge::Task;
 /// What is asked of a task.
 pub(crate) fn task_row(alloc: Global, makes_calls: bool) -> Seen {
     match blocks(alloc) {
-        Ok(task) => Seen::whole_if(
-            !makes_calls || reads_names(&task) && reads_object(&task) && reads_action(&task),
-        ),
+        Ok(task) => {
+            let is_right = !makes_calls || reads_blocks(&task.task);
+            discard(task);
+            Seen::whole_if(is_right)
+        }
         Err(seen) => seen,
     }
+}
+
+/// Whether a task is that of its texts.
+fn reads_blocks(task: &Task) -> bool {
+    reads_names(task) && reads_object(task) && reads_action(task)
 }
 
 /// Whether a task has the names and the numbers of things that its texts have.
@@ -131,6 +138,6 @@ pub(crate) fn report_row(alloc: Global, makes_calls: bool) -> Seen {
 
 /// Whether a report is written whole.
 fn is_written(report: &Report) -> bool {
-    let mut page = Page::new(REPLIES, REPLIES);
+    let mut page = Page::new(REPLIES);
     report.bytes() == REPLIES && write_report(report, &mut page).is_ok() && page.is_whole()
 }

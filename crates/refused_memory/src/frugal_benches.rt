@@ -7,7 +7,7 @@ ghost use Rattle.judge_bench.specs.Seats.{SitsAt};
 
 use crate::benches::{emits, submits, submits_twice};
 use crate::seen::Seen;
-use crate::tasks::{lamp, light};
+use crate::tasks::{discard, lamp, light};
 use intake_core::{Finding, Refusal};
 use judge_bench::{Bench, Owner, Ticket, WorkerSeat};
 use plan_cost::CostedTask;
@@ -19,10 +19,19 @@ use submitted_plan::SubmittedPlan;
 /// What the owner of a bench asks, once it took a job and judged it.
 pub(crate) fn owner_row(alloc: Global, makes_calls: bool) -> Seen {
     match lamp(alloc) {
-        Ok(task) => match light(alloc) {
-            Ok(plan) => with_owner(alloc, &task, &plan, makes_calls),
-            Err(seen) => seen,
-        },
+        Ok(task) => {
+            let seen = light_for_owner(alloc, &task, makes_calls);
+            discard(task);
+            seen
+        }
+        Err(seen) => seen,
+    }
+}
+
+/// Makes a plan for the owner.
+fn light_for_owner(alloc: Global, task: &CostedTask, makes_calls: bool) -> Seen {
+    match light(alloc) {
+        Ok(plan) => with_owner(alloc, task, &plan, makes_calls),
         Err(seen) => seen,
     }
 }
@@ -129,10 +138,19 @@ fn hands_back(bench: &Bench, owner: &mut Owner) -> bool
 /// What a worker asks of a bench, once it took a job and judged it.
 pub(crate) fn seat_row(alloc: Global, makes_calls: bool) -> Seen {
     match lamp(alloc) {
-        Ok(task) => match light(alloc) {
-            Ok(plan) => with_seat(alloc, &task, &plan, makes_calls),
-            Err(seen) => seen,
-        },
+        Ok(task) => {
+            let seen = light_for_worker(alloc, &task, makes_calls);
+            discard(task);
+            seen
+        }
+        Err(seen) => seen,
+    }
+}
+
+/// Makes a plan for a worker.
+fn light_for_worker(alloc: Global, task: &CostedTask, makes_calls: bool) -> Seen {
+    match light(alloc) {
+        Ok(plan) => with_seat(alloc, task, &plan, makes_calls),
         Err(seen) => seen,
     }
 }

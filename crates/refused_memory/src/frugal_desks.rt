@@ -1,11 +1,11 @@
 //! The calls that take no memory, at a desk.
 
-ghost use Rattle.std.specs.Prelude.{◌≡◌, IfOk};
+ghost use Rattle.std.specs.Prelude.{◌≡◌};
 ghost use Rattle.intake_rules.specs.Findings.{IsRight};
 
 use crate::desks::is_valid;
 use crate::seen::Seen;
-use crate::tasks::{lamp, light};
+use crate::tasks::{discard, lamp, light};
 use intake_core::{Desk, Finding, Job, Refusal};
 use plan_cost::CostedTask;
 use std::alloc::{AllocError, Global};
@@ -16,10 +16,19 @@ use submitted_plan::SubmittedPlan;
 /// What is asked of a desk, once two findings of one job were made.
 pub(crate) fn desk_row(alloc: Global, makes_calls: bool) -> Seen {
     match lamp(alloc) {
-        Ok(task) => match light(alloc) {
-            Ok(plan) => judge_first(alloc, &task, &plan, makes_calls),
-            Err(seen) => seen,
-        },
+        Ok(task) => {
+            let seen = light_and_judge(alloc, &task, makes_calls);
+            discard(task);
+            seen
+        }
+        Err(seen) => seen,
+    }
+}
+
+/// Makes a plan, and judges it twice.
+fn light_and_judge(alloc: Global, task: &CostedTask, makes_calls: bool) -> Seen {
+    match light(alloc) {
+        Ok(plan) => judge_first(alloc, task, &plan, makes_calls),
         Err(seen) => seen,
     }
 }

@@ -21,7 +21,7 @@ mod frugal;
 mod frugal_benches;
 mod frugal_desks;
 mod names;
-mod programs;
+mod page;
 mod rows;
 mod running;
 mod seen;

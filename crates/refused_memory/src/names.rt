@@ -1,7 +1,5 @@
 //! Names, and a table that they are pushed to.
 
-ghost use Rattle.std.specs.Prelude.{IsTrue};
-
 use crate::seen::Seen;
 use pddl_reader::Seed;
 use pddl_tokens::{WordKind, word_kind};

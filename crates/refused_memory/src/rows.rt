@@ -5,13 +5,13 @@ use crate::desks::{desk_row, replay_row};
 use crate::names::{name_row, push_row};
 use crate::seen::Seen;
 use crate::tasks::{blocks_row, cargo_row, lamp_row};
-use crate::{frugal, frugal_benches, frugal_desks, programs, running};
+use crate::{frugal, frugal_benches, frugal_desks, running};
 use std::alloc::Global;
 use std::sync::Wait;
 use std::thread::Threads;
 
 /// The rows, in the order in which they are run.
-const ROWS: [&str; 28] = [
+const ROWS: [&str; 26] = [
     "name",
     "push",
     "lamp",
@@ -26,8 +26,6 @@ const ROWS: [&str; 28] = [
     "judge-bytes-1",
     "judge-bytes-2",
     "replay-bytes",
-    "main-judge",
-    "main-replay",
     "text-made",
     "text-asked",
     "task-made",
@@ -49,8 +47,6 @@ pub(crate) fn run_row<R: AllocGlobal + Threads + Wait + Sync>(rt: &R, name: &str
         "run-2" => Some(running::run_row(rt, 2)),
         "judge-bytes-1" => Some(running::judge_row(rt, 1)),
         "judge-bytes-2" => Some(running::judge_row(rt, 2)),
-        "main-judge" => Some(programs::judge_row(rt)),
-        "main-replay" => Some(programs::replay_row(rt)),
         _ => alone(rt.alloc(), name),
     }
 }

@@ -5,7 +5,7 @@ ghost use Rattle.std.specs.Prelude.{◌≡◌, ◌<◌, ◌≤◌, All, IfOk, le
 use crate::desks::is_valid;
 use crate::frugal::replayed;
 use crate::seen::{Seen, of_engine};
-use crate::tasks::{lamp, light};
+use crate::tasks::{discard, lamp, light};
 use crate::texts::{BOTH, FLY, LAMP, LAMP_1, LIGHT, REPLIES, REPORT};
 use judge_bench::{Findings, Listed, Open, RunFault, Submission, run};
 use judge_engine::Seed;
@@ -23,10 +23,25 @@ pub(crate) fn run_row<R: AllocGlobal + Threads + Wait + Sync>(rt: &R, workers: u
     requires { (1 ≤ workers) × (workers ≤ 32) }
 {
     match lamp(rt.alloc()) {
-        Ok(task) => match two_lights(rt.alloc()) {
-            Ok(plans) => run_plans(rt, &task, plans, workers),
-            Err(seen) => seen,
-        },
+        Ok(task) => {
+            let seen = run_lights(rt, &task, workers);
+            discard(task);
+            seen
+        }
+        Err(seen) => seen,
+    }
+}
+
+/// Makes two plans, and judges them.
+fn run_lights<R: AllocGlobal + Threads + Wait + Sync>(
+    rt: &R,
+    task: &CostedTask,
+    workers: u32,
+) -> Seen
+    requires { (1 ≤ workers) × (workers ≤ 32) }
+{
+    match two_lights(rt.alloc()) {
+        Ok(plans) => run_plans(rt, task, plans, workers),
         Err(seen) => seen,
     }
 }

@@ -82,12 +82,6 @@ r 1 fails at 1 (fly): unknown action
 r plans 1 valid 0 best -
 ";
 
-/// The report on planner `p` alone.
-pub(crate) const SHORT_REPORT: &[u8] = b"domain lamp problem lamp-1
-p 1 valid 1
-p plans 1 valid 1 best 1
-";
-
 /// Twelve steps for a desk.
 pub(crate) const STEPS: &[u8] = b"desk 1 2
 submit 0 (light)

@@ -1,8 +1,8 @@
 //! The text of costs.
 //!
 //! A cost is a number of billionths, and is printed as a decimal: `12`, `0.5`, `3.25`.
-ghost use Rattle.std.specs.Prelude.{◌≡◌, ◌++◌, ◌^◌, ◌<◌, codes, OnOk};
-ghost use Rattle.report_text.specs.CostText.{last_digits, without_end_zeros, fraction_text, billionths_text, cost_text};
+ghost use Rattle.std.specs.Prelude.{◌≡◌, ◌++◌, ◌^◌, ◌<◌, OnOk};
+ghost use Rattle.report_text.specs.CostText.{last_digits, without_end_zeros, billionths_text, cost_text};
 
 use crate::text::Text;
 use plan_cost::Cost;

@@ -1,5 +1,5 @@
 //! The report as JSON: records of a run, its plans and its planners, each an object on a line of its own.
-ghost use Rattle.std.specs.Prelude.{◌≡◌, ◌++◌, OnOk, Some, codes, decimal, map};
+ghost use Rattle.std.specs.Prelude.{◌≡◌, ◌++◌, OnOk, Some, decimal, map};
 ghost use Rattle.std.specs.Map.{keys_of};
 ghost use Rattle.strips_task.specs.StepView.{step_shown};
 ghost use Rattle.report_text.specs.Format.{after_commas, json_atom, json_best, json_condition, json_conditions, json_cost, json_failure, json_formula, json_found, json_plan, json_planner, json_run, json_step, json_string, json_verdict, json_why};

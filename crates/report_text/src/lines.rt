@@ -1,7 +1,7 @@
 //! The lines of a report.
 //!
 //! A report begins with a header line. The lines of each planner follow: one for each plan, and a last one that sums them up.
-ghost use Rattle.std.specs.Prelude.{◌≡◌, ◌++◌, ◌∷◌, [], ℕ, List, OnOk, codes, decimal};
+ghost use Rattle.std.specs.Prelude.{◌≡◌, ◌++◌, OnOk};
 ghost use Rattle.report_text.specs.Report.{as_judged};
 ghost use Rattle.report_text.specs.Format.{head_in, plan_in, summary_in};
 ghost use Rattle.report_text.specs.Report.{best_text, summary_text, plan_line, header_line};

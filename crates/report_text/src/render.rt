@@ -1,7 +1,7 @@
 //! The text of atoms, steps, verdicts and findings, as reports show them.
 //!
 //! Each function adds its piece at the end of the text. Names come from the task, by number.
-ghost use Rattle.std.specs.Prelude.{◌≡◌, ◌++◌, ◌∷◌, ℕ, List, ◌-◌, OnOk, Some, map};
+ghost use Rattle.std.specs.Prelude.{◌≡◌, ◌++◌, ◌-◌, OnOk, Some, map};
 ghost use Rattle.plan_text.specs.PlanReading.{plan_of};
 ghost use Rattle.plan_text.specs.StepAt.{step_at};
 ghost use Rattle.std.specs.Map.{keys_of};

@@ -1,5 +1,5 @@
 //! Text that is made piece by piece.
-ghost use Rattle.std.specs.Prelude.{◌≡◌, ◌++◌, ◌∷◌, [], ℕ, List, OnOk, decimal};
+ghost use Rattle.std.specs.Prelude.{◌≡◌, ◌++◌, [], ℕ, List, OnOk, decimal};
 
 use itoa::Buffer;
 use std::alloc::{AllocError, Global};

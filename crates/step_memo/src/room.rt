@@ -1,5 +1,5 @@
 //! How much judges may keep of the steps that they know.
-ghost use Rattle.std.specs.Prelude.{◌<◌, ◌≤◌, ◌^◌};
+ghost use Rattle.std.specs.Prelude.{◌<◌, ◌^◌};
 
 /// The room is divided as if there were at most this many judges. If there are more, each has as much as with this many.
 pub const MOST_JUDGES: u32 = 32;

@@ -1,5 +1,5 @@
 //! What a line asks.
-ghost use Rattle.std.specs.Prelude.{◌≡◌, ◌<◌, ◌^◌, IfOk, IfSome, MatchOption, None, Some};
+ghost use Rattle.std.specs.Prelude.{◌≡◌, ◌<◌, IfOk, None, Some};
 ghost use Rattle.std.specs.Option.{option_map};
 ghost use Rattle.steps_text.specs.Lines.{first_number, only_number, two_numbers, desk_in, submit_in, close_in, take_in, back_in, finish_in, emit_in, is_skipped, meaning_of, line_meaning};
 ghost use Rattle.steps_text.specs.Meanings.{shown};

@@ -1,14 +1,13 @@
 //! Which steps of a plan changed atoms last.
 //!
 //! The steps of a text are taken once more, and after each step the atoms that are watched are checked for changes.
-ghost use Rattle.std.specs.Prelude.{◌≡◌, ◌<◌, ◌∷◌, [], ◌++◌, ℕ, Bool, List, None, Option, Some, length, slice_get, slice_index_or, IfOk, IfNone};
+ghost use Rattle.std.specs.Prelude.{◌≡◌, ◌<◌, [], List, None, Option, Some, length, IfOk};
 ghost use Rattle.strips_task.specs.declared.atoms.Atom.{Atom};
 ghost use Rattle.strips_task.specs.declared.steps.StepText.{StepText};
 ghost use Rattle.strips_task.specs.declared.tasks.TaskParts.{TaskParts};
-ghost use Rattle.plan_text.specs.Walks.{HasPassed};
 ghost use Rattle.step_memo.specs.Judging.{HasTaken};
 ghost use Rattle.text_judge.specs.History.{AreLastChanges, state_after};
-ghost use Rattle.text_judge.specs.Passes.{GoOnOrEnd, with_next};
+ghost use Rattle.text_judge.specs.Passes.{with_next};
 ghost use Rattle.text_judge.specs.Watches.{AreWatched, EndsWatch, IsWatched, WatchTogether};
 
 use crate::pass::{Passed, advance};

@@ -5,7 +5,6 @@ ghost use Rattle.strips_task.specs.WellFormed.{most_objects, most_predicates, mo
 ghost use Rattle.std.specs.Map.{keys_of};
 ghost use Rattle.pddl_reader.specs.Domain.{domain_of, domain_with, functions_from, head_of, predicates_from, with_predicate};
 ghost use Rattle.pddl_reader.specs.DomainTables.{IsDomain};
-ghost use Rattle.pddl_reader.specs.Objects.{objects_from};
 ghost use Rattle.pddl_reader.specs.Problem.{domain_extended};
 ghost use Rattle.pddl_syntax.specs.Forms.{domain_syntax_form, name_groups, predicate_form, predicate_forms};
 ghost use Rattle.pddl_reader.specs.Parts.{part_items};

@@ -1,6 +1,6 @@
 //! Constants and objects are declared with their types.
 
-ghost use Rattle.std.specs.Prelude.{◌≡◌, ◌<◌, ◌≤◌, length, None, IfSome};
+ghost use Rattle.std.specs.Prelude.{◌<◌, ◌≤◌, length, None};
 ghost use Rattle.strips_task.specs.WellFormed.{most_types};
 ghost use Rattle.std.specs.Map.{keys_of};
 ghost use Rattle.pddl_syntax.specs.Forms.{name_forms, name_group_form, name_groups};

@@ -3,7 +3,7 @@
 //! Nearly all initial atoms are, and a problem may have hundreds of thousands. They are not read word by word: the names of such a row are looked
 //! up as they are written, and a word that is found is a name. Any other literal is read as its syntax, and so is one with a fault.
 
-ghost use Rattle.std.specs.Prelude.{◌≡◌, ◌++◌, ◌+◌, ◌≤◌, [], ◌∷◌, ◌&&◌, nat_eq, length, map, true, false, IfNone, IfOk, IfSome, IsTrue, List, OnOk, Some, ℕ};
+ghost use Rattle.std.specs.Prelude.{◌≡◌, ◌++◌, ◌+◌, [], ◌∷◌, ◌&&◌, nat_eq, length, map, true, false, IfNone, IfOk, IfSome, IsTrue, List, OnOk, Some, ℕ};
 ghost use Rattle.std.specs.List.{list_all, zip};
 ghost use Rattle.pddl_words.specs.SpacedWords.{words_of};
 ghost use Rattle.pddl_words.specs.Words.{is_name};

@@ -1,6 +1,6 @@
 //! Terms are looked up, and checked against the types of a predicate's arguments.
 
-ghost use Rattle.std.specs.Prelude.{◌≡◌, ◌<◌, ◌≤◌, length, IfOk, IfSome};
+ghost use Rattle.std.specs.Prelude.{◌≡◌, ◌<◌, ◌≤◌, length};
 ghost use Rattle.strips_task.specs.WellFormed.{most_objects, most_variables};
 ghost use Rattle.pddl_reader.specs.Declarations.{fitted_all, fitting_object, object_number, fitting_term, term_named};
 ghost use Rattle.pddl_syntax.specs.Forms.{word_forms};

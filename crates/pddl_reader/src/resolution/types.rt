@@ -5,10 +5,9 @@ ghost use Rattle.strips_task.specs.WellFormed.{most_types};
 ghost use Rattle.std.specs.List.{list_any};
 ghost use Rattle.pddl_words.specs.Words.{folded};
 ghost use Rattle.pddl_syntax.specs.Forms.{name_forms, name_group_form, name_groups};
-ghost use Rattle.pddl_syntax.specs.Keywords.{object_word};
 ghost use Rattle.pddl_syntax.specs.Optional.{guard, through};
 ghost use Rattle.pddl_syntax.specs.Reading.{FindsAny, Gives, GivesTest, Puts};
-ghost use Rattle.pddl_reader.specs.TypeOrder.{TypeParents, counts_as_parent, declared_under, group_declared, is_tree, numbered, object_alone, parent_name, parent_number, parents_of, type_declared, types_declared, types_of};
+ghost use Rattle.pddl_reader.specs.TypeOrder.{counts_as_parent, declared_under, group_declared, is_tree, numbered, object_alone, parent_name, parent_number, parents_of, type_declared, types_declared, types_of};
 ghost use Rattle.pddl_reader.specs.TypeCycles.{declares_cycle, is_under_itself, names_cycle};
 
 use crate::resolution::names::{is_same_name, name, number_of};

@@ -1,4 +1,4 @@
-use Rattle.std.proofs.Common.{◌≡◌, ◌&&◌, ℕ, true, nat_eq, List, [], Option, Some, map, length, sym, ap, subst, ◌∙◌, arith, take, drop, ◌-◌, get_or, rules}
+use Rattle.std.proofs.Common.{◌≡◌, ◌&&◌, ℕ, true, nat_eq, List, [], Some, map, length, sym, ap, subst, ◌∙◌, arith, take, drop, ◌-◌, get_or}
 use Rattle.std.proofs.lemmas.Slice.{first_rest}
 use Rattle.std.proofs.lemmas.Bool.Decides.{nat_tests}
 use Rattle.std.specs.List.{list_all, slice_get, zip}

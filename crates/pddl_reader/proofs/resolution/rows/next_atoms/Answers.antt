@@ -1,4 +1,4 @@
-use Rattle.std.proofs.Common.{[], ◌∷◌, Option, Some, IfSome, sym, subst}
+use Rattle.std.proofs.Common.{[], ◌∷◌, Option, IfSome, sym, subst}
 use Rattle.strips_task.specs.declared.atoms.Atom.{Atom}
 use Rattle.pddl_reader.specs.Resolved.{known_form}
 use Rattle.pddl_reader.specs.Rows.{BeginWithAtoms}
