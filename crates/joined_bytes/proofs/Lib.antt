@@ -1,3 +1,4 @@
 pub mod JoinedLaws
 pub mod SameBytes
 pub mod ShortWordLaws
+pub mod LowerCase

@@ -11,6 +11,7 @@
 //! at once, and [`are_same`] compares slices of any length. Nothing here takes memory.
 #![tactic(auto)]
 
+mod lower_case;
 mod numbers;
 mod same_bytes;
 mod short_words;

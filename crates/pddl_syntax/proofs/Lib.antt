@@ -1,6 +1,8 @@
 pub mod Depths
 mod MarkTable
+mod PlainBlocks
 pub mod MarkSteps
+mod BlockSteps
 pub mod LevelSteps
 pub mod ListSteps
 pub mod FormulaSteps
@@ -22,3 +24,4 @@ pub mod FunctionSteps
 pub mod KnownSteps
 pub mod DialectLaws
 pub mod RowSteps
+pub mod ReservedWords

@@ -1,6 +1,7 @@
 -- How the fault of a text goes on behind a byte, by the mark of the byte.
 
-use Rattle.std.proofs.Common.{◌≡◌, ℕ, ◌+◌, ◌-◌, ◌<◌, ◌≤◌, ◌==◌, ◌&&◌, nat_le, Bool, true, false, not, cond, List, [], ◌∷◌, ◌++◌, length, get_or, drop, Some, refl, sym, ap, ◌∙◌, drop-cons, add-one, arith}
+use Rattle.std.proofs.Common.{◌≡◌, ℕ, zero, suc, ◌+◌, ◌-◌, ◌<◌, ◌≤◌, ◌==◌, ◌&&◌, nat_le, Bool, true, false, not, cond, List, [], ◌∷◌, ◌++◌, length, get_or, drop, Some, refl, sym, ap, ◌∙◌, drop-cons, add-zero, add-one, arith}
+use Rattle.std.proofs.lemmas.Bool.{eqb-true}
 use Rattle.std.specs.List.{prefix_len}
 use Rattle.pddl_tokens.specs.Bytes.{class_of, is_other_blank}
 use Rattle.pddl_tokens.specs.Cut.{is_line_end_class, is_comment_byte}
@@ -53,6 +54,23 @@ first_byte : (state : ScanState) (at b k : ℕ) (bytes : List ℕ) → class_of 
 unfolding pieces_from
 first_byte state at b k bytes is = ap (λ class. begins state class at (b ∷ bytes) ++ pieces_from (state_after state class) (at + 1) bytes) is
 
+fifth : (t1 t2 t3 t4 t5 t6 : Bool) → cond t1 Plain (cond t2 Plain (cond t3 Left (cond t4 Right (cond t5 Semicolon (cond t6 Plain Bad))))) ≡ Semicolon → t5 ≡ true
+fifth true t2 t3 t4 t5 t6 h = cc
+fifth false true t3 t4 t5 t6 h = cc
+fifth false false true t4 t5 t6 h = cc
+fifth false false false true t5 t6 h = cc
+fifth false false false false true t6 h = refl
+fifth false false false false false true h = cc
+fifth false false false false false false h = cc
+
+-- no other byte has the mark of the semicolon
+pub semicolon_is : (b : ℕ) → (b ≡ 59 → mark_of b ≡ Semicolon) × (mark_of b ≡ Semicolon → b ≡ 59)
+unfolding mark_of
+semicolon_is b = (
+  λ is. ap mark_of is,
+  λ h. eqb-true b 59 (fifth (b == 10) (is_other_blank b) (b == 40) (b == 41) (b == 59) (nat_le 33 b && nat_le b 126) h),
+)
+
 -- within a word the fault is that between tokens
 alike : (end depth at b k : ℕ) (bytes : List ℕ) → class_of b ≡ class_of k →
     begins in_word (class_of k) at (b ∷ bytes) ++ pieces_from (state_after in_word (class_of k)) (at + 1) bytes
@@ -100,6 +118,16 @@ plain_mark end depth text at lt h =
     (λ _ m. let z : Semicolon ≡ Plain = sym m ∙ h in cc)
     (λ is _. word_byte_step end depth text at lt is)
     (λ _ m. let z : Bad ≡ Plain = sym m ∙ h in cc)
+
+-- a run of plain bytes changes no fault
+pub plain_run : (end depth : ℕ) (text : List ℕ) (at n : ℕ) → at + n ≤ length text → ((k : ℕ) → k < n → mark_of (get_or text (at + k) 0) ≡ Plain) →
+    fault_from end depth (pieces_at text at) ≡ fault_from end depth (pieces_at text (at + n))
+plain_run end depth text at zero room plain = ap (λ k. fault_from end depth (pieces_at text k)) (sym (add-zero at))
+plain_run end depth text at (suc n) room plain =
+    let same : at + n + 1 ≡ at + suc n = omega arith in
+    plain_run end depth text at n (omega arith) (λ k lt. plain k (omega arith))
+    ∙ plain_mark end depth text (at + n) (omega arith) (plain n (omega arith))
+    ∙ ap (λ k. fault_from end depth (pieces_at text k)) same
 
 pub left_mark : (end depth : ℕ) (text : List ℕ) (at : ℕ) → at < length text → mark_of (get_or text at 0) ≡ Left → depth < 64 →
     fault_from end depth (pieces_at text at) ≡ fault_from end (depth + 1) (pieces_at text (at + 1))

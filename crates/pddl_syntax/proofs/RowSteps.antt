@@ -50,6 +50,15 @@ unfolding atom_spelled
 first_word [] = refl
 first_word (b ∷ bytes) = first_word_by b bytes (is_space b) (first_word bytes)
 
+first_by : (words : List (List ℕ)) → words ≢ [] → list_all is_name words ≡ true → is_name (atom_of_words words).predicate ≡ true
+first_by [] some names = absurd (some refl)
+first_by (w ∷ words) some names = (and_parts (is_name w) (list_all is_name words) names).0
+
+-- the first word of a row of names is a name
+pub first_is_name : (row : List ℕ) → AreNames row → is_name (atom_spelled row).predicate ≡ true
+unfolding atom_spelled
+first_is_name row names = first_by (spaced.words_of row) (row_has_words row) names
+
 -- the levels before the words of a list, from those after its `)`
 words_levels : (at : ℕ) (words : List (List ℕ)) (end : Span) (close : List ℕ) (rest : List Piece) (after : Levels) → levels rest ≡ Some after → levels ((word_pieces at words ++ token Right end close ∷ []) ++ rest) ≡ Some (record { top = word_trees words; below = after.top ∷ after.below })
 unfolding levels word_pieces word_trees

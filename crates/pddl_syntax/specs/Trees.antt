@@ -3,6 +3,7 @@
 use Rattle.std.specs.Prelude.{ℕ, zero, suc, ◌+◌, ◌^◌, nat_le, Bool, true, false, List, [], ◌∷◌, length, Option, Some, None, if◌then◌else◌, ◌≡◌}
 use Rattle.pddl_tokens.specs.declared.spans.Span.{Span}
 use Rattle.pddl_tokens.specs.declared.spans.TokenKind.TheVariants.{Left, Right, Word}
+use Rattle.pddl_tokens.specs.Front.{pieces_at}
 use Rattle.pddl_tokens.specs.Tokens.{Piece, token, bad, pieces}
 use Rattle.pddl_syntax.specs.declared.fault.FaultKind.TheVariants.{BadText, Unbalanced, TooDeep}
 use Rattle.pddl_syntax.specs.declared.fault.ReadFault.{ReadFault}
@@ -48,6 +49,10 @@ fault_from end depth (token Left span text ∷ more) =
     (if nat_le 64 depth then Some (record { kind = TooDeep; span = span }) else fault_from end (depth + 1) more)
 fault_from end zero (token Right span text ∷ more) = Some (record { kind = Unbalanced; span = span })
 fault_from end (suc depth) (token Right span text ∷ more) = fault_from end depth more
+
+-- the first fault of a text from `at` on, if `depth` lists are open there
+abbrev pub fault_after : List ℕ → ℕ → ℕ → Option ReadFault
+fault_after text at depth = fault_from (length text) depth (pieces_at text at)
 
 -- the fault of a text: a length of 2^31 bytes or more, or otherwise the first fault of its tokens (this validator's choice)
 unfoldable pub text_fault : List ℕ → Option ReadFault

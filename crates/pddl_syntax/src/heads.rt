@@ -1,17 +1,17 @@
 //! What the first word of a list says about the list.
 
-ghost use Rattle.std.specs.Prelude.{◌≡◌, ◌≤◌, length};
-ghost use Rattle.std.specs.List.{prefix_len};
+ghost use Rattle.std.specs.Prelude.{◌≡◌, true, false};
 ghost use Rattle.pddl_words.specs.Words.{is_name};
 ghost use Rattle.pddl_syntax.specs.Keywords.{is_change, is_connective, is_quantifier, is_comparison, is_other_reserved};
 ghost use Rattle.pddl_syntax.specs.Levels.{here};
-ghost use Rattle.pddl_syntax.specs.Rows.{atom_spelled, heads_atom, is_in_word};
+ghost use Rattle.pddl_syntax.specs.Rows.{AreNames, heads_atom};
 ghost use Rattle.pddl_syntax.specs.Trees.{begins_with_list};
 ghost use Rattle.pddl_syntax.specs.Heads.{is_and, is_dash, is_either, is_keyword, is_term, is_variable, equals_head, has_changes, has_functions, formula_head, literal_head, name_head, reserved_head, domain_section, action_part, problem_section};
 
 use crate::dialect::Dialect;
 use crate::walk::Walk;
 use pddl_tokens::{WordKind, same_folded, word_kind};
+use pddl_words::first_word_len;
 
 /// What a word heads where a formula, an effect, an initial atom, a function or the declaration of a predicate or a function is due.
 #[derive(Clone, Copy, Debug)]
@@ -154,11 +154,35 @@ pub(crate) fn is_term(context: Context, word: &[u8]) -> bool
     }
 }
 
+/// Whether a word is as long as the reserved words that begin with its first letter. Most names are not, and so need no comparison with any.
+fn looks_reserved(word: &[u8]) -> bool
+    ensures { result ≡ false → is_name word.now ≡ true → formula_head word.now ≡ FormulaHead.Name }
+{
+    let Some(first) = word.first() else {
+        return false;
+    };
+    // The letter in lower case.
+    let reserved_len = match *first | 0x20 {
+        b'a' => 3,
+        b'e' => 6,
+        b'f' => 6,
+        b'i' => 5,
+        b'n' => 3,
+        b'o' => 2,
+        b'w' => 4,
+        _ => 0,
+    };
+    word.len() == reserved_len
+}
+
 /// What the word heads.
 #[tactic(auto, unfolding(crate::specs::Heads::formula_head))]
 pub(crate) fn formula_head(word: &[u8]) -> FormulaHead
     ensures { result ≡ formula_head word.now }
 {
+    if !looks_reserved(word) && is_name(word) {
+        return FormulaHead::Name;
+    }
     if same_folded(word, b"and") {
         FormulaHead::And
     } else if same_folded(word, b"not") {
@@ -378,20 +402,17 @@ fn is_comparison(word: &[u8]) -> bool
         || same_folded(word, b">=")
 }
 
-/// How many bytes there are before the first space.
-fn first_word_len(row: &[u8]) -> usize
-    ensures run { result ≡ prefix_len is_in_word row.now }
-    ensures within { result ≤ length row.now }
-{
-    row.iter().take_while(|b| **b != b' ').count()
-}
-
-/// Whether the first word of a row is a name that is not reserved. A row of names is then an atom, wherever numbers are not changed.
-#[tactic(auto, unfolding(crate::specs::Rows::heads_atom), using(crate::proofs::RowSteps::first_word))]
+/// Whether the first word of a row of names is not reserved. The row is then an atom, wherever numbers are not changed. Of a row that is not names the
+/// answer says nothing, so that no byte is read twice.
+#[tactic(auto, unfolding(crate::specs::Rows::heads_atom), using(crate::proofs::RowSteps::first_word, crate::proofs::RowSteps::first_is_name))]
 pub(crate) fn heads_atom(row: &[u8]) -> bool
-    ensures { result ≡ heads_atom row.now }
+    ensures { AreNames row.now → result ≡ heads_atom row.now }
 {
-    match formula_head(&row[..first_word_len(row)]) {
+    let word = &row[..first_word_len(row)];
+    if !looks_reserved(word) {
+        return true;
+    }
+    match formula_head(word) {
         FormulaHead::Name => true,
         FormulaHead::And => false,
         FormulaHead::Not => false,

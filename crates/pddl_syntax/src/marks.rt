@@ -1,11 +1,13 @@
 //! What single bytes mean to the check of parentheses.
 
-ghost use Rattle.std.specs.Prelude.{◌≡◌, ◌+◌, ◌<◌, ◌≤◌, ℕ, true, length, slice_index};
+ghost use Rattle.std.specs.Prelude.{◌≡◌, ◌<◌, ◌≤◌, ℕ, length, slice_index};
+ghost use Rattle.std.specs.Int.{bit_at};
 ghost use Rattle.std.specs.List.{prefix_len};
 ghost use Rattle.pddl_tokens.specs.Cut.{is_comment_byte};
 ghost use Rattle.pddl_tokens.specs.Front.{pieces_at};
 ghost use Rattle.pddl_syntax.specs.Marks.{mark_of};
-ghost use Rattle.pddl_syntax.specs.Trees.{fault_from};
+
+use std::simd::prelude::*;
 
 /// What a byte outside comments means to the check of parentheses.
 #[derive(Clone, Copy, Debug, PartialEq, Eq)]
@@ -50,39 +52,30 @@ static MARKS: [Mark; 256] = [
     X, X, X, X, X, X, X, X, X, X, X, X, X, X, X, X,
 ];
 
-/// The mark of a byte.
+/// The mark of a byte. Parentheses, for which it is asked most, need no look into the table.
 pub(crate) fn mark_of(b: u8) -> Mark
     ensures { result ≡ mark_of b }
 {
-    MARKS[b as usize]
-}
-
-/// Whether a byte is plain.
-fn is_plain(b: u8) -> bool
-    ensures { result ≡ true → mark_of b ≡ Mark.Plain }
-{
-    match mark_of(b) {
-        Mark::Plain => true,
-        _ => false,
+    match b {
+        b'(' => Mark::Left,
+        b')' => Mark::Right,
+        _ => MARKS[b as usize],
     }
 }
 
-/// The offset after the plain bytes that begin at `at`. They change no fault.
-pub(crate) fn plain_end(text: &[u8], at: usize) -> usize
-    requires within { at < length text.now }
-    requires begins { mark_of (slice_index text.now at) ≡ Mark.Plain }
-    ensures same { (last depth : ℕ) → fault_from last depth (pieces_at text.now result) ≡ fault_from last depth (pieces_at text.now at) }
-    ensures further { at < result }
-    ensures within { result ≤ length text.now }
+/// A bit for each byte of a block, which is 0 only where the byte is plain. Blanks other than the space and LF have a 1 too.
+#[inline(always)]
+pub(crate) fn special_bits(block: u8x32) -> u64
+    ensures plain { (k : ℕ) → k < 32 → bit_at result k ≡ 0 → mark_of (slice_index block k) ≡ Mark.Plain }
+    ensures within { (k : ℕ) → bit_at result k ≡ 1 → k < 32 }
 {
-    let mut end = at + 1;
-    'plain: while end < text.len() {
-        if !is_plain(text[end]) {
-            return end;
-        }
-        end += 1;
-    }
-    end
+    // `(` and `)` differ in their lowest bit alone.
+    let parentheses = (block & u8x32::splat(0xfe)).simd_eq(u8x32::splat(b'('));
+    let semicolons = block.simd_eq(u8x32::splat(b';'));
+    // The bytes from the space to `~` are moved to 0 to 94.
+    let unprinted = (block - u8x32::splat(b' ')).simd_gt(u8x32::splat(94));
+    let line_ends = block.simd_eq(u8x32::splat(b'\n'));
+    (parentheses | semicolons | (unprinted & !line_ends)).to_bitmask()
 }
 
 /// Whether a comment goes on with this byte, so that it is no LF.

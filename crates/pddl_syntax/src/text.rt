@@ -1,12 +1,14 @@
 //! The first layer: bad bytes and wrong parentheses, found in one pass over the bytes that takes no memory.
 
-ghost use Rattle.std.specs.Prelude.{◌≡◌, ◌≢◌, ◌+◌, ◌<◌, ◌^◌, length, IfErr};
+ghost use Rattle.std.specs.Prelude.{◌≡◌, ◌≢◌, ◌↔◌, ◌+◌, ◌<◌, ◌≤◌, ◌^◌, length, slice_index, IfErr, IfOk, IsTrue, Some};
+ghost use Rattle.pddl_syntax.specs.Marks.{mark_of};
 ghost use Rattle.pddl_syntax.specs.ReadFault.{fault};
 ghost use Rattle.pddl_syntax.specs.Refusing.{FirstFault};
-ghost use Rattle.pddl_syntax.specs.Trees.{text_fault};
+ghost use Rattle.pddl_syntax.specs.Trees.{fault_after, text_fault};
 
 use crate::fault::{FaultKind, ReadFault};
-use crate::marks::{Mark, comment_end, mark_of, plain_end};
+use crate::marks::{Mark, comment_end, mark_of, special_bits};
+use std::simd::prelude::*;
 
 /// How deep lists may be nested.
 const DEEPEST: u32 = 64;
@@ -23,7 +25,7 @@ pub fn check_text(text: &[u8]) -> Result<(), ReadFault>
     check_short(text)
 }
 
-/// Finds the first fault of a short text's bytes and parentheses. Words are skipped like blanks.
+/// Finds the first fault of a short text's bytes and parentheses, 32 bytes at a time. Words are skipped like blanks.
 fn check_short(text: &[u8]) -> Result<(), ReadFault>
     requires { length text.now < 2 ^ 31 }
     ensures first { FirstFault result (text_fault text.now) }
@@ -31,32 +33,95 @@ fn check_short(text: &[u8]) -> Result<(), ReadFault>
 {
     let mut at = 0;
     let mut depth = 0;
+    'passes: while text.len() - at >= 32 {
+        (at, depth) = pass_block(text, at, depth)?;
+    }
+    check_rest(text, at, depth)
+}
+
+/// Goes over the 32 bytes from `at` on, where `depth` lists are open, or up to the end of a comment that begins among them. Returns where it
+/// stopped and how many lists are open there.
+#[inline(always)]
+fn pass_block(text: &[u8], at: usize, depth: u32) -> Result<(usize, u32), ReadFault>
+    requires room { at + 32 ≤ length text.now }
+    requires short { length text.now < 2 ^ 31 }
+    requires depth { depth ≤ 64 }
+    ensures same { IfOk result (λ to. fault_after text.now to.0 to.1 ≡ fault_after text.now at depth) }
+    ensures further { IfOk result (λ to. (at < to.0) × (to.0 ≤ length text.now)) }
+    ensures depth { IfOk result (λ to. to.1 ≤ 64) }
+    ensures fault { IfErr result (λ e. fault_after text.now at depth ≡ Some e) }
+    ensures kind { IfErr result (λ e. e.kind ≢ FaultKind.OutOfMemory) }
+{
+    let mut special = special_bits(u8x32::from_slice(&text[at..]));
+    let mut seen = at;
+    let mut lists = depth;
+    'marks: while special != 0 {
+        let skipped = special.trailing_zeros();
+        let place = seen + skipped as usize;
+        if is_semicolon(text[place]) {
+            return Ok((comment_end(text, place), lists));
+        }
+        lists = depth_behind(text, place, lists)?;
+        seen = place + 1;
+        special >>= skipped + 1;
+    }
+    Ok((at + 32, lists))
+}
+
+/// Finds the first fault of a text from an offset on, byte by byte. `depth` lists are open there.
+fn check_rest(text: &[u8], from: usize, depth: u32) -> Result<(), ReadFault>
+    requires within { from ≤ length text.now }
+    requires short { length text.now < 2 ^ 31 }
+    requires depth { depth ≤ 64 }
+    ensures first { FirstFault result (fault_after text.now from depth) }
+    ensures kind { IfErr result (λ e. e.kind ≢ FaultKind.OutOfMemory) }
+{
+    let mut at = from;
+    let mut lists = depth;
     'bytes: while at < text.len() {
-        match mark_of(text[at]) {
-            Mark::Plain => at = plain_end(text, at),
-            Mark::Left => {
-                if depth == DEEPEST {
-                    return Err(fault_at(FaultKind::TooDeep, at));
-                }
-                depth += 1;
-                at += 1;
-            }
-            Mark::Right => {
-                if depth == 0 {
-                    return Err(fault_at(FaultKind::Unbalanced, at));
-                }
-                depth -= 1;
-                at += 1;
-            }
-            Mark::Semicolon => at = comment_end(text, at),
-            Mark::Bad => return Err(fault_at(FaultKind::BadText, at)),
+        if is_semicolon(text[at]) {
+            at = comment_end(text, at);
+        } else {
+            lists = depth_behind(text, at, lists)?;
+            at += 1;
         }
     }
-    if depth == 0 {
+    if lists == 0 {
         return Ok(());
     }
     let end = text.len() as u32;
     Err(ReadFault::at(FaultKind::Unbalanced, end, end))
+}
+
+/// How many lists are open behind a byte that begins no comment, if `depth` are open before it.
+#[inline(always)]
+fn depth_behind(text: &[u8], at: usize, depth: u32) -> Result<u32, ReadFault>
+    requires within { at < length text.now }
+    requires short { length text.now < 2 ^ 31 }
+    requires depth { depth ≤ 64 }
+    requires no_comment { mark_of (slice_index text.now at) ≢ Mark.Semicolon }
+    ensures same { IfOk result (λ lists. fault_after text.now (at + 1) lists ≡ fault_after text.now at depth) }
+    ensures depth { IfOk result (λ lists. lists ≤ 64) }
+    ensures fault { IfErr result (λ e. fault_after text.now at depth ≡ Some e) }
+    ensures kind { IfErr result (λ e. e.kind ≢ FaultKind.OutOfMemory) }
+{
+    match mark_of(text[at]) {
+        Mark::Left if depth == DEEPEST => Err(fault_at(FaultKind::TooDeep, at)),
+        Mark::Left => Ok(depth + 1),
+        Mark::Right if depth == 0 => Err(fault_at(FaultKind::Unbalanced, at)),
+        Mark::Right => Ok(depth - 1),
+        Mark::Bad => Err(fault_at(FaultKind::BadText, at)),
+        Mark::Plain => Ok(depth),
+        Mark::Semicolon => Ok(depth),
+    }
+}
+
+/// Whether a comment begins with this byte.
+#[tactic(auto, using(crate::proofs::MarkSteps::semicolon_is))]
+fn is_semicolon(b: u8) -> bool
+    ensures { IsTrue result ↔ (mark_of b ≡ Mark.Semicolon) }
+{
+    b == b';'
 }
 
 /// The fault at one byte.

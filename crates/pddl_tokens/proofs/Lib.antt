@@ -7,3 +7,8 @@ mod OnlyCut
 pub mod PlainRows
 pub mod NamesArePlain
 pub mod Counts
+mod Masks
+mod FirstRight
+mod NameLanes
+mod NamePairs
+mod Spaces

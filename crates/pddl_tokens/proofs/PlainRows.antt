@@ -1,6 +1,6 @@
 -- The pieces of a plain row in parentheses.
 
-use Rattle.std.proofs.Common.{◌≡◌, ◌≢◌, ℕ, ◌+◌, ◌<◌, true, false, List, [], ◌∷◌, ◌++◌, length, take, drop, get_or, refl, sym, ap, ◌∙◌, arith, append_assoc, length-append, subst, drop-drop}
+use Rattle.std.proofs.Common.{◌≡◌, ◌≢◌, ℕ, zero, suc, add-zero, ◌+◌, ◌<◌, ◌≤◌, true, false, List, [], ◌∷◌, ◌++◌, length, take, drop, get_or, refl, sym, ap, ◌∙◌, arith, append_assoc, length-append, subst, drop-drop}
 use Rattle.std.specs.Prelude.{All, IsTrue}
 use Rattle.std.specs.List.{list_all, prefix_len, join_with_byte}
 use Rattle.std.proofs.Math.Seq.{take-append_seam}
@@ -16,7 +16,7 @@ use Rattle.pddl_tokens.specs.Bytes.{class_of, is_word_class, is_word_byte}
 use Rattle.pddl_tokens.specs.Cut.{is_blank_class}
 use Rattle.pddl_tokens.specs.Tokens.{Piece, token, span, between, pieces_from}
 use Rattle.pddl_tokens.specs.Front.{pieces_at}
-use Rattle.pddl_tokens.specs.Groups.{is_word, IsPlain, word_pieces, group_pieces}
+use Rattle.pddl_tokens.specs.Groups.{is_word, IsPlain, BeginsWithList, word_pieces, group_pieces}
 use Rattle.pddl_tokens.proofs.Steps.{first_byte, run_goes, run_ends, behind, word_whole, byte_at, line_end_step, blank_step}
 
 -- a run of bytes of words ends at the first byte that is none
@@ -115,16 +115,33 @@ pub behind_blank : (text : List ℕ) (at : ℕ) → at < length text → is_blan
 behind_blank text at lt blank = blank_by text at (class_of (get_or text at 0)) lt refl blank
 
 -- a `(` stands at an offset, and so many bytes behind it a `)`
-pub group_at : (text inside : List ℕ) (at size : ℕ) → at < length text → get_or text at 0 ≡ 40 → inside ≡ drop (at + 1) text → size < length inside → get_or inside size 0 ≡ 41 → IsPlain (take size inside) → pieces_at text at ≡ group_pieces at (take size inside) ++ pieces_at text (at + 1 + size + 1)
-group_at text inside at size lt left same within right plain =
+front_at : (text inside : List ℕ) (at size : ℕ) → at < length text → get_or text at 0 ≡ 40 → inside ≡ drop (at + 1) text → size < length inside → get_or inside size 0 ≡ 41 → drop at text ≡ 40 ∷ (take size inside ++ 41 ∷ drop (size + 1) inside)
+front_at text inside at size lt left same within right =
     let row = take size inside in
     let rest = drop (size + 1) inside in
     let whole : row ++ 41 ∷ rest ≡ inside =
     ap (λ (b : ℕ). row ++ b ∷ rest) (sym right) ∙ ap (λ (bytes : List ℕ). row ++ bytes) (sym (byte_at inside size within)) ∙ take-append-drop size inside
     in
-    let front : drop at text ≡ 40 ∷ (row ++ 41 ∷ rest) =
     byte_at text at lt ∙ ap (λ (b : ℕ). b ∷ drop (at + 1) text) left ∙ ap (λ (bytes : List ℕ). 40 ∷ bytes) (sym same ∙ sym whole)
-    in
+
+list_front : (row rest : List ℕ) → take (length row + 2) (40 ∷ (row ++ 41 ∷ rest)) ≡ 40 ∷ (row ++ 41 ∷ [])
+list_front row rest =
+    let list = 40 ∷ (row ++ 41 ∷ []) in
+    let size : length row + 2 ≡ length list = omega (arith, length-append row (41 ∷ [])) in
+    let seam : list ++ rest ≡ 40 ∷ (row ++ 41 ∷ rest) = ap (λ (bytes : List ℕ). 40 ∷ bytes) (append_assoc row (41 ∷ []) rest) in
+    ap (λ (n : ℕ). take n (40 ∷ (row ++ 41 ∷ rest))) size ∙ ap (take (length list)) (sym seam) ∙ take-append_seam list rest
+
+-- the text from there on begins with that list
+pub begins_at : (text list inside : List ℕ) (at size : ℕ) → at < length text → get_or text at 0 ≡ 40 → list ≡ drop at text → inside ≡ drop (at + 1) text → size < length inside → get_or inside size 0 ≡ 41 → BeginsWithList list (take size inside)
+begins_at text list inside at size lt left from same within right =
+    ap (take (length (take size inside) + 2)) (from ∙ front_at text inside at size lt left same within right) ∙ list_front (take size inside) (drop (size + 1) inside)
+
+-- the pieces from there on, if what is in the list is plain
+pub group_at : (text inside : List ℕ) (at size : ℕ) → at < length text → get_or text at 0 ≡ 40 → inside ≡ drop (at + 1) text → size < length inside → get_or inside size 0 ≡ 41 → IsPlain (take size inside) → pieces_at text at ≡ group_pieces at (take size inside) ++ pieces_at text (at + 1 + size + 1)
+group_at text inside at size lt left same within right plain =
+    let row = take size inside in
+    let rest = drop (size + 1) inside in
+    let front = front_at text inside at size lt left same within right in
     let long : length row ≡ size = length-take-le size inside (omega arith) in
     let offset : at + 1 + (size + 1) ≡ at + 1 + size + 1 = omega arith in
     let behind_it : rest ≡ drop (at + 1 + size + 1) text = ap (drop (size + 1)) same ∙ drop-drop (size + 1) (at + 1) text ∙ ap (λ (n : ℕ). drop n text) offset in
@@ -132,3 +149,13 @@ group_at text inside at size lt left same within right plain =
     ∙ group_first at row rest plain
     ∙ ap (λ (n : ℕ). group_pieces at row ++ pieces_from between (at + 1 + n + 1) rest) long
     ∙ ap (λ (bytes : List ℕ). group_pieces at row ++ pieces_from between (at + 1 + size + 1) bytes) behind_it
+
+-- no piece begins with a space, nor with more of them
+pub behind_spaces : (text : List ℕ) (at n : ℕ) → at + n ≤ length text → ((k : ℕ) → at ≤ k → k < at + n → get_or text k 0 ≡ 32) → pieces_at text at ≡ pieces_at text (at + n)
+behind_spaces text at zero within spaces = ap (pieces_at text) (sym (add-zero at))
+behind_spaces text at (suc n) within spaces =
+    let space : get_or text (at + n) 0 ≡ 32 = spaces (at + n) (omega arith) (omega arith) in
+    let next : at + n + 1 ≡ at + suc n = omega arith in
+    behind_spaces text at n (omega arith) (λ k low high. spaces k low (omega arith))
+    ∙ behind_blank text (at + n) (omega arith) (ap (λ (b : ℕ). is_blank_class (class_of b)) space ∙ ap is_blank_class space_class)
+    ∙ ap (pieces_at text) next

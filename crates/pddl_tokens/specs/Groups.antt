@@ -1,6 +1,6 @@
 -- Lists of words in parentheses, with a space between each two and nothing else.
 
-use Rattle.std.specs.Prelude.{ℕ, ◌+◌, Bool, false, ◌&&◌, List, [], ◌∷◌, ◌++◌, length, All, IsTrue}
+use Rattle.std.specs.Prelude.{◌≡◌, ℕ, ◌+◌, Bool, false, ◌&&◌, List, [], ◌∷◌, ◌++◌, length, take, All, IsTrue}
 use Rattle.std.specs.List.{list_all}
 use Rattle.pddl_words.specs.SpacedWords.{words_of}
 use Rattle.pddl_tokens.specs.declared.spans.TokenKind.TheVariants.{Left, Right, Word}
@@ -26,3 +26,7 @@ abbrev pub group_pieces : ℕ → List ℕ → List Piece
 group_pieces at row =
     token Left (span at (at + 1)) (40 ∷ [])
     ∷ (word_pieces (at + 1) (words_of row) ++ token Right (span (at + 1 + length row) (at + 1 + length row + 1)) (41 ∷ []) ∷ [])
+
+-- a text begins with a list: `(` (40), what is in it, and `)` (41)
+abbrev pub BeginsWithList : List ℕ → List ℕ → Type 0
+BeginsWithList text inside = take (length inside + 2) text ≡ 40 ∷ (inside ++ 41 ∷ [])

@@ -5,3 +5,4 @@ pub mod Lines
 pub mod Cut
 pub mod Groups
 pub mod Within
+pub mod Pairs

@@ -9,11 +9,12 @@
 //! ```
 //!
 //! A [`Cursor`] walks over the text once and takes no memory. [`Cursor::group`] gives a list of plain words as one run of bytes, for callers
-//! that know these bytes already and need not read them again. [`word_kind`] says what a word may stand for, and [`line_of`] finds the line
-//! of an offset.
+//! that know these bytes already and need not read them again, and [`Group::are_names`] says whether these words are names. [`word_kind`]
+//! says what a word may stand for, and [`line_of`] finds the line of an offset.
 #![tactic(auto)]
 
 mod bytes;
+mod lanes;
 pub mod laws;
 mod lines;
 mod scan;

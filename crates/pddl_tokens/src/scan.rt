@@ -5,10 +5,11 @@ ghost use Rattle.std.specs.List.{prefix_len};
 ghost use Rattle.pddl_tokens.specs.Bytes.{is_word_byte};
 ghost use Rattle.pddl_tokens.specs.Cut.{is_comment_byte};
 ghost use Rattle.pddl_tokens.specs.Front.{IsFront, pieces_at};
+ghost use Rattle.pddl_tokens.specs.Groups.{BeginsWithList};
 
 use crate::bytes::{ByteClass, class_of, is_blank, is_comment_byte, is_word_byte};
+use crate::lanes::{are_names_in, right_from, spaces_from};
 use crate::spans::{BadByte, Span, Token, TokenKind, TooLong};
-use memchr::memchr;
 use std::marker::Model;
 
 /// A walk over the tokens of a text, one pass over its bytes. A contract sees it as the pieces that are still to come.
@@ -86,8 +87,24 @@ pub struct Group<'a> {
     pub start: u32,
     /// The bytes between the two, which were not read yet.
     pub key: &'a [u8],
+    /// The text from the `(` on.
+    list: &'a [u8],
     /// A cursor after the `)`.
     pub rest: Cursor<'a>,
+    ghost listed: { BeginsWithList list.now key.now },
+}
+
+impl<'a> Group<'a> {
+    ghost use Rattle.std.specs.List.{list_all};
+    ghost use Rattle.pddl_words.specs.SpacedWords.{words_of};
+    ghost use Rattle.pddl_words.specs.Words.{is_name};
+
+    /// Whether the key is names, with a single space between each two. Takes one pass over the key at most.
+    pub fn are_names(&self) -> bool
+        ensures { result ≡ list_all is_name (words_of self.now.key.now) }
+    {
+        are_names_in(self.list, self.key)
+    }
 }
 
 impl<'a> Cursor<'a> {
@@ -109,10 +126,11 @@ impl<'a> Cursor<'a> {
             return None;
         }
         let inside = &text[open + 1..];
-        let size = memchr(b')', inside)?;
+        let size = right_from(inside)?;
         Some(Group {
             start: open as u32,
             key: &inside[..size],
+            list: &text[open..],
             rest: Cursor {
                 text,
                 at: open + 1 + size + 1,
@@ -121,7 +139,7 @@ impl<'a> Cursor<'a> {
     }
 }
 
-/// The offset of the first byte from `at` on that is no blank, or the end.
+/// The offset of the first byte from `at` on that is no blank, or the end. Lines are often indented, so spaces are skipped some at a time.
 fn skip_blanks(text: &[u8], mut at: usize) -> usize
     requires { at ≤ length text.now }
     ensures same { pieces_at text.now result ≡ pieces_at text.now at }
@@ -132,6 +150,7 @@ fn skip_blanks(text: &[u8], mut at: usize) -> usize
             return at;
         }
         at += 1;
+        at += spaces_from(text, at);
     }
     at
 }

@@ -1,5 +1,6 @@
 pub mod KindLaws
 mod NameTable
-mod NameRows
+pub mod NameRows
+pub mod FirstWords
 pub mod DigitRuns
 pub mod DecimalLaws

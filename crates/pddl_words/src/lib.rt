@@ -18,8 +18,10 @@ ghost use Rattle.pddl_words.specs.Kinds.{kind_of_word, is_marked_name, is_same_w
 ghost use Rattle.std.specs.List.{list_all};
 
 mod decimals;
+mod row_words;
 
 pub use decimals::{billionths, digits};
+pub use row_words::{RowWords, first_word_len};
 
 /// What a word may stand for, judged by its spelling alone.
 #[derive(Clone, Copy, Debug, PartialEq, Eq)]

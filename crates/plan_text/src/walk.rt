@@ -17,7 +17,6 @@ ghost use Rattle.strips_task.specs.declared.steps.TheConstants.{MOST_STEPS};
 use crate::between::read_between;
 use crate::want::{Expected, Want};
 use pddl_tokens::{Cursor, Group, TokenKind, WordKind, line_of, word_kind};
-use pddl_words::are_names;
 use std::alloc::AllocError;
 use std::marker::Model;
 use strips_task::{MOST_STEPS, OpenSteps};
@@ -225,7 +224,7 @@ impl<'a> PlanSteps<'a> {
         ensures { IsFound result self.old self.new }
     {
         if let Some(group) = self.next_group() {
-            if are_names(group.key) {
+            if group.are_names() {
                 return self.take_group(group);
             }
         }

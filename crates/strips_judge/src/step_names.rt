@@ -1,12 +1,12 @@
 //! The names of steps as they are written, found by number.
-ghost use Rattle.std.specs.Prelude.{◌≡◌, ◌<◌, ℕ, List, true, IfOk, IfSome, IsTrue, Some, length};
+ghost use Rattle.std.specs.Prelude.{◌≡◌, ◌<◌, true, IfOk, IfSome, IsTrue, Some};
 ghost use Rattle.pddl_words.specs.Words.{is_name, folded};
 ghost use Rattle.strips_task.specs.Names.{number_named};
 ghost use Rattle.strips_task.specs.Spelled.{IsSpelled, step_spelled};
 ghost use Rattle.strips_judge.specs.StepNumbers.{AreWithin, IsNumbered, number_by};
 
 use crate::recent_names::RecentNames;
-use pddl_words::{WordKind, word_kind};
+use pddl_words::{RowWords, WordKind, word_kind};
 use std::alloc::{AllocError, Global};
 use std::marker::Model;
 use strips_task::{Task, WordList};
@@ -17,6 +17,7 @@ pub struct StepNames<'t> {
     task: &'t Task,
     actions: RecentNames,
     objects: RecentNames,
+    /// Room for a name in lower case.
     word: WordList,
 }
 
@@ -53,8 +54,8 @@ impl<'t> StepNames<'t> {
     /// Finds the numbers of the names of a step, if the row spells one and each name is known: the action's, and then those of the objects. Returns
     /// whether it did.
     ///
-    /// A name takes a hash and one read of memory if it was used recently, and otherwise one look-up in the task's table. Takes memory for that
-    /// once.
+    /// A name takes a hash and one read of memory if it was used recently, another one if it has at most 16 bytes, and otherwise one look-up in the
+    /// task's table. Takes memory for that once.
     pub fn number(&mut self, row: &[u8], numbers: &mut Vec<u16>) -> Result<bool, AllocError>
         ensures task { self.new ≡ self.old }
         ensures spelled { IfOk result (λ found. IsTrue found → IsSpelled row.now) }
@@ -62,7 +63,8 @@ impl<'t> StepNames<'t> {
         ensures within { IfOk result (λ found. IsTrue found → AreWithin self.old numbers.new.items) }
     {
         numbers.clear();
-        for word in row.split(|b| *b == b' ') {
+        let mut words = RowWords::new(row);
+        'words: while let Some(word) = words.next() {
             match self.number_of(numbers.is_empty(), word)? {
                 Some(number) => numbers.push(number)?,
                 None => return Ok(false),
@@ -91,12 +93,7 @@ impl<'t> StepNames<'t> {
         if let Some(number) = self.actions.find(word) {
             return Ok(Some(number));
         }
-        if !is_name(word) {
-            return Ok(None);
-        }
-        self.word.clear();
-        self.word.push_folded(word)?;
-        let Some(number) = self.task.action_named(self.word.get(0)) else {
+        let Some(number) = self.action_in_table(word)? else {
             return Ok(None);
         };
         self.actions.keep(word, number)?;
@@ -111,16 +108,61 @@ impl<'t> StepNames<'t> {
         if let Some(number) = self.objects.find(word) {
             return Ok(Some(number));
         }
+        let Some(number) = self.object_in_table(word)? else {
+            return Ok(None);
+        };
+        self.objects.keep(word, number)?;
+        Ok(Some(number))
+    }
+
+    /// The number of the action that a word names, by the task's tables.
+    fn action_in_table(&mut self, word: &[u8]) -> Result<Option<u16>, AllocError>
+        ensures task { self.new ≡ self.old }
+        ensures named { IfOk result (λ found. IfSome found (λ number. (is_name word.now ≡ true) × (number_named self.old.actions (folded word.now) ≡ Some number))) }
+    {
+        match self.task.action_spelled(word) {
+            Some(number) => Ok(Some(number)),
+            None => self.action_folded(word),
+        }
+    }
+
+    /// The number of the action that a word names, by the table of all actions.
+    #[inline(never)]
+    fn action_folded(&mut self, word: &[u8]) -> Result<Option<u16>, AllocError>
+        ensures task { self.new ≡ self.old }
+        ensures named { IfOk result (λ found. IfSome found (λ number. (is_name word.now ≡ true) × (number_named self.old.actions (folded word.now) ≡ Some number))) }
+    {
         if !is_name(word) {
             return Ok(None);
         }
         self.word.clear();
         self.word.push_folded(word)?;
-        let Some(number) = self.task.object_named(self.word.get(0)) else {
+        Ok(self.task.action_named(self.word.get(0)))
+    }
+
+    /// The number of the object that a word names, by the task's tables.
+    fn object_in_table(&mut self, word: &[u8]) -> Result<Option<u16>, AllocError>
+        ensures task { self.new ≡ self.old }
+        ensures named { IfOk result (λ found. IfSome found (λ number. (is_name word.now ≡ true) × (number_named self.old.objects (folded word.now) ≡ Some number))) }
+    {
+        match self.task.object_spelled(word) {
+            Some(number) => Ok(Some(number)),
+            None => self.object_folded(word),
+        }
+    }
+
+    /// The number of the object that a word names, by the table of all objects.
+    #[inline(never)]
+    fn object_folded(&mut self, word: &[u8]) -> Result<Option<u16>, AllocError>
+        ensures task { self.new ≡ self.old }
+        ensures named { IfOk result (λ found. IfSome found (λ number. (is_name word.now ≡ true) × (number_named self.old.objects (folded word.now) ≡ Some number))) }
+    {
+        if !is_name(word) {
             return Ok(None);
-        };
-        self.objects.keep(word, number)?;
-        Ok(Some(number))
+        }
+        self.word.clear();
+        self.word.push_folded(word)?;
+        Ok(self.task.object_named(self.word.get(0)))
     }
 }
 

@@ -2,6 +2,8 @@ pub mod FirstOccurrences
 pub mod JoinedRanges
 pub mod Numbered
 pub mod AtomEquality
+pub mod AtomSearches
+pub mod AtomTables
 pub mod NameNumbers
 pub mod NamedEntries
 pub mod NamedRows
@@ -10,6 +12,7 @@ pub mod TypeWalks
 pub mod TypeRows
 pub mod PartLemmas
 pub mod FoldedWords
+pub mod Found
 pub mod StepWords
 pub mod WellFormedParts
 pub mod WellFormedTests

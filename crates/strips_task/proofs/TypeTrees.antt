@@ -46,6 +46,11 @@ module _ (parents : List ℕ) where
       by true rest = refl
       by false rest = rest
 
+  -- a type is within any number of steps of itself
+  pub below_itself : (n sub sup : ℕ) → sub ≡ sup → is_within parents n sub sup ≡ true
+  unfolding ancestor
+  below_itself n sub sup same = within_from_steps n 0 sub sup (omega arith) same
+
 -- how many numbers below a bound pass a test
 count : (ℕ → Bool) → ℕ → ℕ
 count p zero = 0

@@ -1,5 +1,6 @@
 pub mod Atom
 pub mod AtomHash
+pub mod AtomSlots
 pub mod FirstOccurrences
 pub mod FormulaEquality
 pub mod Names

@@ -2,21 +2,22 @@
 //!
 //! Many plans are judged against one task, and a task may have hundreds of thousands of initial atoms. So the distinct ones are numbered
 //! when the task is made, and judging a plan costs one bit for each, not one hash.
-ghost use Rattle.std.specs.Prelude.{◌≡◌, ◌+◌, ◌<◌, ◌≤◌, ℕ, count_by, is_some, List, [], ◌∷◌, ◌++◌, length, map, slice_get, All, IfSome, OnOk, OnErr, IfErr, Some};
+ghost use Rattle.std.specs.Prelude.{◌≡◌, ◌+◌, ◌<◌, ◌≤◌, count_by, is_some, List, [], ◌∷◌, ◌++◌, length, slice_get, All, IfSome, OnOk, OnErr, IfErr, Some};
 ghost use Rattle.std.specs.List.{position_from};
 ghost use Rattle.strips_task.specs.FirstOccurrences.{first_occurrences};
 ghost use Rattle.strips_task.specs.Atom.{atom_eq};
 
+use crate::atom_table::AtomTable;
 use crate::{Atom, Seed};
-use indexmap::IndexSet;
 use std::alloc::{AllocFailed, Global};
 use std::marker::Model;
 
 /// The initial atoms in the order of the text, repeats kept. Contracts see the list of them.
 #[derive(Debug, Drop)]
 pub struct InitialAtoms {
-    distinct: IndexSet<Atom, Seed>,
-    numbers: Vec<usize>,
+    distinct: AtomTable,
+    /// For each atom of the text its number in the table.
+    numbers: Vec<u32>,
 }
 
 impl Model for InitialAtoms {
@@ -28,11 +29,11 @@ impl Model for InitialAtoms {
 
     ghost Value = { List Atom };
 
-    ghost view = { λ s. filter_map (slice_get s.distinct.keys) s.numbers.items };
+    ghost view = { λ s. filter_map (slice_get s.distinct) s.numbers.items };
 
     // Each number is that of an atom, and the distinct atoms are in the order in which they first occur.
-    ghost invariant = { λ s. (All (λ n. n < length s.distinct.keys) s.numbers.items)
-        × (s.distinct.keys ≡ first_occurrences atom_eq (filter_map (slice_get s.distinct.keys) s.numbers.items)) };
+    ghost invariant = { λ s. (All (λ n. n < length s.distinct) s.numbers.items)
+        × (s.distinct ≡ first_occurrences atom_eq (filter_map (slice_get s.distinct) s.numbers.items)) };
 }
 
 impl InitialAtoms {
@@ -41,7 +42,7 @@ impl InitialAtoms {
         ensures { result ≡ [] }
     {
         InitialAtoms {
-            distinct: IndexSet::with_hasher(alloc, seed),
+            distinct: AtomTable::new(alloc, seed),
             numbers: Vec::new(alloc),
         }
     }
@@ -51,7 +52,7 @@ impl InitialAtoms {
         ensures { self.new ≡ self.old }
     {
         let _ = self.numbers.reserve(count);
-        let _ = self.distinct.reserve(count);
+        self.distinct.expect(count);
     }
 
     /// Adds an atom at the end, with one hash. If memory runs out, the atom is given back.
@@ -63,14 +64,14 @@ impl InitialAtoms {
         if self.numbers.reserve(1).is_err() {
             return Err(AllocFailed { value: atom });
         }
-        let (number, _) = self.distinct.insert_full(atom)?;
+        let number = self.distinct.insert(atom)?;
         self.numbers.push_reserved(number);
         Ok(())
     }
 
     /// The seed that the list hashes with.
     pub fn seed(&self) -> Seed {
-        *self.distinct.hasher()
+        self.distinct.seed()
     }
 
     /// How many atoms the list holds, including repeats.
@@ -85,7 +86,7 @@ impl InitialAtoms {
         requires { index < length self.now }
         ensures { slice_get self.now index ≡ Some result.now }
     {
-        self.distinct.get_index(self.numbers[index]).unwrap()
+        self.distinct.get(self.numbers[index])
     }
 
     /// How many distinct atoms the list holds.
@@ -112,6 +113,9 @@ impl InitialAtoms {
         ensures number { result ≡ position_from (atom_eq atom.now) 0 (first_occurrences atom_eq self.now) }
         ensures within { IfSome result (λ number. number < length (first_occurrences atom_eq self.now)) }
     {
-        self.distinct.get_index_of(atom)
+        match self.distinct.number_of(atom) {
+            Some(number) => Some(number as usize),
+            None => None,
+        }
     }
 }

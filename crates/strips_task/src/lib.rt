@@ -17,6 +17,7 @@
 #![tactic(auto)]
 
 mod actions;
+mod atom_table;
 mod atoms;
 mod ends;
 mod equality;

@@ -2,7 +2,7 @@
 //!
 //! A name is stored in lower case, since case is not significant in PDDL. Names of up to 22 bytes are kept in the value itself
 //! and take no memory of their own. Names are looked up in tables by a borrowed [`NameKey`], which takes none either.
-ghost use Rattle.std.specs.Prelude.{◌≡◌, List, ℕ, nat_eq, length, true, IsTrue, IfOk, ◌∷◌, []};
+ghost use Rattle.std.specs.Prelude.{◌≡◌, List, ℕ, true, IsTrue, IfOk, ◌∷◌, []};
 ghost use Rattle.std.specs.Str.{bytes_eq};
 ghost use Rattle.std.specs.Hash as fed;
 ghost use Rattle.std.specs.Cmp.Rules.{comparing, hashing};
@@ -44,10 +44,8 @@ impl Name {
         requires { IsTrue (is_name word.now) }
         ensures { IfOk result (λ name. name ≡ folded word.now) }
     {
-        let mut bytes = SmallVec::with_capacity(alloc, word.len())?;
-        for byte in word {
-            bytes.push(byte.to_ascii_lowercase())?;
-        }
+        let mut bytes = SmallVec::from_slice(alloc, word)?;
+        bytes.as_mut_slice().make_ascii_lowercase();
         Ok(Name { bytes })
     }
 

@@ -1,11 +1,12 @@
 //! The numbers of names of at most 16 bytes.
 //!
 //! A table of names compares the word that is looked up with a name elsewhere in memory. Here a name is kept as two numbers, next to the number of
-//! its entry, so one read of memory finds it. It is in one of four slots, which its bytes choose. If they are all taken when it is added, it is only
+//! its entry, so one read of memory finds it. It is in one of eight slots, which its bytes choose. If they are all taken when it is added, it is only
 //! in the table of all names. No answer depends on that, so someone who chooses names for the same slots only makes them be looked up there.
 //!
-//! A slot takes 24 bytes. There are two to four for each name of the table, so 48 to 96 bytes a name, and at least 456 bytes if there is a name.
+//! A slot takes 24 bytes. There are two to four for each name of the table, so 48 to 96 bytes a name, and at least 552 bytes if there is a name.
 ghost use Rattle.std.specs.Prelude.{◌≡◌, ◌≢◌, ◌≤◌, ◌<◌, ◌+◌, ◌==◌, not, ℕ, List, Option, Some, All, IfOk, IfSome, length, vec_len};
+ghost use Rattle.pddl_words.specs.Words.{folded};
 ghost use Rattle.strips_task.specs.Names.{IsStoredName};
 ghost use Rattle.joined_bytes.specs.ShortWords.{IsWord};
 ghost use Rattle.strips_task.specs.ShortNames.{IsNumbered, name_of};
@@ -15,10 +16,10 @@ use std::alloc::{AllocError, Global};
 use std::marker::Model;
 
 /// How many slots there are for a name.
-const WAYS: usize = 4;
+const WAYS: usize = 8;
 
-/// How many slots there are at first: 16 that a hash can choose, and three after the last of them.
-const FIRST_SLOTS: usize = 19;
+/// How many slots there are at first: 16 that a hash can choose, and seven after the last of them.
+const FIRST_SLOTS: usize = 23;
 
 /// A slot for a name and the number of its entry.
 #[derive(Clone, Copy, Debug)]
@@ -55,7 +56,7 @@ impl Slot {
 /// Names of at most 16 bytes with the numbers of their entries. Contracts see the slots.
 #[derive(Debug, Drop)]
 pub(crate) struct ShortNames {
-    /// None, or a power of two that a hash can choose and three more, so that there are four from each of those on.
+    /// None, or a power of two that a hash can choose and seven more, so that there are eight from each of those on.
     slots: Vec<Slot>,
 }
 
@@ -79,12 +80,32 @@ impl ShortNames {
     }
 
     /// The number of a word, if it is here.
-    #[inline]
+    #[inline(always)]
     pub(crate) fn find(&self, word: &[u8]) -> Option<usize>
         ensures { IfSome result (λ number. (number_of : List ℕ → Option ℕ) → All (IsNumbered number_of) self.now
             → IsStoredName word.now × (number_of word.now ≡ Some number)) }
     {
         let asked = ShortWord::of(word)?;
+        self.find_short(asked)
+    }
+
+    /// The number of a word in lower case, if it is here. The word in lower case is not written anywhere.
+    #[inline(always)]
+    pub(crate) fn find_in_lower_case(&self, word: &[u8]) -> Option<usize>
+        ensures { IfSome result (λ number. (number_of : List ℕ → Option ℕ) → All (IsNumbered number_of) self.now
+            → IsStoredName (folded word.now) × (number_of (folded word.now) ≡ Some number)) }
+    {
+        let asked = ShortWord::in_lower_case(word)?;
+        self.find_short(asked)
+    }
+
+    /// The number of a name, if it is here. Reads its slots up to the first free one, and at most eight.
+    #[inline(always)]
+    fn find_short(&self, asked: ShortWord) -> Option<usize>
+        requires { asked.len ≢ 0 }
+        ensures { IfSome result (λ number. (number_of : List ℕ → Option ℕ) → All (IsNumbered number_of) self.now → (word : List ℕ) → IsWord asked word
+            → IsStoredName word × (number_of word ≡ Some number)) }
+    {
         let slots = self.slots.as_slice();
         if slots.len() < WAYS {
             return None;
@@ -122,7 +143,7 @@ impl ShortNames {
 
     /// Makes `count` slots, and puts all names in them.
     fn grow(&mut self, count: usize) -> Result<(), AllocError>
-        requires { 4 ≤ count }
+        requires { 8 ≤ count }
         ensures { (number_of : List ℕ → Option ℕ) → All (IsNumbered number_of) self.old → All (IsNumbered number_of) self.new }
     {
         let mut slots = empty_slots(*self.slots.allocator(), count)?;
@@ -134,7 +155,7 @@ impl ShortNames {
 
 /// How many slots there are after `count`: twice as many that a hash can choose.
 fn slots_after(count: usize) -> usize
-    ensures { 4 ≤ result }
+    ensures { 8 ≤ result }
 {
     count
         .saturating_mul(2)
@@ -160,7 +181,7 @@ fn empty_slots(alloc: Global, count: usize) -> Result<Vec<Slot>, AllocError>
 
 /// Puts the names of slots into others.
 fn put_all(slots: &mut Vec<Slot>, others: &[Slot])
-    requires { 4 ≤ vec_len slots.old }
+    requires { 8 ≤ vec_len slots.old }
     ensures { (number_of : List ℕ → Option ℕ) → All (IsNumbered number_of) others.now → All (IsNumbered number_of) slots.old.items
         → All (IsNumbered number_of) slots.new.items }
 {
@@ -171,7 +192,7 @@ fn put_all(slots: &mut Vec<Slot>, others: &[Slot])
 
 /// Puts the name of a slot, if it has one, into the first of its slots here that is free. If none is, it is left out.
 fn put(slots: &mut Vec<Slot>, slot: Slot)
-    requires { 4 ≤ vec_len slots.old }
+    requires { 8 ≤ vec_len slots.old }
     ensures len { vec_len slots.new ≡ vec_len slots.old }
     ensures numbered { (number_of : List ℕ → Option ℕ) → IsNumbered number_of slot → All (IsNumbered number_of) slots.old.items
         → All (IsNumbered number_of) slots.new.items }
@@ -186,7 +207,7 @@ fn put(slots: &mut Vec<Slot>, slot: Slot)
 
 /// The index of the first slot of a hash that is free, if one is.
 fn free_slot(slots: &[Slot], hash: u64) -> Option<usize>
-    requires { 4 ≤ length slots.now }
+    requires { 8 ≤ length slots.now }
     ensures { IfSome result (λ index. index < length slots.now) }
 {
     let first = first_slot(hash, slots.len());
@@ -198,12 +219,12 @@ fn free_slot(slots: &[Slot], hash: u64) -> Option<usize>
     None
 }
 
-/// The index of the first of the four slots of a hash, among `slots` slots.
+/// The index of the first of the eight slots of a hash, among `slots` slots.
 #[inline]
 #[tactic(auto, using(std::proofs::lemmas::Nat::and_le_r))]
 fn first_slot(hash: u64, slots: usize) -> usize
-    requires { 4 ≤ slots }
-    ensures { result + 4 ≤ slots }
+    requires { 8 ≤ slots }
+    ensures { result + 8 ≤ slots }
 {
     (hash >> 32) as usize & (slots - WAYS)
 }

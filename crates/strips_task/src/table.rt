@@ -63,7 +63,7 @@ impl<V> NameTable<V> {
 
     /// The number of the entry with a name, by the bytes as they are: a word that is not in lower case has none. If it has a number, it is a name.
     /// Takes no memory.
-    #[inline]
+    #[inline(always)]
     pub fn number_of(&self, word: &[u8]) -> Option<usize>
         ensures number { result ≡ number_named self.now word.now }
         ensures within { IfSome result (λ number. number < length self.now) }
@@ -75,7 +75,18 @@ impl<V> NameTable<V> {
         }
     }
 
+    /// The number of the entry whose name the word spells in upper or lower case, if it is among the short names. If there is none, the name may be in
+    /// the table all the same, so it is looked up in lower case by `number_of`. Takes one read of memory for most names, and writes no bytes.
+    #[inline(always)]
+    pub fn number_of_spelling(&self, word: &[u8]) -> Option<usize>
+        ensures spelled { IfSome result (λ number. (is_name word.now ≡ true) × (number_named self.now (folded word.now) ≡ Some number)) }
+        ensures within { IfSome result (λ number. number < length self.now) }
+    {
+        self.short_names.find_in_lower_case(word)
+    }
+
     /// The number of the entry with a name, as by `number_of`. Takes one hash of the bytes.
+    #[inline(never)]
     fn number_among_all(&self, word: &[u8]) -> Option<usize>
         ensures number { result ≡ number_named self.now word.now }
         ensures within { IfSome result (λ number. number < length self.now) }

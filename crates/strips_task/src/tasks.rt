@@ -1,13 +1,13 @@
 //! A planning task: what a domain and a problem say together (PDDL 2.1, Fox and Long 2003, level 1).
 //!
 //! A reader fills [`TaskParts`] and makes a [`Task`] of them. The type [`Task`] ensures that they are well formed, and judges only read it.
-ghost use Rattle.std.specs.Prelude.{◌≡◌, ◌<◌, ◌≤◌, ◌^◌, ℕ, ◌↔◌, IsTrue, length, slice_get, slice_index, IfSome, Some};
+ghost use Rattle.std.specs.Prelude.{◌≡◌, ◌<◌, ◌↔◌, IsTrue, true, length, slice_get, IfSome, Some};
+ghost use Rattle.pddl_words.specs.Words.{is_name, folded};
 ghost use Rattle.strips_task.specs.Names.{number_named};
 ghost use Rattle.strips_task.specs.Types.{IsBelow, is_below};
 ghost use Rattle.strips_task.specs.WellFormed.{IsWellFormed};
 ghost use Rattle.strips_task.specs.Within.{IsActionWithin};
 ghost use Rattle.std.specs.Map.{keys_of, values_of};
-ghost use Rattle.std.specs.Option.{option_map};
 
 use crate::{Action, Alternatives, CondList, InitialAtoms, Name, NameTable, Seq, TypeList};
 use std::marker::Model;
@@ -148,6 +148,19 @@ impl Task {
         }
     }
 
+    /// The number of the action whose name the word spells in upper or lower case. If there is none, the action may be known all the same, so it is looked
+    /// up in lower case by `action_named`. Takes one read of memory for most names of at most 16 bytes ([`NameTable::number_of_spelling`]).
+    #[inline(always)]
+    pub fn action_spelled(&self, word: &[u8]) -> Option<u16>
+        ensures spelled { IfSome result (λ number. (is_name word.now ≡ true) × (number_named self.now.actions (folded word.now) ≡ Some number)) }
+        ensures within { IfSome result (λ number. number < length self.now.actions) }
+    {
+        match self.parts.actions.number_of_spelling(word) {
+            Some(number) => Some(number as u16),
+            None => None,
+        }
+    }
+
     /// The number of the object with a name, by the bytes as they are: a word that is not in lower case has none. Takes one
     /// read of memory for most names of at most 16 bytes ([`NameTable::number_of`]).
     #[inline]
@@ -156,6 +169,19 @@ impl Task {
         ensures within { IfSome result (λ number. number < length self.now.objects) }
     {
         match self.parts.objects.number_of(word) {
+            Some(number) => Some(number as u16),
+            None => None,
+        }
+    }
+
+    /// The number of the object whose name the word spells in upper or lower case. If there is none, the object may be known all the same, so it is looked
+    /// up in lower case by `object_named`. Takes one read of memory for most names of at most 16 bytes ([`NameTable::number_of_spelling`]).
+    #[inline(always)]
+    pub fn object_spelled(&self, word: &[u8]) -> Option<u16>
+        ensures spelled { IfSome result (λ number. (is_name word.now ≡ true) × (number_named self.now.objects (folded word.now) ≡ Some number)) }
+        ensures within { IfSome result (λ number. number < length self.now.objects) }
+    {
+        match self.parts.objects.number_of_spelling(word) {
             Some(number) => Some(number as u16),
             None => None,
         }

@@ -126,12 +126,15 @@ impl TypeList {
     }
 }
 
-/// Whether a type is below another. Inlined, since it is called for each pair of two short lists.
+/// Whether a type is below another. A type is below itself, which reads no table. Inlined, since it is called for each pair of two short lists.
 #[inline(always)]
 fn is_below(parents: &[u16], table: &[u64], sub: u16, sup: u16) -> bool
     requires { MayHaveTable parents.now table.now }
     ensures { result ≡ is_below parents.now sub sup }
 {
+    if sub == sup {
+        return true;
+    }
     let sub = usize::from(sub);
     let sup = usize::from(sup);
     if sub < parents.len() && sup < parents.len() && !table.is_empty() {

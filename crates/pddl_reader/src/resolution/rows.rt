@@ -16,6 +16,7 @@ ghost use Rattle.pddl_reader.specs.Rows.{BeginWithAtoms, row_number, row_numbers
 
 use crate::resolution::tables::Declared;
 use pddl_syntax::Literals;
+use pddl_words::RowWords;
 use std::alloc::{AllocError, Global};
 use strips_task::{Alternatives, Atom, InitialAtoms, ShortSeq, object_fits};
 
@@ -66,7 +67,8 @@ fn find_numbers(
     ensures numbers { IfOk result (λ found. IsTrue found → row_numbers (known_form known.now) (words_of row.now) ≡ map Some numbers.new.items) }
 {
     numbers.clear();
-    for word in row.split(|b| *b == b' ') {
+    let mut words = RowWords::new(row);
+    'words: while let Some(word) = words.next() {
         match number_as_written(known, numbers.is_empty(), word) {
             Some(number) => numbers.push(number)?,
             None => return Ok(false),

@@ -124,7 +124,7 @@ impl<'a> Literals<'a> {
 
 /// The bytes between the parentheses of a literal, which may be names with a single space between each two.
 ///
-/// Only its first word is known to be a name. If all words are, the first is the predicate of an initial atom and the others are its terms.
+/// If all words are names, the first is the predicate of an initial atom and the others are its terms.
 #[derive(Drop)]
 pub struct InitialRow<'a> {
     walk: Walk<'a>,
@@ -138,14 +138,14 @@ impl<'a> Model for InitialRow<'a> {
     ghost use Rattle.pddl_syntax.specs.Heads.{scope_at};
     ghost use Rattle.pddl_syntax.specs.Levels.{here};
     ghost use Rattle.pddl_syntax.specs.Remaining.{remaining};
-    ghost use Rattle.pddl_syntax.specs.Rows.{ComesNext, RowAhead, heads_atom};
+    ghost use Rattle.pddl_syntax.specs.Rows.{AreNames, ComesNext, RowAhead, heads_atom};
 
     ghost Value = { RowAhead };
 
     ghost view = { λ r. record { bytes = r.group.key.now; before = unwrap_or (remaining (scope_at r.dialect Initial) 1 (here r.walk.cursor)) [] } };
 
     ghost invariant = { λ r. IsSome (remaining (scope_at r.dialect Initial) 1 (here r.walk.cursor)) × ComesNext r.walk.cursor r.group
-        × (heads_atom r.group.key.now ≡ true) };
+        × (AreNames r.group.key.now → heads_atom r.group.key.now ≡ true) };
 }
 
 impl<'a> InitialRow<'a> {

@@ -20,7 +20,6 @@ use crate::syntax::typed::{keywords, skip, typed_names};
 use crate::syntax::{ProblemSections, ProblemSyntax};
 use crate::walk::{Item, Walk};
 use pddl_tokens::Span;
-use pddl_words::are_names;
 use std::alloc::Global;
 
 /// Steps over an initial atom, which may be negated, or the value of a function.
@@ -44,10 +43,10 @@ fn pass_row(walk: &mut Walk<'_>) -> bool
     let Some(group) = walk.next_group() else {
         return false;
     };
-    if !heads_atom(group.key) {
+    if !group.are_names() {
         return false;
     }
-    if !are_names(group.key) {
+    if !heads_atom(group.key) {
         return false;
     }
     walk.pass(group);

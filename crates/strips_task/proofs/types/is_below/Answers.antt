@@ -1,5 +1,6 @@
-use Rattle.std.proofs.Common.{◌<◌, ◌∙◌, arith, length}
+use Rattle.std.proofs.Common.{◌<◌, ◌∙◌, arith, length, sym}
 use Rattle.strips_task.specs.Types.{is_below, is_within}
+use Rattle.strips_task.proofs.TypeTrees.{below_itself}
 use Rattle.strips_task.proofs.types.is_below.Goals as goal
 
 pub returns-then-not-is_empty : goal.returns-then-not-is_empty
@@ -15,3 +16,7 @@ unfolding is_below
 returns-else-sub-parents c =
     c.stands_above.ensures
     ∙ (λ j. is_within c.args.parents.now (length c.args.parents.now) (c.from-sub.ensures j) (c.from-sup.ensures j))
+
+pub returns-then-sub-sup : goal.returns-then-sub-sup
+unfolding is_below
+returns-then-sub-sup c = sym (below_itself c.args.parents.now (length c.args.parents.now) c.args.sub c.args.sup c.if-sub-sup.true)

@@ -1,23 +1,23 @@
-use Rattle.std.proofs.Common.{ap, sym, ◌∙◌, arith, tests}
-use Rattle.pddl_words.specs.Words.{folded}
+use Rattle.std.proofs.Common.{◌≡◌, ℕ, true, Option, Some, IfSome, ap, subst, ◌∙◌}
+use Rattle.pddl_words.specs.Words.{is_name, folded}
+use Rattle.strips_task.specs.declared.tasks.TaskParts.{TaskParts}
 use Rattle.strips_task.specs.Names.{number_named}
-use Rattle.strips_judge.proofs.FoundNames.{one_pushed}
 use Rattle.strips_judge.proofs.step_names.StepNames.action.Goals as goal
 
-pub invariant_of-self-in_err-keep : goal.invariant_of-self-in_err-keep
-invariant_of-self-in_err-keep c = (
-  c.keep.ensures (number_named c.self.inside.task.now.actions) (c.is_name.ensures (grind (arith, tests, c.if-not-is_name.false)))
-      (ap (number_named c.self.inside.task.now.actions) (sym (one_pushed c.clear.new.self c.push_folded.new.self (folded c.args.word.now) c.get.result.now c.clear.ensures c.in_ok-push_folded.ensures.ok c.get.ensures))
-      ∙ sym c.action_named.ensures.number ∙ c.in-Some-action_named.is)
-      c.self.invariant.0,
-  c.self.invariant.1,
-)
+pub invariant_of-self : goal.invariant_of-self
+invariant_of-self c =
+    let word = c.args.word.now in
+    let named = subst (λ (o : Option ℕ). IfSome o (λ number. (is_name word ≡ true) × (number_named c.args.self.now.actions (folded word) ≡ Some number))) c.in-Some-2.is c.in_ok-number.ensures.named in
+    let same = c.self-2.view_is ∙ c.action_in_table.ensures.task in
+    let is : number_named c.self-2.inside.task.now.actions (folded word) ≡ Some c.in-Some-2.number = ap (λ (t : TaskParts). number_named t.actions (folded word)) same ∙ named.1 in
+    let kept = c.keep.ensures (number_named c.self-2.inside.task.now.actions) named.0 is c.self-2.invariant.0 in
+    (kept, c.self-2.invariant.1)
 
 pub invariant_of-self-2 : goal.invariant_of-self-2
-invariant_of-self-2 c = (
-  c.keep.ensures (number_named c.self.inside.task.now.actions) (c.is_name.ensures (grind (arith, tests, c.if-not-is_name.false)))
-      (ap (number_named c.self.inside.task.now.actions) (sym (one_pushed c.clear.new.self c.push_folded.new.self (folded c.args.word.now) c.get.result.now c.clear.ensures c.in_ok-push_folded.ensures.ok c.get.ensures))
-      ∙ sym c.action_named.ensures.number ∙ c.in-Some-action_named.is)
-      c.self.invariant.0,
-  c.self.invariant.1,
-)
+invariant_of-self-2 c =
+    let word = c.args.word.now in
+    let named = subst (λ (o : Option ℕ). IfSome o (λ number. (is_name word ≡ true) × (number_named c.args.self.now.actions (folded word) ≡ Some number))) c.in-Some-2.is c.in_ok-number.ensures.named in
+    let same = c.self-2.view_is ∙ c.action_in_table.ensures.task in
+    let is : number_named c.self-2.inside.task.now.actions (folded word) ≡ Some c.in-Some-2.number = ap (λ (t : TaskParts). number_named t.actions (folded word)) same ∙ named.1 in
+    let kept = c.keep.ensures (number_named c.self-2.inside.task.now.actions) named.0 is c.self-2.invariant.0 in
+    (kept, c.self-2.invariant.1)

@@ -1,23 +1,21 @@
 use Rattle.std.proofs.Common.{◌<◌, length, ap, sym, ◌∙◌, arith, slice_get}
-use Rattle.std.specs.Option.{option_copied}
 use Rattle.strips_task.proofs.Numbered.{length-shown, slice_get-shown}
 use Rattle.strips_task.proofs.initial.InitialAtoms.get.Goals as goal
 
 pub index-requires : goal.index-requires
-index-requires c = omega (arith, length-shown c.self.inside.distinct.keys c.self.inside.numbers.items c.self.invariant.0, ap length c.self.view_is)
+index-requires c = omega (arith, length-shown c.self.inside.distinct c.self.inside.numbers.items c.self.invariant.0, ap length c.self.view_is)
 
-pub unwrap-requires : goal.unwrap-requires
-unwrap-requires c =
+pub get-requires : goal.get-requires
+get-requires c =
     let index : c.args.index < length c.self.inside.numbers.items =
-    omega (arith, length-shown c.self.inside.distinct.keys c.self.inside.numbers.items c.self.invariant.0, ap length c.self.view_is) in
-    c.get_index.ensures.found.1 (omega (arith, c.self.invariant.0 c.args.index c.index.result.now index, c.index.ensures))
+    omega (arith, length-shown c.self.inside.distinct c.self.inside.numbers.items c.self.invariant.0, ap length c.self.view_is) in
+    omega (arith, c.self.invariant.0 c.args.index c.index.result.now index, c.index.ensures)
 
 pub returns : goal.returns
 returns c =
     let index : c.args.index < length c.self.inside.numbers.items =
-    omega (arith, length-shown c.self.inside.distinct.keys c.self.inside.numbers.items c.self.invariant.0, ap length c.self.view_is) in
+    omega (arith, length-shown c.self.inside.distinct c.self.inside.numbers.items c.self.invariant.0, ap length c.self.view_is) in
     ap (λ l. slice_get l c.args.index) (sym c.self.view_is)
-    ∙ slice_get-shown c.self.inside.distinct.keys c.self.inside.numbers.items c.self.invariant.0 c.args.index c.index.result.now index
-    ∙ ap (slice_get c.self.inside.distinct.keys) (sym c.index.ensures)
-    ∙ sym c.get_index.ensures.key
-    ∙ ap option_copied c.unwrap.ensures
+    ∙ slice_get-shown c.self.inside.distinct c.self.inside.numbers.items c.self.invariant.0 c.args.index c.index.result.now index
+    ∙ ap (slice_get c.self.inside.distinct) (sym c.index.ensures)
+    ∙ c.get.ensures

@@ -3,4 +3,4 @@ use Rattle.strips_task.proofs.Numbered.{length-shown}
 use Rattle.strips_task.proofs.initial.InitialAtoms.len.Goals as goal
 
 pub returns : goal.returns
-returns c = omega (arith, length-shown c.self.inside.distinct.keys c.self.inside.numbers.items c.self.invariant.0, ap length c.self.view_is)
+returns c = omega (arith, length-shown c.self.inside.distinct c.self.inside.numbers.items c.self.invariant.0, ap length c.self.view_is)

@@ -1,22 +1,5 @@
-use Rattle.std.proofs.Common.{◌-◌, ◌+◌, ℕ, List, Option, All, IfSome, None, Some, sym, subst, drop}
-use Rattle.std.proofs.lemmas.List.Elements.{All-take, All-drop}
-use Rattle.strips_task.specs.declared.short_names.Slot.{Slot}
-use Rattle.strips_task.specs.ShortNames.{IsNumbered}
+use Rattle.strips_task.proofs.Found.{follows}
 use Rattle.strips_task.proofs.short_names.ShortNames.find.Goals as goal
 
--- what follows of each number follows of the one that is found
-follows : (found : Option ℕ) (P Q : ℕ → Type 0) → ((number : ℕ) → P number → Q number) → IfSome found P → IfSome found Q
-follows None P Q then h = h
-follows (Some number) P Q then h = then number h
-
 pub returns : goal.returns
-returns c =
-    let slots = c.as_slice-slots.result.now in
-    let first = c.first_slot-first.result in
-    follows c.search.result _ _
-    (λ number found number_of numbered.
-    let here = subst (λ (slots : List Slot). All (IsNumbered number_of) slots) (sym c.self.view_is) numbered in
-    let all = subst (λ (slots : List Slot). All (IsNumbered number_of) slots) (sym c.as_slice-slots.ensures.value) here in
-    found number_of (All-take (IsNumbered number_of) (first + 4 - first) (drop first slots) (All-drop (IsNumbered number_of) first slots all))
-    c.args.word.now c.in_ok-asked.ensures.word)
-    c.search.ensures
+returns c = follows c.find_short.result _ _ (λ number found number_of numbered. found number_of numbered c.args.word.now c.in_ok-asked.ensures.word) c.find_short.ensures

@@ -13,7 +13,7 @@ invariant_of-result c =
     let inside = c.self.inside in
     let row = inside.group.key.now in
     let names : AreNames row = subst AreNames (sym (ap (λ (r : RowAhead). r.bytes) c.self.view_is)) c.requires in (
-      row_goes_on inside.dialect row (here inside.walk.cursor) (here c.pass.new.self.cursor) c.self.invariant.2 names c.pass.ensures c.self.invariant.0,
+      row_goes_on inside.dialect row (here inside.walk.cursor) (here c.pass.new.self.cursor) (c.self.invariant.2 names) names c.pass.ensures c.self.invariant.0,
       omega (arith, inside.walk.short, less_ahead row (here inside.walk.cursor) (here c.pass.new.self.cursor) c.pass.ensures),
     )
 
@@ -24,5 +24,5 @@ returns c =
     let bytes = ap (λ (r : RowAhead). r.bytes) c.self.view_is in
     let names : AreNames row = subst AreNames (sym bytes) c.requires in
     sym (ap (λ (r : RowAhead). r.before) c.self.view_is)
-    ∙ row_first inside.dialect row (here inside.walk.cursor) (here c.pass.new.self.cursor) c.self.invariant.2 names c.pass.ensures c.self.invariant.0
+    ∙ row_first inside.dialect row (here inside.walk.cursor) (here c.pass.new.self.cursor) (c.self.invariant.2 names) names c.pass.ensures c.self.invariant.0
     ∙ ap (λ (b : List ℕ). atom_literal true (atom_spelled b) ∷ unwrap_or (remaining (scope_at inside.dialect Initial) 1 (here c.pass.new.self.cursor)) []) bytes

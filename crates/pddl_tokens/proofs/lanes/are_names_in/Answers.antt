@@ -1,0 +1,15 @@
+use Rattle.std.proofs.Common.{◌∙◌, arith}
+use Rattle.std.proofs.lemmas.Bool.{ne_eqb}
+use Rattle.pddl_tokens.proofs.NameLanes.{GoesOnTo}
+use Rattle.pddl_tokens.proofs.NamePairs.{same_len, other_len}
+use Rattle.pddl_tokens.proofs.lanes.are_names_in.Goals as goal
+
+pub returns-then-names_len-size : goal.returns-then-names_len-size
+returns-then-names_len-size c =
+    let seen : GoesOnTo c.args.list.now c.names_len.result = record { before = c.names_len.ensures.before; end = c.names_len.ensures.end } in
+    same_len c.args.list.now c.args.key.now c.names_len.result c.requires (omega arith) (omega arith) seen c.if-names_len-size.true
+
+pub returns-else-names_len-size : goal.returns-else-names_len-size
+returns-else-names_len-size c =
+    let seen : GoesOnTo c.args.list.now c.names_len.result = record { before = c.names_len.ensures.before; end = c.names_len.ensures.end } in
+    ne_eqb _ _ c.if-names_len-size.false ∙ other_len c.args.list.now c.args.key.now c.names_len.result c.requires (omega arith) seen c.if-names_len-size.false

@@ -1,0 +1,110 @@
+//! Looks at many bytes of a text at once, as vectors.
+
+ghost use Rattle.std.specs.Prelude.{◌≡◌, ℕ, ◌+◌, ◌<◌, ◌≤◌, true, false, length, slice_index};
+ghost use Rattle.std.specs.Simd.Lanes.{mask_l, zip2};
+ghost use Rattle.std.specs.List.{list_all};
+ghost use Rattle.memchr.specs.Find.{IsFirst, IsFirstByte, Passes, is_byte};
+ghost use Rattle.pddl_words.specs.SpacedWords.{words_of};
+ghost use Rattle.pddl_words.specs.Words.{is_name};
+ghost use Rattle.pddl_tokens.specs.Groups.{BeginsWithList};
+ghost use Rattle.pddl_tokens.specs.Pairs.{goes_on, stops};
+
+use memchr::memchr;
+use pddl_words::are_names;
+use std::simd::prelude::*;
+
+/// How many bytes one vector has.
+const LANES: usize = 32;
+
+/// The offset of the first `)`. Most lists are short, so the first bytes are looked at here, before a search is called.
+#[inline(always)]
+pub(crate) fn right_from(bytes: &[u8]) -> Option<usize>
+    ensures { IsFirstByte (is_byte 41) bytes.now result }
+{
+    if bytes.len() >= LANES {
+        if let Some(near) = right_in(bytes, 0) {
+            return Some(near);
+        }
+    }
+    if bytes.len() >= 2 * LANES {
+        if let Some(far) = right_in(bytes, LANES) {
+            return Some(far);
+        }
+    }
+    memchr(b')', bytes)
+}
+
+/// The offset of the first `)` among the 32 bytes from `at` on.
+#[inline(always)]
+fn right_in(bytes: &[u8], at: usize) -> Option<usize>
+    requires { at + 32 ≤ length bytes.now }
+    ensures { IsFirst (Passes (is_byte 41) bytes.now) at (at + 32) result }
+{
+    let found = u8x32::from_slice(&bytes[at..])
+        .simd_eq(u8x32::splat(b')'))
+        .to_bitmask();
+    if found == 0 {
+        return None;
+    }
+    Some(at + found.trailing_zeros() as usize)
+}
+
+/// How many spaces there are from `at` on, as far as 8 bytes tell. Where fewer are left, none are counted.
+#[inline(always)]
+pub(crate) fn spaces_from(text: &[u8], at: usize) -> usize
+    requires { at ≤ length text.now }
+    ensures spaces { (k : ℕ) → at ≤ k → k < at + result → slice_index text.now k ≡ 32 }
+    ensures within { at + result ≤ length text.now }
+{
+    if text.len() - at < 8 {
+        return 0;
+    }
+    let others = u8x8::from_slice(&text[at..])
+        .simd_ne(u8x8::splat(b' '))
+        .to_bitmask();
+    if others == 0 {
+        return 8;
+    }
+    others.trailing_zeros() as usize
+}
+
+/// Whether the key of a list is names, with a single space between each two.
+///
+/// A key of at most 31 bytes is seen at once, if the text goes on far enough.
+#[inline(always)]
+pub(crate) fn are_names_in(list: &[u8], key: &[u8]) -> bool
+    requires { BeginsWithList list.now key.now }
+    ensures { result ≡ list_all is_name (words_of key.now) }
+{
+    let size = key.len();
+    if size == 0 || size >= LANES || list.len() <= LANES {
+        return are_names(key);
+    }
+    names_len(list) == size && list[size] != b' '
+}
+
+/// How many of the 32 bytes behind the first go on as names, up to the first that does not. If each does, the answer is 64.
+#[inline(always)]
+fn names_len(list: &[u8]) -> usize
+    requires { 32 < length list.now }
+    ensures before { (k : ℕ) → k < 32 → k < result → goes_on (slice_index list.now k) (slice_index list.now (k + 1)) ≡ true }
+    ensures end { result < 32 → goes_on (slice_index list.now result) (slice_index list.now (result + 1)) ≡ false }
+{
+    let bytes = u8x32::from_slice(&list[1..]);
+    let before = u8x32::from_slice(list);
+    stops(before, bytes).trailing_zeros() as usize
+}
+
+/// Which bytes do not go on as names behind the bytes before them, by one bit each.
+#[inline(always)]
+fn stops(before: u8x32, bytes: u8x32) -> u64
+    ensures { result ≡ mask_l (zip2 stops before bytes) }
+{
+    let letter = ((bytes | u8x32::splat(0x20)) - u8x32::splat(b'a')).simd_lt(u8x32::splat(26));
+    let digit = (bytes - u8x32::splat(b'0')).simd_lt(u8x32::splat(10));
+    let mark = bytes.simd_eq(u8x32::splat(b'-')) | bytes.simd_eq(u8x32::splat(b'_'));
+    let space = bytes.simd_eq(u8x32::splat(b' '));
+    let begins = before.simd_eq(u8x32::splat(b' ')) | before.simd_eq(u8x32::splat(b'('));
+    let fine = letter | ((digit | mark | space) & !begins);
+    (!fine).to_bitmask()
+}
