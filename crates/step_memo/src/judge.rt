@@ -75,7 +75,8 @@ impl<'t> Judge<'t> {
     {
         let initial = task.task.initial_atoms();
         let room = Room::of_each(judges);
-        let state = NumberedState::new(alloc, initial, room.recent_atoms)?;
+        let objects = task.task.object_count();
+        let state = NumberedState::new(alloc, initial, objects, room.kept_atoms)?;
         Ok(Judge {
             task,
             room,
@@ -125,7 +126,8 @@ impl<'t> Judge<'t> {
         ensures state { OnOk result (state_of self.new.state ≡ is_in self.new.task.task.init) }
     {
         let initial = self.task.task.initial_atoms();
-        let state = NumberedState::new(alloc, initial, self.room.recent_atoms)?;
+        let objects = self.task.task.object_count();
+        let state = NumberedState::new(alloc, initial, objects, self.room.kept_atoms)?;
         self.memo.clear();
         self.state = state;
         Ok(())
@@ -167,7 +169,7 @@ impl<'t> Judge<'t> {
     /// Takes the step that a row spells, if its names are known and it is applicable, and otherwise changes no atom. Returns whether it did. Learns a
     /// step that has a code while there is room.
     ///
-    /// Takes one read of memory for most names and for each atom that was used recently, more for others, and memory for what is new. If memory runs
+    /// Takes one read of memory for most names and for each atom that was looked up before, more for others, and memory for what is new. If memory runs
     /// out, the plan is over.
     pub fn take_row(&mut self, alloc: Global, row: &[u8]) -> Result<bool, AllocError>
         requires { self.old.count < MOST_STEPS }

@@ -15,14 +15,14 @@
 //! writes bits; it folds no name and looks up no word and no atom. No verdict depends on what is known.
 //!
 //! - A known step costs one hash of its key, one look-up in the table, and a test or a write for each number of its code.
-//! - Any other step costs one read of memory for each name and each atom that was used recently, and a look-up in a table for each other one.
+//! - Any other step costs one read of memory for each recently used name and each atom that was looked up before, and a look-up in a table for each other one.
 //! - A step with a fault, an equality that does not hold, or an undefined amount is never known.
 //!
 //! Memory is taken as steps are learned. All judges of a run share room for [`ALL_CODES`] steps, [`ALL_NUMBERS`] numbers in their codes and
 //! [`ALL_KEY_BYTES`] bytes of keys. Each judge may take an equal part: at most 9 MiB, and less than 2 MiB if there are 32 judges. In the same way
-//! the judges share [`ALL_RECENT_ATOMS`] slots for recently used atoms, eight cells for each slot, and [`ALL_RECENT_NAMES`] slots for recently used
-//! names: at most 7 MiB for a judge. All of that is at most 64 MiB for all judges. Atoms that have numbers take memory besides. A step that finds no
-//! room is judged without the memory.
+//! the judges share [`ALL_RECENT_NAMES`] slots for recently used names: at most 1 MiB for a judge. They keep the numbers of [`ALL_KEPT_ATOMS`] initial
+//! atoms that were looked up, each an equal part: at most 24 MiB for a single judge, and less than 1 MiB if there are 32. All of that is at most 64 MiB
+//! for all judges. The numbers of the other atoms take memory besides. A step that finds no room is judged without the memory.
 //!
 //! If more than [`MOST_LATER`] atoms besides the initial ones have numbers when a plan begins, the judge forgets these numbers and all codes.
 //! If hardly any step is found in the table, the judge does without it for some plans, and for twice as many each time.
@@ -37,5 +37,5 @@ mod usage;
 
 pub use judge::{Judge, MOST_LATER};
 pub use room::{
-    ALL_CODES, ALL_KEY_BYTES, ALL_NUMBERS, ALL_RECENT_ATOMS, ALL_RECENT_NAMES, MOST_JUDGES,
+    ALL_CODES, ALL_KEPT_ATOMS, ALL_KEY_BYTES, ALL_NUMBERS, ALL_RECENT_NAMES, MOST_JUDGES,
 };

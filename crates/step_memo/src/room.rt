@@ -4,7 +4,7 @@ ghost use Rattle.std.specs.Prelude.{◌<◌, ◌^◌};
 /// The room is divided as if there were at most this many judges. If there are more, each has as much as with this many.
 pub const MOST_JUDGES: u32 = 32;
 
-/// The room is divided as if there were at least this many judges, so that a single judge does not take all of it.
+/// The room for what is learned of steps is divided as if there were at least this many judges, so that a single judge does not take all of it.
 const FEWEST_JUDGES: u32 = 4;
 
 /// How many steps all judges keep. Each takes 48 bytes besides its key and its code, and up to 16 for its slots: 16 MiB. With the rooms below, that
@@ -17,9 +17,9 @@ pub const ALL_NUMBERS: usize = 2_621_440;
 /// How many bytes the keys of all judges have: 10 MiB.
 pub const ALL_KEY_BYTES: usize = 10_485_760;
 
-/// How many slots all judges have for recently used atoms, of 16 bytes each: 8 MiB. With each slot they have eight cells for atoms of one or two
-/// objects, of four bytes each: 16 MiB.
-pub const ALL_RECENT_ATOMS: usize = 524_288;
+/// The numbers of how many initial atoms all judges keep, with up to 43 bytes for each: 20 MiB. For each of these there may be two cells of four
+/// bytes: 4 MiB.
+pub const ALL_KEPT_ATOMS: usize = 491_520;
 
 /// How many slots all judges have for recently used names of objects, and how many for names of actions, of 32 bytes each: 4 MiB for both.
 pub const ALL_RECENT_NAMES: usize = 65_536;
@@ -33,8 +33,8 @@ pub(crate) struct Room {
     pub(crate) numbers: usize,
     /// How many bytes in all keys.
     pub(crate) key_bytes: usize,
-    /// How many slots for recently used atoms.
-    pub(crate) recent_atoms: usize,
+    /// The numbers of how many initial atoms.
+    pub(crate) kept_atoms: usize,
     /// How many slots for recently used names.
     pub(crate) recent_names: usize,
     ghost few_codes: { codes < 2 ^ 32 },
@@ -45,12 +45,13 @@ pub(crate) struct Room {
 impl Room {
     /// What each of `judges` judges may keep.
     pub(crate) fn of_each(judges: u32) -> Room {
+        let kept_atoms = ALL_KEPT_ATOMS / judges.clamp(1, MOST_JUDGES) as usize;
         let judges = judges.clamp(FEWEST_JUDGES, MOST_JUDGES) as usize;
         Room {
             codes: ALL_CODES / judges,
             numbers: ALL_NUMBERS / judges,
             key_bytes: ALL_KEY_BYTES / judges,
-            recent_atoms: ALL_RECENT_ATOMS / judges,
+            kept_atoms,
             recent_names: ALL_RECENT_NAMES / judges,
         }
     }

@@ -2,7 +2,11 @@ pub mod Applicable
 pub mod Bound
 pub mod VerdictMeanings
 pub mod NumberedLaws
-pub mod CellLaws
+pub mod AtomIndexes
+pub mod AtomKeys
+pub mod KnownAtoms
+pub mod AtomsFound
+pub mod SingleCells
 pub mod CodeLaws
 pub mod Fits
 pub mod Growth

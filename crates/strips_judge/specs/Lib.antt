@@ -2,10 +2,13 @@ pub mod Codes
 pub mod Grounding
 pub mod NumberedState
 pub mod AtomNumbers
-pub mod AtomCells
 pub mod State
-pub mod ShortAtoms
-pub mod Recent
+pub mod AtomKeys
+pub mod KnownAtoms
+pub mod SingleCells
+pub mod AtomIndex
+pub mod LongAtoms
+pub mod AtomsFound
 pub mod Step
 pub mod Verdict
 pub mod Validity

@@ -19,8 +19,8 @@ use crate::verdict::{Verdict, Why};
 use std::alloc::{AllocError, Global};
 use strips_task::{Action, Atom, Plan, ShortSeq, StepList, StepView, Task};
 
-/// How many recently used atoms are kept in slots while one plan is judged: up to 256 KiB.
-const MOST_RECENT: usize = 16_384;
+/// The numbers of how many initial atoms are kept while one plan is judged: up to 836 KiB.
+const MOST_KEPT: usize = 16_384;
 
 /// Room that all steps use, so that a step takes no memory of its own. No answer depends on what it holds.
 #[derive(Drop)]
@@ -57,7 +57,12 @@ pub fn judge(alloc: Global, task: &Task, plan: &Plan) -> Result<Verdict, AllocEr
 fn judge_steps(alloc: Global, task: &Task, steps: &StepList) -> Result<Verdict, AllocError>
     ensures { IfOk result (λ answer. answer ≡ verdict_from task.now 0 (is_in task.now.init) steps.now) }
 {
-    let mut state = NumberedState::new(alloc, task.initial_atoms(), MOST_RECENT)?;
+    let mut state = NumberedState::new(
+        alloc,
+        task.initial_atoms(),
+        task.object_count(),
+        MOST_KEPT,
+    )?;
     let mut scratch = Scratch::new(alloc);
     for index in 0..steps.len() {
         if let Some(why) = take_step(alloc, task, steps.get(index), &mut state, &mut scratch)? {

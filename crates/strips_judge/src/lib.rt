@@ -19,18 +19,19 @@
 #![tactic(auto)]
 
 mod arguments;
-mod atom_cells;
+mod atom_index;
+mod atom_keys;
 mod codes;
 mod conditions;
 mod effects;
 mod grounding;
 mod judging;
+mod known_atoms;
 pub mod laws;
+mod long_atoms;
 mod numbered_steps;
-mod numbers;
-mod recent;
 mod recent_names;
-mod short_atoms;
+mod single_cells;
 mod slot_count;
 mod state;
 mod step_names;

@@ -23,7 +23,7 @@ use strips_task::{Action, Atom, Cond, Task};
 /// Takes the step with these numbers if it is applicable, and otherwise leaves the state as it is. Returns whether it did. If memory runs out, some
 /// of its effects may have happened.
 ///
-/// Takes one read of memory for each recently used atom and one hash for each other one, and memory for atoms that have no number yet.
+/// Takes one read of memory for each atom that was looked up before, a few more for each other one, and memory for atoms that have no number yet.
 pub fn take_numbered(
     alloc: Global,
     task: &Task,

@@ -3,75 +3,85 @@
 //! Each atom that was ever true or asked for by number has a number and a bit. The initial atoms have the task's numbers, so a plan starts
 //! with a row of ones and hashes none of them. Atoms that come up later get the next numbers, and numbers never change: a state that is
 //! reset for another plan keeps them. Steps change the bits in place. An atom without a number is false.
-ghost use Rattle.std.specs.Prelude.{◌≡◌, ◌∷◌, [], ◌<◌, ◌≤◌, ℕ, None, Some, IfOk, IfSome, OnOk, length};
+ghost use Rattle.std.specs.Prelude.{◌≡◌, ◌∷◌, [], ◌++◌, ◌<◌, ◌≤◌, ◌+◌, ◌*◌, ◌^◌, None, Some, IfOk, OnErr, OnOk, length};
 ghost use Rattle.strips_task.specs.Within.{IsPatternWithin};
 ghost use Rattle.strips_task.specs.declared.atoms.Atom.{Atom};
+ghost use Rattle.strips_task.specs.Atom.{atom_eq};
+ghost use Rattle.strips_task.specs.FirstOccurrences.{first_occurrences};
 ghost use Rattle.strips_judge.specs.Grounding.{ground};
 ghost use Rattle.strips_judge.specs.NumberedState.{Grows, state_of};
 ghost use Rattle.strips_judge.specs.AtomNumbers.{number_in};
-ghost use Rattle.strips_judge.specs.ShortAtoms.{atom_of};
+ghost use Rattle.strips_judge.specs.AtomKeys.{atom_of, key_of};
 ghost use Rattle.strips_judge.specs.State.{is_in, without, with_all};
 
-use crate::atom_cells::AtomCells;
+use crate::atom_index::AtomIndex;
+use crate::atom_keys::AtomKey;
 use crate::grounding::ground;
-use crate::numbers::number_in;
-use crate::recent::RecentAtoms;
-use crate::short_atoms::ShortAtom;
+use crate::long_atoms::LongAtoms;
 use bit_rows::Row;
-use indexmap::IndexSet;
 use std::alloc::{AllocError, Global};
 use std::marker::Model;
 use strips_task::{Atom, InitialAtoms, Pattern, Seed};
 
-/// How many cells there may be for each slot for a recently used atom.
-const CELLS_FOR_A_SLOT: usize = 8;
+/// How many cells there may be for each initial atom that may be kept.
+const CELLS_FOR_AN_ATOM: usize = 2;
 
 /// A set of ground atoms of a task, each with a number. Contracts see the initial atoms of the task, the atoms that have numbers and the bits.
 #[derive(Drop)]
 pub struct NumberedState<'t> {
     initial: &'t InitialAtoms,
-    later: IndexSet<Atom, Seed>,
+    /// The atoms that came up later, in the order of their numbers.
+    later: Vec<Atom>,
     bits: Row,
-    cells: AtomCells,
-    recent: RecentAtoms,
+    /// The numbers of the later atoms of few objects, and of those initial atoms of few objects that were looked up.
+    index: AtomIndex,
+    /// The numbers of the later atoms of many objects.
+    long: LongAtoms,
+    /// How many initial atoms more may be kept in the index.
+    may_keep: usize,
 }
 
 impl<'t> Model for NumberedState<'t> {
-    ghost use Rattle.std.specs.Prelude.{◌++◌, All};
+    ghost use Rattle.std.specs.Prelude.{◌++◌};
     ghost use Rattle.strips_task.specs.Atom.{atom_eq};
     ghost use Rattle.strips_task.specs.FirstOccurrences.{first_occurrences};
     ghost use Rattle.strips_judge.specs.NumberedState.{Numbered, IsRowFor};
-    ghost use Rattle.strips_judge.specs.AtomCells.{AreCells};
-    ghost use Rattle.strips_judge.specs.Recent.{AreRecent};
+    ghost use Rattle.strips_judge.specs.AtomsFound.{AreFound};
 
     ghost Value = { Numbered };
 
-    ghost view = { λ s. record { initial = s.initial.now; atoms = first_occurrences atom_eq s.initial.now ++ s.later.keys; bits = s.bits } };
+    ghost view = { λ s. record { initial = s.initial.now; atoms = first_occurrences atom_eq s.initial.now ++ s.later.items; bits = s.bits } };
 
-    ghost invariant = { λ s. IsRowFor (first_occurrences atom_eq s.initial.now ++ s.later.keys) s.bits
-        × AreCells (first_occurrences atom_eq s.initial.now ++ s.later.keys) s.cells
-        × All (AreRecent (first_occurrences atom_eq s.initial.now ++ s.later.keys)) s.recent };
+    ghost invariant = { λ s. IsRowFor (first_occurrences atom_eq s.initial.now ++ s.later.items) s.bits
+        × AreFound (first_occurrences atom_eq s.initial.now) s.later.items s.index s.long };
 }
 
 impl NumberedState<'_> {
     /// The state in which the initial atoms are true, and no others. Takes a bit for each of them.
     ///
-    /// At most `most_recent` of the atoms that were looked up are found by one read of memory the next time, and so are atoms that have cells, of
-    /// which there are at most eight times as many. That takes up to 48 bytes for each, once there are as many.
+    /// The task has `objects` objects. The numbers of at most `most_kept` initial atoms of few objects are kept once they were looked up. That takes
+    /// up to 43 bytes for each, and besides up to 8 for cells. No answer depends on these two.
     pub fn new(
         alloc: Global,
         initial: &InitialAtoms,
-        most_recent: usize,
+        objects: usize,
+        most_kept: usize,
     ) -> Result<NumberedState<'_>, AllocError>
         ensures state { IfOk result (λ state. state_of state ≡ is_in initial.now) }
         ensures initial { IfOk result (λ state. state.initial ≡ initial.now) }
     {
         Ok(NumberedState {
             initial,
-            later: IndexSet::with_hasher(alloc, initial.seed()),
+            later: Vec::new(alloc),
             bits: Row::with_first(alloc, initial.distinct_len())?,
-            cells: AtomCells::new(alloc, most_recent.saturating_mul(CELLS_FOR_A_SLOT)),
-            recent: RecentAtoms::new(alloc, most_recent),
+            index: AtomIndex::new(
+                alloc,
+                initial.seed(),
+                objects,
+                most_kept.saturating_mul(CELLS_FOR_AN_ATOM),
+            ),
+            long: LongAtoms::new(alloc, initial.seed()),
+            may_keep: most_kept,
         })
     }
 
@@ -94,8 +104,8 @@ impl NumberedState<'_> {
         self.initial.seed()
     }
 
-    /// The number of the atom that a pattern stands for, if it has one. Takes one read of memory if the atom was used recently, and otherwise a hash
-    /// for each table. Takes memory once in a long while. The last argument is room for the atom.
+    /// The number of the atom that a pattern stands for, if it has one. Takes one read of memory if the atom was looked up before, and otherwise a
+    /// hash. Takes memory once in a long while. The last argument is room for the atom.
     pub(crate) fn look_up(
         &mut self,
         pattern: &Pattern,
@@ -106,90 +116,74 @@ impl NumberedState<'_> {
         ensures number { IfOk result (λ number. number ≡ number_in self.old.atoms (ground objects.now pattern.now)) }
         ensures same { self.new ≡ self.old }
     {
-        match self.recall(pattern, objects) {
-            Some(number) => Ok(Some(number)),
-            None => self.look_up_in_tables(pattern, objects, atom),
+        let Some(key) = AtomKey::of_pattern(pattern, objects) else {
+            ground(pattern, objects, atom)?;
+            return Ok(self.number_of_long(atom));
+        };
+        if let Some(number) = self.index.find(key) {
+            return Ok(Some(number as usize));
         }
+        ground(pattern, objects, atom)?;
+        self.look_up_initial(key, atom)
     }
 
-    /// The number of the atom that a pattern stands for, if it has one, by the tables of all atoms. Keeps it.
+    /// The number of an atom of few objects that the index does not have, if it has one: it can only be initial. Keeps the number while it may.
     #[inline(never)]
-    fn look_up_in_tables(
-        &mut self,
-        pattern: &Pattern,
-        objects: &[u16],
-        atom: &mut Atom,
-    ) -> Result<Option<usize>, AllocError>
-        requires { IsPatternWithin (length objects.now) pattern.now }
-        ensures number { IfOk result (λ number. number ≡ number_in self.old.atoms (ground objects.now pattern.now)) }
+    fn look_up_initial(&mut self, key: AtomKey, atom: &Atom) -> Result<Option<usize>, AllocError>
+        requires key { key ≡ key_of atom.now }
+        requires atom { atom_of key ≡ atom.now }
+        requires few { length atom.now.args ≤ 4 }
+        requires absent { number_in self.old.atoms atom.now ≡ number_in (first_occurrences atom_eq self.old.initial) atom.now }
+        ensures number { IfOk result (λ number. number ≡ number_in self.old.atoms atom.now) }
         ensures same { self.new ≡ self.old }
     {
-        ground(pattern, objects, atom)?;
-        let Some(number) = self.number_in_tables(atom) else {
+        let Some(number) = self.initial.number_of(atom) else {
             return Ok(None);
         };
-        self.keep(pattern, objects, number)?;
+        self.keep(key, number)?;
         Ok(Some(number))
     }
 
-    /// The number of the atom that a pattern stands for, if it was looked up before and kept.
-    #[inline(always)]
-    fn recall(&self, pattern: &Pattern, objects: &[u16]) -> Option<usize>
-        requires { IsPatternWithin (length objects.now) pattern.now }
-        ensures { IfSome result (λ number. number_in self.now.atoms (ground objects.now pattern.now) ≡ Some number) }
-    {
-        match ShortAtom::of(pattern, objects) {
-            Some(atom) => self.recall_short(atom),
-            None => None,
-        }
-    }
-
-    /// The number of an atom of few objects, if it was looked up before and kept.
-    #[inline(always)]
-    fn recall_short(&self, atom: ShortAtom) -> Option<usize>
-        requires { atom.count ≤ 4 }
-        ensures { IfSome result (λ number. number_in self.now.atoms (atom_of atom) ≡ Some number) }
-    {
-        match self.cells.cell_of(atom) {
-            Some(cell) => self.cells.number_at(cell),
-            None => self.recent.find(atom),
-        }
-    }
-
-    /// Keeps the number of the atom that a pattern stands for.
-    fn keep(&mut self, pattern: &Pattern, objects: &[u16], number: usize) -> Result<(), AllocError>
-        requires within { IsPatternWithin (length objects.now) pattern.now }
-        requires number { number_in self.old.atoms (ground objects.now pattern.now) ≡ Some number }
+    /// Keeps the number of an initial atom of few objects, unless there are as many already as may be kept or the number has more than 32 bits.
+    fn keep(&mut self, key: AtomKey, number: usize) -> Result<(), AllocError>
+        requires { number_in self.old.atoms (atom_of key) ≡ Some number }
         ensures { self.new ≡ self.old }
     {
-        match ShortAtom::of(pattern, objects) {
-            Some(atom) => self.keep_short(atom, number),
-            None => Ok(()),
+        if self.may_keep == 0 {
+            return Ok(());
         }
+        if let Ok(number) = u32::try_from(number) {
+            self.index.keep(key, number)?;
+            self.may_keep -= 1;
+        }
+        Ok(())
     }
 
-    /// Keeps the number of an atom of few objects.
-    fn keep_short(&mut self, atom: ShortAtom, number: usize) -> Result<(), AllocError>
-        requires { number_in self.old.atoms (atom_of atom) ≡ Some number }
-        ensures { self.new ≡ self.old }
-    {
-        self.cells.miss();
-        match self.cells.cell_of(atom) {
-            Some(cell) => self.cells.keep(cell, number),
-            None => self.recent.keep(atom, number),
-        }
-    }
-
-    /// The number of an atom, if it has one, by the tables of all atoms.
-    fn number_in_tables(&self, atom: &Atom) -> Option<usize>
+    /// The number of an atom of many objects, if it has one. Takes one or two hashes.
+    #[inline(never)]
+    fn number_of_long(&self, atom: &Atom) -> Option<usize>
+        requires { 4 < length atom.now.args }
         ensures { result ≡ number_in self.now.atoms atom.now }
     {
         if let Some(number) = self.initial.number_of(atom) {
             return Some(number);
         }
-        match number_in(&self.later, atom) {
-            Some(number) => Some(self.initial.distinct_len() + number),
+        match self.long.find(atom) {
+            Some(number) => Some(number as usize),
             None => None,
+        }
+    }
+
+    /// The number of an atom, if it has one.
+    fn number_of(&self, atom: &Atom) -> Option<usize>
+        ensures { result ≡ number_in self.now.atoms atom.now }
+    {
+        let Some(key) = AtomKey::of(atom) else {
+            return self.number_of_long(atom);
+        };
+        match self.index.find(key) {
+            Some(number) => Some(number as usize),
+            None => self.initial.number_of(atom),
         }
     }
 
@@ -206,58 +200,96 @@ impl NumberedState<'_> {
         ensures state { state_of self.new ≡ state_of self.old }
         ensures grows { Grows self.old self.new }
     {
-        match self.recall(pattern, objects) {
+        match self.look_up(pattern, objects, atom)? {
             Some(number) => Ok(number),
-            None => self.number_by_tables(alloc, pattern, objects, atom),
+            None => self.add(alloc, pattern, objects, atom),
         }
     }
 
-    /// The number of the atom that a pattern stands for, by the tables of all atoms. An atom without a number gets the next one. Keeps it.
+    /// Gives the atom that a pattern stands for, which has no number, the next one, and returns it. The atom is false.
     #[inline(never)]
-    fn number_by_tables(
+    fn add(
         &mut self,
         alloc: Global,
         pattern: &Pattern,
         objects: &[u16],
         atom: &mut Atom,
     ) -> Result<usize, AllocError>
-        requires { IsPatternWithin (length objects.now) pattern.now }
+        requires within { IsPatternWithin (length objects.now) pattern.now }
+        requires new { number_in self.old.atoms (ground objects.now pattern.now) ≡ None }
         ensures number { IfOk result (λ number. number_in self.new.atoms (ground objects.now pattern.now) ≡ Some number) }
         ensures state { state_of self.new ≡ state_of self.old }
         ensures grows { Grows self.old self.new }
     {
         ground(pattern, objects, atom)?;
-        let number = self.number_for(alloc, atom)?;
-        self.keep(pattern, objects, number)?;
-        Ok(number)
+        let number = self.next_number()?;
+        self.bits.reserve(number as usize + 1)?;
+        self.push(alloc, atom.copy(alloc)?, number)?;
+        Ok(number as usize)
     }
 
-    /// The number of an atom, by the tables of all atoms. An atom without a number gets the next one.
-    fn number_for(&mut self, alloc: Global, atom: &Atom) -> Result<usize, AllocError>
-        ensures number { IfOk result (λ number. number_in self.new.atoms atom.now ≡ Some number) }
-        ensures state { state_of self.new ≡ state_of self.old }
-        ensures grows { Grows self.old self.new }
+    /// Gives an atom the next number.
+    fn push(&mut self, alloc: Global, atom: Atom, number: u32) -> Result<(), AllocError>
+        requires new { number_in self.old.atoms atom ≡ None }
+        requires number { number ≡ length self.old.atoms }
+        requires room { number + 1 ≤ 64 * length self.old.bits }
+        ensures atoms { OnOk result (self.new.atoms ≡ self.old.atoms ++ atom ∷ []) }
+        ensures failed { OnErr result (self.new.atoms ≡ self.old.atoms) }
+        ensures bits { self.new.bits ≡ self.old.bits }
+        ensures initial { self.new.initial ≡ self.old.initial }
     {
-        match self.number_in_tables(atom) {
-            Some(number) => Ok(number),
-            None => self.add(alloc, atom),
+        match AtomKey::of(&atom) {
+            Some(key) => self.add_few(key, atom, number),
+            None => self.add_many(alloc, atom, number),
         }
     }
 
-    /// Gives an atom without a number the next one, and returns it. The atom is false.
-    fn add(&mut self, alloc: Global, atom: &Atom) -> Result<usize, AllocError>
-        requires { number_in self.old.atoms atom.now ≡ None }
-        ensures number { IfOk result (λ number. number_in self.new.atoms atom.now ≡ Some number) }
-        ensures state { state_of self.new ≡ state_of self.old }
-        ensures grows { Grows self.old self.new }
+    /// Gives an atom of few objects the next number.
+    fn add_few(&mut self, key: AtomKey, atom: Atom, number: u32) -> Result<(), AllocError>
+        requires new { number_in self.old.atoms atom ≡ None }
+        requires key { key ≡ key_of atom }
+        requires atom { atom_of key ≡ atom }
+        requires few { length atom.args ≤ 4 }
+        requires number { number ≡ length self.old.atoms }
+        requires room { number + 1 ≤ 64 * length self.old.bits }
+        ensures atoms { OnOk result (self.new.atoms ≡ self.old.atoms ++ atom ∷ []) }
+        ensures failed { OnErr result (self.new.atoms ≡ self.old.atoms) }
+        ensures bits { self.new.bits ≡ self.old.bits }
+        ensures initial { self.new.initial ≡ self.old.initial }
+    {
+        self.later.reserve(1)?;
+        self.index.keep(key, number)?;
+        self.later.push_reserved(atom);
+        Ok(())
+    }
+
+    /// Gives an atom of many objects the next number.
+    fn add_many(&mut self, alloc: Global, atom: Atom, number: u32) -> Result<(), AllocError>
+        requires new { number_in self.old.atoms atom ≡ None }
+        requires many { 4 < length atom.args }
+        requires number { number ≡ length self.old.atoms }
+        requires room { number + 1 ≤ 64 * length self.old.bits }
+        ensures atoms { OnOk result (self.new.atoms ≡ self.old.atoms ++ atom ∷ []) }
+        ensures failed { OnErr result (self.new.atoms ≡ self.old.atoms) }
+        ensures bits { self.new.bits ≡ self.old.bits }
+        ensures initial { self.new.initial ≡ self.old.initial }
+    {
+        self.later.reserve(1)?;
+        let key = atom.copy(alloc)?;
+        self.long.keep(key, number)?;
+        self.later.push_reserved(atom);
+        Ok(())
+    }
+
+    /// The number that comes next, if it has 32 bits.
+    fn next_number(&self) -> Result<u32, AllocError>
+        ensures { IfOk result (λ number. (number ≡ length self.now.atoms) × (number + 1 < 2 ^ 32)) }
     {
         let number = self.initial.distinct_len() + self.later.len();
-        if number == usize::MAX {
+        if number >= u32::MAX as usize {
             return Err(AllocError);
         }
-        self.bits.reserve(number + 1)?;
-        self.later.insert(atom.copy(alloc)?)?;
-        Ok(number)
+        Ok(number as u32)
     }
 
     /// Whether the atom with a number is true.
@@ -307,7 +339,7 @@ impl NumberedState<'_> {
     pub fn contains(&self, atom: &Atom) -> bool
         ensures { result ≡ state_of self.now atom.now }
     {
-        match self.number_in_tables(atom) {
+        match self.number_of(atom) {
             Some(number) => self.bits.has(number),
             None => false,
         }

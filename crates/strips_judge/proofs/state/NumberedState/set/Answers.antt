@@ -10,7 +10,7 @@ use Rattle.strips_judge.proofs.state.NumberedState.set.Goals as goal
 
 pub returns-clause-state : goal.returns-clause-state
 returns-clause-state c =
-    let atoms = first_occurrences atom_eq c.self.inside.initial.now ++ c.self.inside.later.keys in
+    let atoms = first_occurrences atom_eq c.self.inside.initial.now ++ c.self.inside.later.items in
     subst (λ (s : Numbered). (atom : Atom) → number_in s.atoms atom ≡ Some c.args.number → state_by atoms c.set.new.self ≡ with_all (state_of s) (atom ∷ [])) c.self.view_is
     (λ atom e. with_one (state_by atoms c.self.inside.bits) (state_by atoms c.set.new.self) atom
     (bit_changes atoms c.self.inside.bits c.set.new.self atom true c.args.number e c.set.ensures.set c.set.ensures.others))

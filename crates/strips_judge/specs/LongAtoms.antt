@@ -1,0 +1,10 @@
+-- Atoms of more than four objects with their numbers.
+
+use Rattle.std.specs.Prelude.{ℕ, List, Option}
+use Rattle.std.specs.Map.{lookup}
+use Rattle.strips_task.specs.declared.atoms.Atom.{Atom}
+use Rattle.strips_task.specs.Atom.{atom_eq}
+
+-- the number beside an atom
+abbrev pub long_number : List (Atom × ℕ) → Atom → Option ℕ
+long_number numbers atom = lookup (atom_eq atom) numbers
