@@ -1,6 +1,6 @@
 //! The table of known steps.
 //!
-//! A step is found by the bytes that spell it: one hash with the task's secret seed, since planners choose the bytes, then one slot of the
+//! A step is found by the bytes that spell it: one hash with two secret numbers, since planners choose the bytes, then one slot of the
 //! table after the other up to an empty one. The bytes of all keys are in one buffer and the numbers of all codes in another, so that a
 //! step that is learned takes no memory of its own. All of it grows as steps are learned, up to bounds.
 ghost use Rattle.std.specs.Prelude.{◌≡◌, ◌+◌, ◌<◌, ◌≤◌, ◌^◌, ◌∷◌, ◌++◌, [], ℕ, List, false, length, slice_get, slice_range, Some, All, IsTrue, IfSome, IfOk, OnErr, vec_capacity, vec_len};
@@ -8,9 +8,9 @@ ghost use Rattle.strips_judge.specs.Codes.{code_shown};
 ghost use Rattle.step_memo.specs.Known.{known_at, IsEntry, IsEntryFor};
 
 use crate::room::Room;
-use joined_bytes::are_same;
+use joined_bytes::{KeyedHash, are_same};
 use std::alloc::{AllocError, Global};
-use std::hash::{BuildHasher, Hasher};
+use std::hash::BuildHasher;
 use std::marker::Model;
 use strips_judge::StepCode;
 use strips_task::Seed;
@@ -45,7 +45,7 @@ pub(crate) struct KnownStep<'m> {
 /// Known steps in the order in which they were learned. Contracts see the list of them.
 #[derive(Drop)]
 pub(crate) struct Memo {
-    seed: Seed,
+    hash: KeyedHash,
     room: Room,
     /// All keys.
     bytes: Vec<u8>,
@@ -73,7 +73,10 @@ impl Memo {
         ensures { result ≡ [] }
     {
         Memo {
-            seed,
+            hash: KeyedHash {
+                start: seed.hash_one(&0u64),
+                by: seed.hash_one(&1u64),
+            },
             room,
             bytes: Vec::new(alloc),
             numbers: Vec::new(alloc),
@@ -97,7 +100,7 @@ impl Memo {
         ensures { IfSome result (λ known. (number : ℕ)
             × (slice_get self.now number ≡ Some (record { key = key.now; code = code_shown known.code; amount = known.amount }))) }
     {
-        let hash = hash_of(self.seed, key);
+        let hash = self.hash.of(key);
         match find_entry(hash, key, &self.slots, &self.entries, &self.bytes) {
             Some(number) => Some(known_step(&self.entries[number], &self.numbers)),
             None => None,
@@ -116,7 +119,7 @@ impl Memo {
         ensures not { IfOk result (λ added. added ≡ false → self.new ≡ self.old) }
         ensures err { OnErr result (self.new ≡ self.old) }
     {
-        let hash = hash_of(self.seed, key);
+        let hash = self.hash.of(key);
         let Some(entry) = entry_for(
             hash,
             amount,
@@ -141,13 +144,6 @@ impl Memo {
         self.entries.push_reserved(entry);
         Ok(true)
     }
-}
-
-/// The hash of a key, by a secret seed.
-fn hash_of(seed: Seed, key: &[u8]) -> u64 {
-    let mut hasher = seed.build_hasher();
-    hasher.write(key);
-    hasher.finish()
 }
 
 /// The number of the entry with a key.
