@@ -1,19 +1,14 @@
 -- Parts, line by line.
 
-use Rattle.std.proofs.Common.{◌≡◌, ℕ, ◌+◌, ◌<◌, ◌≤◌, Bool, true, false, List, [], ◌∷◌, ◌++◌, length, take, drop, map, refl, ap, ◌∙◌, sym, subst, arith, append_assoc, length-drop, Some}
+use Rattle.std.proofs.Common.{◌≡◌, ℕ, ◌+◌, ◌-◌, ◌<◌, ◌≤◌, Bool, true, false, List, [], ◌∷◌, ◌++◌, length, take, drop, map, refl, ap, ◌∙◌, sym, subst, arith, append_assoc, length-drop, Some}
 use Rattle.std.specs.Prelude.{cond, count_by}
 use Rattle.std.specs.List.{concat, onto_first, slice_split}
 use Rattle.std.proofs.Math.Seq.{take-add}
 use Rattle.std.proofs.lemmas.List.{append-nil, drop-drop, take_all, drop_all, length-map}
 use Rattle.std.proofs.lemmas.List.Splits.{length-slice_split}
-use Rattle.plan_text.specs.Separators.{CutsLine, IsFirstSeparator}
+use Rattle.plan_text.specs.Separators.{CutsLine, IsFirstSeparator, IsOnePartTo, onto_part}
 use Rattle.plan_text.specs.Bundle.{lines, is_separator, parts}
 use Rattle.plan_text.proofs.Lines.{no_lines}
-
--- bytes before the first of several parts
-abbrev pub onto_part : List ℕ → List (List ℕ) → List (List ℕ)
-onto_part front [] = front ∷ []
-onto_part front (part ∷ parts) = (front ++ part) ∷ parts
 
 onto_part-twice : (a b : List ℕ) (ps : List (List ℕ)) → onto_part a (onto_part b ps) ≡ onto_part (a ++ b) ps
 onto_part-twice a b [] = refl
@@ -48,19 +43,18 @@ parts_line : (t : Bool) (text : List ℕ) (size : ℕ) → lines text ≡ take s
 unfolding parts
 parts_line t text size first is = ap (λ (ls : List (List ℕ)). map concat (slice_split is_separator ls)) first ∙ parts_by t (take size text) (lines (drop size text)) is
 
--- the lines of a text up to an offset are no separators
-abbrev pub IsOnePartTo : List ℕ → ℕ → Type 0
-IsOnePartTo text offset = parts text ≡ onto_part (take offset text) (parts (drop offset text))
-
 pub one_part_start : (text : List ℕ) → IsOnePartTo text 0
 one_part_start text = sym (onto_part-none (parts text) (omega (arith, length-parts text)))
 
-one_part_more : (text : List ℕ) (offset size : ℕ) → IsOnePartTo text offset → lines (drop offset text) ≡ take size (drop offset text) ∷ lines (drop size (drop offset text)) → is_separator (take size (drop offset text)) ≡ false → IsOnePartTo text (offset + size)
-one_part_more text offset size before first is =
-    before ∙ ap (onto_part (take offset text)) (parts_line false (drop offset text) size first is)
-    ∙ onto_part-twice (take offset text) (take size (drop offset text)) (parts (drop size (drop offset text)))
+-- behind more of the same part
+one_part_on : (text : List ℕ) (offset size : ℕ) → IsOnePartTo text offset → IsOnePartTo (drop offset text) size → IsOnePartTo text (offset + size)
+one_part_on text offset size before more =
+    before ∙ ap (onto_part (take offset text)) more ∙ onto_part-twice (take offset text) (take size (drop offset text)) (parts (drop size (drop offset text)))
     ∙ ap (λ (front : List ℕ). onto_part front (parts (drop size (drop offset text)))) (sym (take-add offset size text))
     ∙ ap (λ (rest : List ℕ). onto_part (take (offset + size) text) (parts rest)) (drop-drop size offset text)
+
+pub one_part_more : (text : List ℕ) (offset size : ℕ) → IsOnePartTo text offset → lines (drop offset text) ≡ take size (drop offset text) ∷ lines (drop size (drop offset text)) → is_separator (take size (drop offset text)) ≡ false → IsOnePartTo text (offset + size)
+one_part_more text offset size before first is = one_part_on text offset size before (parts_line false (drop offset text) size first is)
 
 parted : (text : List ℕ) (offset size : ℕ) → IsOnePartTo text offset → lines (drop offset text) ≡ take size (drop offset text) ∷ lines (drop size (drop offset text)) → is_separator (take size (drop offset text)) ≡ true → parts text ≡ take offset text ∷ parts (drop (offset + size) text)
 parted text offset size before first is =
@@ -92,3 +86,9 @@ behind_line text rest offset size same within before cut is =
       omega (arith, here.within, length-drop offset text),
       one_part_more text offset size before (here.first some) (subst (λ (r : List ℕ). is_separator (take size r) ≡ false) same is),
     )
+
+-- more lines that are no separators
+pub behind_lines : (text rest : List ℕ) (offset size : ℕ) → rest ≡ drop offset text → offset ≤ length text → IsOnePartTo text offset → size ≤ length rest → IsOnePartTo rest size → (offset + size ≤ length text) × IsOnePartTo text (offset + size)
+behind_lines text rest offset size same within before room more =
+    let long : length rest ≡ length text - offset = ap length same ∙ length-drop offset text in
+    (omega arith, one_part_on text offset size before (subst (λ (r : List ℕ). IsOnePartTo r size) same more))

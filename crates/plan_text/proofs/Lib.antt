@@ -1,5 +1,7 @@
 mod Lines
+mod DashRows
 mod Bundles
+mod PlainLines
 mod MarkedNumbers
 mod DecimalLaws
 mod Names

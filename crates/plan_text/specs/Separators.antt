@@ -1,6 +1,6 @@
 -- Where the first line of a text ends, and where its first separator is.
 
-use Rattle.std.specs.Prelude.{◌≡◌, ℕ, ◌<◌, ◌≤◌, List, [], ◌∷◌, length, take, drop, slice_range, Option, Some, None, IfSome}
+use Rattle.std.specs.Prelude.{◌≡◌, ℕ, ◌+◌, ◌<◌, ◌≤◌, List, [], ◌∷◌, ◌++◌, length, take, drop, slice_index, slice_range, Option, Some, None, IfSome}
 use Rattle.plan_text.specs.declared.parts.Line.{Line}
 use Rattle.plan_text.specs.declared.parts.PartEnd.{PartEnd}
 use Rattle.plan_text.specs.Bundle.{lines, parts, parts_from, parts_behind}
@@ -10,6 +10,20 @@ pub record CutsLine (text : List ℕ) (size : ℕ) : Type 0 where
   pub within : size ≤ length text
   pub some : 0 < length text → 0 < size
   pub first : 0 < length text → lines text ≡ take size text ∷ lines (drop size text)
+
+-- bytes before the first of several parts
+abbrev pub onto_part : List ℕ → List (List ℕ) → List (List ℕ)
+onto_part front [] = front ∷ []
+onto_part front (part ∷ parts) = (front ++ part) ∷ parts
+
+-- the parts of a text are those of what begins at an offset, with the bytes before it put before the first of them: so no line that ends up to
+-- there is a separator
+abbrev pub IsOnePartTo : List ℕ → ℕ → Type 0
+IsOnePartTo text offset = parts text ≡ onto_part (take offset text) (parts (drop offset text))
+
+-- the byte at an offset is an LF (10), and a dash (45) follows it
+abbrev pub EndsBeforeDash : List ℕ → ℕ → Type 0
+EndsBeforeDash text at = (slice_index text at ≡ 10) × (slice_index text (at + 1) ≡ 45)
 
 -- the first separator of a text divides it into the first part and the rest; without one the text is one part
 abbrev pub IsFirstSeparator : Option Line → List ℕ → Type 0

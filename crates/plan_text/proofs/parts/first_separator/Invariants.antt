@@ -1,5 +1,5 @@
 use Rattle.std.proofs.Common.{length, ◌-◌, ◌≤◌}
-use Rattle.plan_text.proofs.Bundles.{IsOnePartTo}
+use Rattle.plan_text.specs.Separators.{IsOnePartTo}
 use Rattle.plan_text.proofs.parts.first_separator.Given as goal
 
 -- the lines up to here are no separators
