@@ -76,7 +76,7 @@ impl<'t> Judge<'t> {
         let initial = task.task.initial_atoms();
         let room = Room::of_each(judges);
         let objects = task.task.object_count();
-        let state = NumberedState::new(alloc, initial, objects, room.kept_atoms)?;
+        let state = NumberedState::new(alloc, initial, objects, room.cells)?;
         Ok(Judge {
             task,
             room,
@@ -127,7 +127,7 @@ impl<'t> Judge<'t> {
     {
         let initial = self.task.task.initial_atoms();
         let objects = self.task.task.object_count();
-        let state = NumberedState::new(alloc, initial, objects, self.room.kept_atoms)?;
+        let state = NumberedState::new(alloc, initial, objects, self.room.cells)?;
         self.memo.clear();
         self.state = state;
         Ok(())

@@ -20,9 +20,9 @@
 //!
 //! Memory is taken as steps are learned. All judges of a run share room for [`ALL_CODES`] steps, [`ALL_NUMBERS`] numbers in their codes and
 //! [`ALL_KEY_BYTES`] bytes of keys. Each judge may take an equal part: at most 9 MiB, and less than 2 MiB if there are 32 judges. In the same way
-//! the judges share [`ALL_RECENT_NAMES`] slots for recently used names: at most 1 MiB for a judge. They keep the numbers of [`ALL_KEPT_ATOMS`] initial
-//! atoms that were looked up, each an equal part: at most 24 MiB for a single judge, and less than 1 MiB if there are 32. All of that is at most 64 MiB
-//! for all judges. The numbers of the other atoms take memory besides. A step that finds no room is judged without the memory.
+//! the judges share [`ALL_RECENT_NAMES`] slots for recently used names, at most 1 MiB for a judge, and [`ALL_CELLS`] cells for atoms of one object, at most
+//! 4 MiB. All of that is at most 44 MiB for all judges. The numbers of atoms that come up in plans take memory besides. A step that finds no room is
+//! judged without the memory.
 //!
 //! If more than [`MOST_LATER`] atoms besides the initial ones have numbers when a plan begins, the judge forgets these numbers and all codes.
 //! If hardly any step is found in the table, the judge does without it for some plans, and for twice as many each time.
@@ -36,6 +36,4 @@ mod steps;
 mod usage;
 
 pub use judge::{Judge, MOST_LATER};
-pub use room::{
-    ALL_CODES, ALL_KEPT_ATOMS, ALL_KEY_BYTES, ALL_NUMBERS, ALL_RECENT_NAMES, MOST_JUDGES,
-};
+pub use room::{ALL_CELLS, ALL_CODES, ALL_KEY_BYTES, ALL_NUMBERS, ALL_RECENT_NAMES, MOST_JUDGES};

@@ -8,7 +8,7 @@ pub const MOST_JUDGES: u32 = 32;
 const FEWEST_JUDGES: u32 = 4;
 
 /// How many steps all judges keep. Each takes 48 bytes besides its key and its code, and up to 16 for its slots: 16 MiB. With the rooms below, that
-/// is 64 MiB.
+/// is 44 MiB.
 pub const ALL_CODES: usize = 262_144;
 
 /// How many numbers the codes of all judges have, of four bytes each: 10 MiB.
@@ -17,9 +17,8 @@ pub const ALL_NUMBERS: usize = 2_621_440;
 /// How many bytes the keys of all judges have: 10 MiB.
 pub const ALL_KEY_BYTES: usize = 10_485_760;
 
-/// The numbers of how many initial atoms all judges keep, with up to 43 bytes for each: 20 MiB. For each of these there may be two cells of four
-/// bytes: 4 MiB.
-pub const ALL_KEPT_ATOMS: usize = 491_520;
+/// How many cells all judges have for atoms of one object, of four bytes each: 4 MiB.
+pub const ALL_CELLS: usize = 1_048_576;
 
 /// How many slots all judges have for recently used names of objects, and how many for names of actions, of 32 bytes each: 4 MiB for both.
 pub const ALL_RECENT_NAMES: usize = 65_536;
@@ -33,8 +32,8 @@ pub(crate) struct Room {
     pub(crate) numbers: usize,
     /// How many bytes in all keys.
     pub(crate) key_bytes: usize,
-    /// The numbers of how many initial atoms.
-    pub(crate) kept_atoms: usize,
+    /// How many cells for atoms of one object.
+    pub(crate) cells: usize,
     /// How many slots for recently used names.
     pub(crate) recent_names: usize,
     ghost few_codes: { codes < 2 ^ 32 },
@@ -45,13 +44,13 @@ pub(crate) struct Room {
 impl Room {
     /// What each of `judges` judges may keep.
     pub(crate) fn of_each(judges: u32) -> Room {
-        let kept_atoms = ALL_KEPT_ATOMS / judges.clamp(1, MOST_JUDGES) as usize;
+        let cells = ALL_CELLS / judges.clamp(1, MOST_JUDGES) as usize;
         let judges = judges.clamp(FEWEST_JUDGES, MOST_JUDGES) as usize;
         Room {
             codes: ALL_CODES / judges,
             numbers: ALL_NUMBERS / judges,
             key_bytes: ALL_KEY_BYTES / judges,
-            kept_atoms,
+            cells,
             recent_names: ALL_RECENT_NAMES / judges,
         }
     }

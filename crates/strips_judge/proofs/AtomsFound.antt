@@ -1,34 +1,17 @@
 -- Each atom that has a number is found: more atoms get numbers, and those before them stay.
 
-use Rattle.std.proofs.Common.{◌≡◌, ◌≤◌, ◌<◌, ◌+◌, ℕ, Bool, true, false, List, [], ◌∷◌, ◌++◌, Option, Some, None, option_map, length, length-append, refl, ap, sym, ◌∙◌, subst, arith, append_assoc}
+use Rattle.std.proofs.Common.{◌≡◌, ◌<◌, ◌≤◌, ◌+◌, ◌*◌, ◌^◌, ℕ, Bool, true, false, List, [], ◌∷◌, ◌++◌, Option, Some, None, option_map, length, length-append, arith, refl, ap, sym, ◌∙◌, subst, append_assoc, slice_index_or}
 use Rattle.strips_task.specs.declared.atoms.Atom.{Atom}
 use Rattle.strips_task.specs.Atom.{atom_eq}
-use Rattle.strips_task.proofs.AtomEquality.{atom_equiv, atom_same}
-use Rattle.strips_judge.specs.declared.atom_keys.AtomKey.{AtomKey}
-use Rattle.strips_judge.specs.AtomIndex.{Index, IsFound, IsRight}
-use Rattle.strips_judge.specs.AtomKeys.{atom_of, key_of}
-use Rattle.strips_judge.specs.AtomNumbers.{number_in}
-use Rattle.strips_judge.specs.AtomsFound.{AreFound, later_number}
-use Rattle.strips_judge.specs.LongAtoms.{long_number}
-use Rattle.strips_judge.proofs.Numbering.{number_in-first, number_in-later, number_in-none_later, number_in-push_new, number_in-push_other}
-
--- numbers that stay are still right
-pub right_kept : (old new : AtomKey → Option ℕ) (index : Index) → ((key : AtomKey) (number : ℕ) → old key ≡ Some number → new key ≡ Some number)
-    → IsRight old index → IsRight new index
-right_kept old new index keeps right =
-    record {
-      cells = λ key cell number of at. keeps key number (right.cells key cell number of at);
-      known = λ k slot lt taken. keeps _ _ (right.known k slot lt taken);
-    }
-
--- a later atom is not found among the first
-pub not_later : (later : List Atom) (index : Index) (atom : Atom) → ((number : ℕ) → number_in later atom ≡ Some number → IsFound index (key_of atom))
-    → (IsFound index (key_of atom) → ⊥) → number_in later atom ≡ None
-not_later later index atom found absent = by (number_in later atom) refl
-  where
-    by : (o : Option ℕ) → number_in later atom ≡ o → number_in later atom ≡ None
-    by None is = is
-    by (Some number) is = absurd (absent (found number is))
+use Rattle.strips_task.proofs.AtomEquality.{atom_same}
+use Rattle.strips_task.specs.declared.atom_keys.AtomKey.{AtomKey}
+use Rattle.strips_task.specs.AtomKeys.{atom_of}
+use Rattle.strips_task.specs.AtomNumbers.{number_in}
+use Rattle.strips_task.proofs.Numbering.{index-none, number_in-first, number_in-later, number_in-lt, number_in-push_other}
+use Rattle.strips_judge.specs.SingleCells.{Cells, AreCells}
+use Rattle.strips_judge.specs.AtomsFound.{AreFound}
+use Rattle.strips_judge.specs.NumberedState.{IsRowFor}
+use Rattle.strips_judge.proofs.Growth.{row_for_pushed}
 
 -- an atom that is not later has the number that it has among the first
 pub only_first : (first later : List Atom) (atom : Atom) → number_in later atom ≡ None → number_in (first ++ later) atom ≡ number_in first atom
@@ -38,92 +21,87 @@ only_first first later atom none = by (number_in first atom) refl
     by (Some number) is = number_in-first first later atom number is ∙ sym is
     by None is = number_in-later first later atom is ∙ ap (option_map (λ n. length first + n)) none ∙ sym is
 
+-- the number that a later atom has among all is below 2 ^ 64
+pub later_fits : (first later : List Atom) (bits : List ℕ) (atom : Atom) (number : ℕ) → IsRowFor (first ++ later) bits → number_in later atom ≡ Some number
+    → length first + number < 2 ^ 64
+later_fits first later bits atom number row is = omega (arith, number_in-lt later atom number is, length-append first later, row.countable)
+
 -- no atom is later
-pub found_none : (first : List Atom) (index : Index) (long : List (Atom × ℕ)) → ((number_of : AtomKey → Option ℕ) → IsRight number_of index)
-    → ((atom : Atom) → long_number long atom ≡ None) → AreFound first [] index long
-found_none first index long right none =
+pub found_none : (first later : List Atom) (marks : List Bool) (cells : Cells) → later ≡ []
+    → ((number_of : AtomKey → Option ℕ) → AreCells number_of cells) → AreFound first later marks cells
+found_none first later marks cells empty right =
     record {
-      right = right (λ key. number_in (first ++ []) (atom_of key));
-      few = λ atom number le at. cc;
-      many = λ atom lt. none atom;
+      apart = λ atom number at. none atom number (sym (ap (λ l. number_in l atom) empty) ∙ at);
+      marked = λ atom number at. none atom number (sym (ap (λ l. number_in l atom) empty) ∙ at);
+      right = right (λ key. number_in (first ++ later) (atom_of key));
     }
+  where
+    none : {A : Type 0} (atom : Atom) (number : ℕ) → number_in [] atom ≡ Some number → A
+    none atom number at = cc
 
-module _ (first later : List Atom) (index new : Index) (long : List (Atom × ℕ)) (kept : AreFound first later index long)
-    (still : (other : AtomKey) → IsFound index other → IsFound new other) where
-  -- an index that has at least what another has
-  pub found_more : IsRight (λ key. number_in (first ++ later) (atom_of key)) new → AreFound first later new long
-  found_more right = record { right = right; few = λ atom number few at. still (key_of atom) (kept.few atom number few at); many = kept.many }
-
-module _ (first later : List Atom) (index : Index) (long : List (Atom × ℕ)) (atom : Atom) (kept : AreFound first later index long)
-    (none : number_in (first ++ later) atom ≡ None) where
-  all : first ++ (later ++ atom ∷ []) ≡ (first ++ later) ++ atom ∷ []
-  all = sym (append_assoc first later (atom ∷ []))
-
-  none_later : number_in later atom ≡ None
-  none_later = number_in-none_later first later atom none
-
-  -- atoms that had numbers keep them
-  pub keeps : (other : Atom) (number : ℕ) → number_in (first ++ later) other ≡ Some number → number_in (first ++ (later ++ atom ∷ [])) other ≡ Some number
-  keeps other number at = ap (λ l. number_in l other) all ∙ number_in-first (first ++ later) (atom ∷ []) other number at
-
-  -- the atom has the next one
-  pub next : number_in (first ++ (later ++ atom ∷ [])) atom ≡ Some (length (first ++ later))
-  next = ap (λ l. number_in l atom) all ∙ number_in-push_new (first ++ later) atom atom refl none
-
-  -- the index is still right
-  pub right_for_more : IsRight (λ key. number_in (first ++ (later ++ atom ∷ [])) (atom_of key)) index
-  right_for_more = right_kept (λ key. number_in (first ++ later) (atom_of key)) _ index (λ key number at. keeps (atom_of key) number at) kept.right
-
-  -- the atom is another one than one with more or fewer objects
-  other_length : (other : Atom) → (length other.args ≡ length atom.args → ⊥) → atom_eq atom other ≡ false
-  other_length other apart = by (atom_eq atom other) refl
+module _ (first later : List Atom) (marks : List Bool) (cells : Cells) (kept : AreFound first later marks cells) where
+  -- an atom whose predicate has no mark is not later
+  pub unmarked : (atom : Atom) → slice_index_or marks atom.pred false ≡ false → number_in later atom ≡ None
+  unmarked atom unset = by (number_in later atom) refl
     where
-      by : (b : Bool) → atom_eq atom other ≡ b → atom_eq atom other ≡ false
-      by false is = is
-      by true is = absurd (apart (ap (λ (a : Atom). length a.args) (sym (atom_same atom other is))))
+      by : (o : Option ℕ) → number_in later atom ≡ o → number_in later atom ≡ None
+      by None is = is
+      by (Some number) is = let apart : true ≡ false = sym (kept.marked atom number is) ∙ unset in cc
 
-  -- another atom is later as before
-  as_before : (other : Atom) → atom_eq atom other ≡ false → number_in (later ++ atom ∷ []) other ≡ number_in later other
-  as_before other apart = number_in-push_other later atom atom other refl apart
+  -- a later atom comes behind all of the first
+  pub later_has : (atom : Atom) (number : ℕ) → number_in later atom ≡ Some number → number_in (first ++ later) atom ≡ Some (length first + number)
+  later_has atom number is = number_in-later first later atom (kept.apart atom number is) ∙ ap (option_map (λ n. length first + n)) is
 
-  -- one atom of few objects more
-  pub found_few : (new : Index) → length atom.args ≤ 4 → ((other : AtomKey) → IsFound index other → IsFound new other) → IsFound new (key_of atom)
-      → IsRight (λ key. number_in (first ++ (later ++ atom ∷ [])) (atom_of key)) new → AreFound first (later ++ atom ∷ []) new long
-  found_few new are_few still here right =
-      record {
-        right = right;
-        few = few;
-        many = λ other are_many.
-            kept.many other are_many
-            ∙ ap (option_map (λ n. length first + n)) (sym (as_before other (other_length other (λ same. absurd (omega (arith, are_few, are_many, same))))));
-      }
+  -- more marks
+  pub found_marked : (more : List Bool) → ((pred : ℕ) → slice_index_or marks pred false ≡ true → slice_index_or more pred false ≡ true)
+      → AreFound first later more cells
+  found_marked more still =
+      record { apart = kept.apart; marked = λ atom number at. still atom.pred (kept.marked atom number at); right = kept.right }
+
+  -- other cells
+  pub found_cells : (new : Cells) → AreCells (λ key. number_in (first ++ later) (atom_of key)) new → AreFound first later marks new
+  found_cells new right = record { apart = kept.apart; marked = kept.marked; right = right }
+
+  -- one atom more, whose predicate has a mark
+  pub found_pushed : (atom : Atom) → number_in (first ++ later) atom ≡ None → slice_index_or marks atom.pred false ≡ true
+      → AreFound first (later ++ atom ∷ []) marks cells
+  found_pushed atom none mark = record { apart = apart; marked = marked; right = right }
     where
-      few : (other : Atom) (number : ℕ) → length other.args ≤ 4 → number_in (later ++ atom ∷ []) other ≡ Some number → IsFound new (key_of other)
-      few other number le at = by (atom_eq atom other) refl
+      as_before : (other : Atom) → atom_eq atom other ≡ false → number_in (later ++ atom ∷ []) other ≡ number_in later other
+      as_before other differs = number_in-push_other later atom atom other refl differs
+
+      apart : (other : Atom) (number : ℕ) → number_in (later ++ atom ∷ []) other ≡ Some number → number_in first other ≡ None
+      apart other number at = by (atom_eq atom other) refl
         where
-          by : (b : Bool) → atom_eq atom other ≡ b → IsFound new (key_of other)
-          by true is = subst (λ (a : Atom). IsFound new (key_of a)) (atom_same atom other is) here
-          by false is = still (key_of other) (kept.few other number le (sym (as_before other is) ∙ at))
+          by : (b : Bool) → atom_eq atom other ≡ b → number_in first other ≡ None
+          by true is = subst (λ (a : Atom). number_in first a ≡ None) (atom_same atom other is) (index-none (atom_eq atom) 0 first later none)
+          by false is = kept.apart other number (sym (as_before other is) ∙ at)
 
-  -- one atom of many objects more
-  pub found_many : (more : List (Atom × ℕ)) → 4 < length atom.args → long_number more atom ≡ Some (length (first ++ later))
-      → ((other : Atom) → atom_eq other atom ≡ false → long_number more other ≡ long_number long other) → AreFound first (later ++ atom ∷ []) index more
-  found_many more are_many here others =
-      record {
-        right = right_for_more;
-        few = λ other number le at. kept.few other number le (sym (as_before other (other_length other (λ same. absurd (omega (arith, are_many, le, same))))) ∙ at);
-        many = many;
-      }
-    where
-      pushed : number_in (later ++ atom ∷ []) atom ≡ Some (length later)
-      pushed = number_in-push_new later atom atom refl none_later
-
-      many : (other : Atom) → 4 < length other.args → long_number more other ≡ later_number first (later ++ atom ∷ []) other
-      many other lt = by (atom_eq atom other) refl
+      marked : (other : Atom) (number : ℕ) → number_in (later ++ atom ∷ []) other ≡ Some number → slice_index_or marks other.pred false ≡ true
+      marked other number at = by (atom_eq atom other) refl
         where
-          by : (b : Bool) → atom_eq atom other ≡ b → long_number more other ≡ later_number first (later ++ atom ∷ []) other
-          by true is =
-              subst (λ (a : Atom). long_number more a ≡ later_number first (later ++ atom ∷ []) a) (atom_same atom other is)
-              (here ∙ ap Some (length-append first later) ∙ sym (ap (option_map (λ n. length first + n)) pushed))
-          by false is =
-              others other (atom_equiv.symm other atom ∙ is) ∙ kept.many other lt ∙ ap (option_map (λ n. length first + n)) (sym (as_before other is))
+          by : (b : Bool) → atom_eq atom other ≡ b → slice_index_or marks other.pred false ≡ true
+          by true is = subst (λ (a : Atom). slice_index_or marks a.pred false ≡ true) (atom_same atom other is) mark
+          by false is = kept.marked other number (sym (as_before other is) ∙ at)
+
+      right : AreCells (λ key. number_in (first ++ (later ++ atom ∷ [])) (atom_of key)) cells
+      right key cell number of at =
+          ap (λ l. number_in l (atom_of key)) (sym (append_assoc first later (atom ∷ [])))
+          ∙ number_in-first (first ++ later) (atom ∷ []) (atom_of key) number (kept.right key cell number of at)
+
+module _ (first later new : List Atom) (marks more : List Bool) (cells : Cells) (bits : List ℕ) (row : IsRowFor (first ++ later) bits)
+    (kept : AreFound first later marks cells) (still : (pred : ℕ) → slice_index_or marks pred false ≡ true → slice_index_or more pred false ≡ true) where
+  -- the invariant still holds with more marks
+  pub same_with_marks : new ≡ later → IsRowFor (first ++ new) bits × AreFound first new more cells
+  same_with_marks same =
+      subst (λ (l : List Atom). IsRowFor (first ++ l) bits × AreFound first l more cells) (sym same) (row, found_marked first later marks cells kept more still)
+
+  -- and with more marks and an atom more, whose predicate has one of them
+  pub one_with_marks : (atom : Atom) → number_in (first ++ later) atom ≡ None → slice_index_or more atom.pred false ≡ true
+      → length (first ++ later) + 1 ≤ 64 * length bits → length (first ++ later) + 1 < 2 ^ 32 → new ≡ later ++ atom ∷ []
+      → IsRowFor (first ++ new) bits × AreFound first new more cells
+  one_with_marks atom none mark room small pushed =
+      subst (λ (l : List Atom). IsRowFor (first ++ l) bits × AreFound first l more cells) (sym pushed) (
+        row_for_pushed first later atom bits row room (omega arith),
+        found_pushed first later more cells (found_marked first later marks cells kept more still) atom none mark,
+      )

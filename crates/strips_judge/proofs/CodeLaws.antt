@@ -16,12 +16,12 @@ use Rattle.strips_task.specs.declared.steps.StepText.{StepText}
 use Rattle.strips_task.specs.declared.tasks.TaskParts.{TaskParts}
 use Rattle.strips_judge.specs.Codes.{Code, AreNumbers, asked_by, asked, HoldsIfEquality, AsksFor, IsCode, asking_more}
 use Rattle.strips_judge.specs.Step.{deletes, deletes_by, adds, adds_by, action_named, objects_named, fault_by, hindrance, after, after_by, precondition, missing, missing_why}
-use Rattle.strips_judge.specs.AtomNumbers.{number_in}
+use Rattle.strips_task.specs.AtomNumbers.{number_in}
 use Rattle.strips_judge.specs.NumberedState.{KeepsNumbers}
 use Rattle.strips_judge.specs.State.{State, is_true, holds, after_effects, without, with_all}
 use Rattle.strips_judge.specs.Validity.{Satisfies}
 use Rattle.strips_judge.proofs.Applicable.{missing_from_satisfied}
-use Rattle.strips_judge.proofs.Numbering.{number_in-lt}
+use Rattle.strips_task.proofs.Numbering.{number_in-lt}
 use Rattle.strips_judge.proofs.StepLaws.{taken_more, without-more, with_all-more}
 
 module _ {A B C : Type 0} (f : A → C) (g : B → C) where

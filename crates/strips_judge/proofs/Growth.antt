@@ -1,12 +1,12 @@
 -- The numbering grows: atoms that have numbers keep them, and a new one comes behind all others.
 
-use Rattle.std.proofs.Common.{◌≡◌, ◌≤◌, ◌<◌, ◌^◌, ◌*◌, ◌+◌, ltb, ℕ, List, [], ◌∷◌, ◌++◌, refl, ap, sym, ◌∙◌, length, arith, append-nil, append_assoc, length-append}
+use Rattle.std.proofs.Common.{◌≡◌, ◌≤◌, ◌<◌, ◌^◌, ◌*◌, ◌+◌, ltb, ℕ, List, [], ◌∷◌, ◌++◌, Some, None, refl, ap, sym, ◌∙◌, length, arith, append-nil, append_assoc, length-append}
 use Rattle.std.proofs.lemmas.Bool.{le-ltb}
 use Rattle.bit_rows.specs.Rows.{row_has}
 use Rattle.strips_task.specs.declared.atoms.Atom.{Atom}
-use Rattle.strips_judge.specs.AtomNumbers.{number_in}
+use Rattle.strips_task.specs.AtomNumbers.{number_in}
 use Rattle.strips_judge.specs.NumberedState.{Numbered, KeepsNumbers, Grows, IsRowFor}
-use Rattle.strips_judge.proofs.Numbering.{number_in-first}
+use Rattle.strips_task.proofs.Numbering.{number_in-first, number_in-push_new}
 
 pub keeps_same : (atoms new : List Atom) → new ≡ atoms → KeepsNumbers atoms new
 keeps_same atoms new same atom number e = ap (λ l. number_in l atom) same ∙ e
@@ -60,3 +60,16 @@ row_for_pushed first later atom bits kept room small =
       clear = λ k le. kept.clear k (omega (arith, le, one_more));
       countable = omega (arith, one_more, small);
     }
+
+-- an atom more
+pub grows_one : (old new : Numbered) (atom : Atom) → new.initial ≡ old.initial → new.atoms ≡ old.atoms ++ atom ∷ [] → Grows old new
+grows_one old new atom initial atoms =
+    record {
+      initial = initial;
+      numbers = λ other number e. ap (λ l. number_in l other) atoms ∙ keeps_more old.atoms (atom ∷ []) other number e;
+    }
+
+-- its number is the next one
+pub number_of_one : (old new : Numbered) (atom : Atom) → number_in old.atoms atom ≡ None → new.atoms ≡ old.atoms ++ atom ∷ []
+    → number_in new.atoms atom ≡ Some (length old.atoms)
+number_of_one old new atom none atoms = ap (λ l. number_in l atom) atoms ∙ number_in-push_new old.atoms atom atom refl none

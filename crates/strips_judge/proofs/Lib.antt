@@ -2,15 +2,11 @@ pub mod Applicable
 pub mod Bound
 pub mod VerdictMeanings
 pub mod NumberedLaws
-pub mod AtomIndexes
-pub mod AtomKeys
-pub mod KnownAtoms
 pub mod AtomsFound
 pub mod SingleCells
 pub mod CodeLaws
 pub mod Fits
 pub mod Growth
-pub mod Numbering
 pub mod Runs
 pub mod Searches
 pub mod StepLaws

@@ -9,11 +9,11 @@ use Rattle.strips_task.specs.declared.atoms.Atom.{Atom}
 use Rattle.strips_task.specs.Atom.{atom_eq}
 use Rattle.strips_task.specs.FirstOccurrences.{first_occurrences}
 use Rattle.strips_task.proofs.AtomEquality.{atom_equiv, atom_same}
-use Rattle.strips_judge.specs.AtomNumbers.{number_in}
-use Rattle.strips_judge.specs.NumberedState.{bit_of, state_by}
+use Rattle.strips_task.specs.AtomNumbers.{number_in}
+use Rattle.strips_judge.specs.NumberedState.{IsRowFor, Numbered, bit_of, state_by, state_of}
 use Rattle.bit_rows.specs.Rows.{row_has}
 use Rattle.strips_judge.specs.State.{State, is_in, with_all, without}
-use Rattle.strips_judge.proofs.Numbering.{same_number, is_some-index, index-lt, index-stays, index-late}
+use Rattle.strips_task.proofs.Numbering.{same_number, is_some-index, index-lt, index-stays, index-late}
 
 -- the new state has this value at this atom, and at each other atom the old one's
 pub record Changes (old new : State) (atom : Atom) (value : Bool) : Type 0 where
@@ -135,3 +135,12 @@ state_by-same atoms new old same = fun_ext (λ atom. by (number_in atoms atom))
     by : (o : Option ℕ) → bit_of new o ≡ bit_of old o
     by None = refl
     by (Some k) = same k
+
+-- an atom more, after room was made for its bit
+pub state_of-one : (old new : Numbered) (reserved : List ℕ) (atom : Atom) → IsRowFor old.atoms old.bits → ((k : ℕ) → row_has reserved k ≡ row_has old.bits k)
+    → new.bits ≡ reserved → new.atoms ≡ old.atoms ++ atom ∷ [] → state_of new ≡ state_of old
+state_of-one old new reserved atom row same bits atoms =
+    ap (state_by new.atoms) bits
+    ∙ ap (λ l. state_by l reserved) atoms
+    ∙ state_by-push old.atoms reserved atom (λ k le. same k ∙ row.clear k le)
+    ∙ state_by-same old.atoms reserved old.bits same

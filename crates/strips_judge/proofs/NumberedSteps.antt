@@ -16,7 +16,7 @@ use Rattle.strips_task.proofs.NamedRows.{none_yet}
 use Rattle.strips_judge.specs.declared.verdict.Why.TheVariants.{WrongCount, UnknownObject, WrongType}
 use Rattle.strips_judge.specs.Step.{action_named, objects_named, is_unknown, is_ill_typed, fault, fault_by}
 use Rattle.strips_judge.specs.StepNumbers.{number_by, numbers_named, IsNumbered, AreWithin}
-use Rattle.strips_judge.proofs.Numbering.{index-lt}
+use Rattle.strips_task.proofs.Numbering.{index-lt}
 
 module _ (parts : TaskParts) where
   -- one word more has one number more

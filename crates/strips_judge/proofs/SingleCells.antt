@@ -5,7 +5,7 @@ use Rattle.std.proofs.lemmas.Bool.{cases_eq}
 use Rattle.std.proofs.lemmas.Bool.Decides.{nat_tests}
 use Rattle.std.proofs.lemmas.Nat.{same_from_place}
 use Rattle.strips_judge.specs.SingleCells.{AreCells, Cells, Extent, cell_of, place_of}
-use Rattle.strips_judge.specs.declared.atom_keys.AtomKey.{AtomKey}
+use Rattle.strips_task.specs.declared.atom_keys.AtomKey.{AtomKey}
 
 -- a key with a cell is that of an atom of one object
 one_object : (extent : Extent) (key : AtomKey) (cell : ℕ) → cell_of extent key ≡ Some cell → key.head / 65536 ≡ 1

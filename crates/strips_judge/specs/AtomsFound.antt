@@ -1,18 +1,13 @@
 -- What is kept of the atoms that have numbers, so that each is found.
 
-use Rattle.std.specs.Prelude.{◌≡◌, ◌+◌, ◌≤◌, ◌<◌, ◌++◌, ℕ, List, Option, Some, length, option_map}
+use Rattle.std.specs.Prelude.{◌≡◌, ◌++◌, ℕ, Bool, true, false, List, None, Some, slice_index_or}
 use Rattle.strips_task.specs.declared.atoms.Atom.{Atom}
-use Rattle.strips_judge.specs.AtomIndex.{Index, IsFound, IsRight}
-use Rattle.strips_judge.specs.AtomKeys.{atom_of, key_of}
-use Rattle.strips_judge.specs.AtomNumbers.{number_in}
-use Rattle.strips_judge.specs.LongAtoms.{long_number}
+use Rattle.strips_task.specs.AtomKeys.{atom_of}
+use Rattle.strips_task.specs.AtomNumbers.{number_in}
+use Rattle.strips_judge.specs.SingleCells.{Cells, AreCells}
 
--- the number of a later atom, among all
-abbrev pub later_number : List Atom → List Atom → Atom → Option ℕ
-later_number first later atom = option_map (λ number. length first + number) (number_in later atom)
-
--- the index has the right numbers, and that of each later atom of few objects; beside it are those of the later atoms of many objects
-pub record AreFound (first later : List Atom) (index : Index) (long : List (Atom × ℕ)) : Type 0 where
-  pub right : IsRight (λ key. number_in (first ++ later) (atom_of key)) index
-  pub few : (atom : Atom) (number : ℕ) → length atom.args ≤ 4 → number_in later atom ≡ Some number → IsFound index (key_of atom)
-  pub many : (atom : Atom) → 4 < length atom.args → long_number long atom ≡ later_number first later atom
+-- no later atom is among the first, the predicate of each later atom is marked, and the cells have the right numbers
+pub record AreFound (first later : List Atom) (marks : List Bool) (cells : Cells) : Type 0 where
+  pub apart : (atom : Atom) (number : ℕ) → number_in later atom ≡ Some number → number_in first atom ≡ None
+  pub marked : (atom : Atom) (number : ℕ) → number_in later atom ≡ Some number → slice_index_or marks atom.pred false ≡ true
+  pub right : AreCells (λ key. number_in (first ++ later) (atom_of key)) cells

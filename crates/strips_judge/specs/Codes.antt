@@ -11,7 +11,7 @@ use Rattle.strips_task.specs.declared.steps.StepText.{StepText}
 use Rattle.strips_task.specs.declared.tasks.TaskParts.{TaskParts}
 use Rattle.strips_judge.specs.declared.codes.StepCode.{StepCode}
 use Rattle.strips_judge.specs.Grounding.{ground}
-use Rattle.strips_judge.specs.AtomNumbers.{number_in}
+use Rattle.strips_task.specs.AtomNumbers.{number_in}
 use Rattle.strips_judge.specs.State.{State, holds}
 use Rattle.strips_judge.specs.Step.{fault, precondition, deletes, adds}
 

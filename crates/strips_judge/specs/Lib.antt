@@ -1,13 +1,8 @@
 pub mod Codes
 pub mod Grounding
 pub mod NumberedState
-pub mod AtomNumbers
 pub mod State
-pub mod AtomKeys
-pub mod KnownAtoms
 pub mod SingleCells
-pub mod AtomIndex
-pub mod LongAtoms
 pub mod AtomsFound
 pub mod Step
 pub mod Verdict

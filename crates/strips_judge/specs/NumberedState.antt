@@ -3,7 +3,7 @@
 use Rattle.std.specs.Prelude.{◌≡◌, ℕ, ◌≤◌, ◌<◌, ◌*◌, ◌^◌, Bool, false, List, Option, Some, None, length}
 use Rattle.strips_task.specs.declared.atoms.Atom.{Atom}
 use Rattle.bit_rows.specs.Rows.{row_has}
-use Rattle.strips_judge.specs.AtomNumbers.{number_in}
+use Rattle.strips_task.specs.AtomNumbers.{number_in}
 use Rattle.strips_judge.specs.State.{State}
 
 -- a state by numbers: the initial atoms of its task, the atoms that have numbers, each at the index that is its number, and a row of bits

@@ -1,7 +1,7 @@
 -- Cells for the numbers of atoms of one object.
 
 use Rattle.std.specs.Prelude.{◌≡◌, ◌+◌, ◌*◌, ◌/◌, ◌%◌, ◌==◌, ◌&&◌, ℕ, Bool, List, Option, None, Some, if◌then◌else◌, nat_lt, slice_index}
-use Rattle.strips_judge.specs.declared.atom_keys.AtomKey.{AtomKey}
+use Rattle.strips_task.specs.declared.atom_keys.AtomKey.{AtomKey}
 
 -- how far the cells go: how many objects each predicate has a place for, and how many cells there are at most
 pub record Extent : Type 0 where

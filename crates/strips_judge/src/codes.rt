@@ -11,7 +11,7 @@ ghost use Rattle.strips_task.specs.declared.tasks.TaskParts.{TaskParts};
 ghost use Rattle.strips_task.specs.Within.{IsPatternWithin, IsFormulaWithin};
 ghost use Rattle.strips_judge.specs.Codes.{AreNumbers, AsksFor, IsCode, asking_more, code_shown};
 ghost use Rattle.strips_judge.specs.Grounding.{ground, ground_condition};
-ghost use Rattle.strips_judge.specs.AtomNumbers.{number_in};
+ghost use Rattle.strips_task.specs.AtomNumbers.{number_in};
 ghost use Rattle.strips_judge.specs.NumberedState.{Grows, state_of};
 ghost use Rattle.strips_judge.specs.State.{with_all, without};
 ghost use Rattle.strips_judge.specs.Step.{hindrance, after};

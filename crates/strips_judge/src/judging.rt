@@ -19,8 +19,8 @@ use crate::verdict::{Verdict, Why};
 use std::alloc::{AllocError, Global};
 use strips_task::{Action, Atom, Plan, ShortSeq, StepList, StepView, Task};
 
-/// The numbers of how many initial atoms are kept while one plan is judged: up to 836 KiB.
-const MOST_KEPT: usize = 16_384;
+/// How many cells there are for atoms of one object while one plan is judged: up to 128 KiB.
+const MOST_CELLS: usize = 32_768;
 
 /// Room that all steps use, so that a step takes no memory of its own. No answer depends on what it holds.
 #[derive(Drop)]
@@ -61,7 +61,7 @@ fn judge_steps(alloc: Global, task: &Task, steps: &StepList) -> Result<Verdict, 
         alloc,
         task.initial_atoms(),
         task.object_count(),
-        MOST_KEPT,
+        MOST_CELLS,
     )?;
     let mut scratch = Scratch::new(alloc);
     for index in 0..steps.len() {

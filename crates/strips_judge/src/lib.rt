@@ -19,16 +19,13 @@
 #![tactic(auto)]
 
 mod arguments;
-mod atom_index;
 mod atom_keys;
 mod codes;
 mod conditions;
 mod effects;
 mod grounding;
 mod judging;
-mod known_atoms;
 pub mod laws;
-mod long_atoms;
 mod numbered_steps;
 mod recent_names;
 mod single_cells;

@@ -3,12 +3,12 @@
 //! The cell of an atom follows from its predicate and its object. So its number takes one read of memory, and neither a hash nor a comparison. There is
 //! a bound on how many cells there are, and atoms whose cells are past it are kept elsewhere.
 ghost use Rattle.std.specs.Prelude.{◌≡◌, ◌≢◌, ◌+◌, ◌<◌, ℕ, None, Option, Some, IfSome, OnErr, OnOk, length, slice_index};
-ghost use Rattle.strips_judge.specs.declared.atom_keys.AtomKey.{AtomKey};
+ghost use Rattle.strips_task.specs.declared.atom_keys.AtomKey.{AtomKey};
 ghost use Rattle.strips_judge.specs.SingleCells.{AreCells, cell_of};
 
-use crate::atom_keys::AtomKey;
 use std::alloc::{AllocError, Global};
 use std::marker::Model;
+use strips_task::AtomKey;
 
 /// How many objects may have cells.
 const MOST_OBJECTS: usize = 65_536;

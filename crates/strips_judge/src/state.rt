@@ -3,42 +3,36 @@
 //! Each atom that was ever true or asked for by number has a number and a bit. The initial atoms have the task's numbers, so a plan starts
 //! with a row of ones and hashes none of them. Atoms that come up later get the next numbers, and numbers never change: a state that is
 //! reset for another plan keeps them. Steps change the bits in place. An atom without a number is false.
-ghost use Rattle.std.specs.Prelude.{◌≡◌, ◌∷◌, [], ◌++◌, ◌<◌, ◌≤◌, ◌+◌, ◌*◌, ◌^◌, None, Some, IfOk, OnErr, OnOk, length};
+ghost use Rattle.std.specs.Prelude.{◌≡◌, ◌∷◌, [], ◌++◌, ◌<◌, ◌≤◌, ◌+◌, ◌*◌, ◌^◌, ℕ, true, false, None, Some, IfNone, IfOk, IfSome, OnErr, OnOk, length, slice_index_or};
 ghost use Rattle.strips_task.specs.Within.{IsPatternWithin};
 ghost use Rattle.strips_task.specs.declared.atoms.Atom.{Atom};
 ghost use Rattle.strips_task.specs.Atom.{atom_eq};
+ghost use Rattle.strips_task.specs.AtomKeys.{IsKeyOf, atom_of};
+ghost use Rattle.strips_task.specs.AtomNumbers.{number_in};
 ghost use Rattle.strips_task.specs.FirstOccurrences.{first_occurrences};
 ghost use Rattle.strips_judge.specs.Grounding.{ground};
 ghost use Rattle.strips_judge.specs.NumberedState.{Grows, state_of};
-ghost use Rattle.strips_judge.specs.AtomNumbers.{number_in};
-ghost use Rattle.strips_judge.specs.AtomKeys.{atom_of, key_of};
 ghost use Rattle.strips_judge.specs.State.{is_in, without, with_all};
 
-use crate::atom_index::AtomIndex;
-use crate::atom_keys::AtomKey;
+use crate::atom_keys::key_of_pattern;
 use crate::grounding::ground;
-use crate::long_atoms::LongAtoms;
+use crate::single_cells::SingleCells;
 use bit_rows::Row;
 use std::alloc::{AllocError, Global};
 use std::marker::Model;
-use strips_task::{Atom, InitialAtoms, Pattern, Seed};
-
-/// How many cells there may be for each initial atom that may be kept.
-const CELLS_FOR_AN_ATOM: usize = 2;
+use strips_task::{Atom, AtomKey, AtomTable, InitialAtoms, Pattern, Seed};
 
 /// A set of ground atoms of a task, each with a number. Contracts see the initial atoms of the task, the atoms that have numbers and the bits.
 #[derive(Drop)]
 pub struct NumberedState<'t> {
     initial: &'t InitialAtoms,
     /// The atoms that came up later, in the order of their numbers.
-    later: Vec<Atom>,
+    later: AtomTable,
+    /// For each predicate by number whether a later atom has it, so that atoms of others are looked up among the initial ones alone.
+    marks: Vec<bool>,
+    /// The numbers of atoms of one object that were looked up.
+    cells: SingleCells,
     bits: Row,
-    /// The numbers of the later atoms of few objects, and of those initial atoms of few objects that were looked up.
-    index: AtomIndex,
-    /// The numbers of the later atoms of many objects.
-    long: LongAtoms,
-    /// How many initial atoms more may be kept in the index.
-    may_keep: usize,
 }
 
 impl<'t> Model for NumberedState<'t> {
@@ -50,38 +44,32 @@ impl<'t> Model for NumberedState<'t> {
 
     ghost Value = { Numbered };
 
-    ghost view = { λ s. record { initial = s.initial.now; atoms = first_occurrences atom_eq s.initial.now ++ s.later.items; bits = s.bits } };
+    ghost view = { λ s. record { initial = s.initial.now; atoms = first_occurrences atom_eq s.initial.now ++ s.later; bits = s.bits } };
 
-    ghost invariant = { λ s. IsRowFor (first_occurrences atom_eq s.initial.now ++ s.later.items) s.bits
-        × AreFound (first_occurrences atom_eq s.initial.now) s.later.items s.index s.long };
+    ghost invariant = { λ s. IsRowFor (first_occurrences atom_eq s.initial.now ++ s.later) s.bits
+        × AreFound (first_occurrences atom_eq s.initial.now) s.later s.marks.items s.cells };
 }
 
 impl NumberedState<'_> {
     /// The state in which the initial atoms are true, and no others. Takes a bit for each of them.
     ///
-    /// The task has `objects` objects. The numbers of at most `most_kept` initial atoms of few objects are kept once they were looked up. That takes
-    /// up to 43 bytes for each, and besides up to 8 for cells. No answer depends on these two.
+    /// The task has `objects` objects. Atoms of one object that were looked up are found by one read of memory the next time, with at most `most_cells`
+    /// cells of four bytes. No answer depends on these two.
     pub fn new(
         alloc: Global,
         initial: &InitialAtoms,
         objects: usize,
-        most_kept: usize,
+        most_cells: usize,
     ) -> Result<NumberedState<'_>, AllocError>
         ensures state { IfOk result (λ state. state_of state ≡ is_in initial.now) }
         ensures initial { IfOk result (λ state. state.initial ≡ initial.now) }
     {
         Ok(NumberedState {
             initial,
-            later: Vec::new(alloc),
+            later: AtomTable::new(alloc, initial.seed()),
+            marks: Vec::new(alloc),
+            cells: SingleCells::new(alloc, objects, most_cells),
             bits: Row::with_first(alloc, initial.distinct_len())?,
-            index: AtomIndex::new(
-                alloc,
-                initial.seed(),
-                objects,
-                most_kept.saturating_mul(CELLS_FOR_AN_ATOM),
-            ),
-            long: LongAtoms::new(alloc, initial.seed()),
-            may_keep: most_kept,
         })
     }
 
@@ -104,8 +92,8 @@ impl NumberedState<'_> {
         self.initial.seed()
     }
 
-    /// The number of the atom that a pattern stands for, if it has one. Takes one read of memory if the atom was looked up before, and otherwise a
-    /// hash. Takes memory once in a long while. The last argument is room for the atom.
+    /// The number of the atom that a pattern stands for, if it has one. Takes a read of memory or two, and memory once in a long while. The last argument
+    /// is room for an atom of many objects.
     pub(crate) fn look_up(
         &mut self,
         pattern: &Pattern,
@@ -116,47 +104,97 @@ impl NumberedState<'_> {
         ensures number { IfOk result (λ number. number ≡ number_in self.old.atoms (ground objects.now pattern.now)) }
         ensures same { self.new ≡ self.old }
     {
-        let Some(key) = AtomKey::of_pattern(pattern, objects) else {
-            ground(pattern, objects, atom)?;
-            return Ok(self.number_of_long(atom));
-        };
-        if let Some(number) = self.index.find(key) {
-            return Ok(Some(number as usize));
+        if let Some(key) = key_of_pattern(pattern, objects) {
+            return self.look_up_few(key);
         }
         ground(pattern, objects, atom)?;
-        self.look_up_initial(key, atom)
+        Ok(self.number_of_long(atom))
     }
 
-    /// The number of an atom of few objects that the index does not have, if it has one: it can only be initial. Keeps the number while it may.
-    #[inline(never)]
-    fn look_up_initial(&mut self, key: AtomKey, atom: &Atom) -> Result<Option<usize>, AllocError>
-        requires key { key ≡ key_of atom.now }
-        requires atom { atom_of key ≡ atom.now }
-        requires few { length atom.now.args ≤ 4 }
-        requires absent { number_in self.old.atoms atom.now ≡ number_in (first_occurrences atom_eq self.old.initial) atom.now }
-        ensures number { IfOk result (λ number. number ≡ number_in self.old.atoms atom.now) }
+    /// The number of the atom of a key, if it has one.
+    #[inline(always)]
+    fn look_up_few(&mut self, key: AtomKey) -> Result<Option<usize>, AllocError>
+        requires { IsKeyOf (atom_of key) key }
+        ensures number { IfOk result (λ number. number ≡ number_in self.old.atoms (atom_of key)) }
         ensures same { self.new ≡ self.old }
     {
-        let Some(number) = self.initial.number_of(atom) else {
+        let Some(cell) = self.cells.cell_of(key) else {
+            return Ok(self.number_of_few(key));
+        };
+        match self.cells.number_at(cell) {
+            Some(number) => Ok(Some(number as usize)),
+            None => self.look_up_single(key),
+        }
+    }
+
+    /// The number of the atom of a key whose cell has none, if the atom has one. Keeps it in the cell.
+    #[inline(never)]
+    fn look_up_single(&mut self, key: AtomKey) -> Result<Option<usize>, AllocError>
+        requires { IsKeyOf (atom_of key) key }
+        ensures number { IfOk result (λ number. number ≡ number_in self.old.atoms (atom_of key)) }
+        ensures same { self.new ≡ self.old }
+    {
+        let Some(number) = self.number_of_few(key) else {
             return Ok(None);
         };
         self.keep(key, number)?;
         Ok(Some(number))
     }
 
-    /// Keeps the number of an initial atom of few objects, unless there are as many already as may be kept or the number has more than 32 bits.
+    /// Keeps the number of an atom in its cell, if it has one and the number has at most 32 bits.
     fn keep(&mut self, key: AtomKey, number: usize) -> Result<(), AllocError>
         requires { number_in self.old.atoms (atom_of key) ≡ Some number }
         ensures { self.new ≡ self.old }
     {
-        if self.may_keep == 0 {
+        let Some(cell) = self.cells.cell_of(key) else {
             return Ok(());
+        };
+        let Ok(number) = u32::try_from(number) else {
+            return Ok(());
+        };
+        self.cells.keep(cell, number)
+    }
+
+    /// The number of the atom of a key, if it has one, by the tables.
+    #[inline]
+    fn number_of_few(&self, key: AtomKey) -> Option<usize>
+        requires { IsKeyOf (atom_of key) key }
+        ensures { result ≡ number_in self.now.atoms (atom_of key) }
+    {
+        if let Some(number) = self.later_number(key) {
+            return Some(number);
         }
-        if let Ok(number) = u32::try_from(number) {
-            self.index.keep(key, number)?;
-            self.may_keep -= 1;
+        match self.initial.distinct().find(key) {
+            Some(number) => Some(number as usize),
+            None => None,
         }
-        Ok(())
+    }
+
+    /// The number of the atom of a key, if it is a later one.
+    #[inline(always)]
+    fn later_number(&self, key: AtomKey) -> Option<usize>
+        requires { IsKeyOf (atom_of key) key }
+        ensures later { IfSome result (λ number. number_in self.now.atoms (atom_of key) ≡ Some number) }
+        ensures initial { IfNone result (number_in self.now.atoms (atom_of key) ≡ number_in (first_occurrences atom_eq self.now.initial) (atom_of key)) }
+    {
+        if !self.may_be_later(key.pred()) {
+            return None;
+        }
+        match self.later.find(key) {
+            Some(number) => Some(self.initial.distinct_len() + number as usize),
+            None => None,
+        }
+    }
+
+    /// Whether a later atom has a predicate.
+    #[inline(always)]
+    fn may_be_later(&self, pred: u16) -> bool
+        ensures { result ≡ false → (atom : Atom) → atom.pred ≡ pred → number_in self.now.atoms atom ≡ number_in (first_occurrences atom_eq self.now.initial) atom }
+    {
+        match self.marks.get(usize::from(pred)) {
+            Some(mark) => *mark,
+            None => false,
+        }
     }
 
     /// The number of an atom of many objects, if it has one. Takes one or two hashes.
@@ -168,8 +206,8 @@ impl NumberedState<'_> {
         if let Some(number) = self.initial.number_of(atom) {
             return Some(number);
         }
-        match self.long.find(atom) {
-            Some(number) => Some(number as usize),
+        match self.later.find_long(atom) {
+            Some(number) => Some(self.initial.distinct_len() + number as usize),
             None => None,
         }
     }
@@ -178,12 +216,9 @@ impl NumberedState<'_> {
     fn number_of(&self, atom: &Atom) -> Option<usize>
         ensures { result ≡ number_in self.now.atoms atom.now }
     {
-        let Some(key) = AtomKey::of(atom) else {
-            return self.number_of_long(atom);
-        };
-        match self.index.find(key) {
-            Some(number) => Some(number as usize),
-            None => self.initial.number_of(atom),
+        match AtomKey::of(atom) {
+            Some(key) => self.number_of_few(key),
+            None => self.number_of_long(atom),
         }
     }
 
@@ -200,85 +235,68 @@ impl NumberedState<'_> {
         ensures state { state_of self.new ≡ state_of self.old }
         ensures grows { Grows self.old self.new }
     {
-        match self.look_up(pattern, objects, atom)? {
-            Some(number) => Ok(number),
-            None => self.add(alloc, pattern, objects, atom),
+        if let Some(key) = key_of_pattern(pattern, objects) {
+            return self.number_few(key);
         }
+        ground(pattern, objects, atom)?;
+        self.number_long(alloc, atom)
     }
 
-    /// Gives the atom that a pattern stands for, which has no number, the next one, and returns it. The atom is false.
-    #[inline(never)]
-    fn add(
-        &mut self,
-        alloc: Global,
-        pattern: &Pattern,
-        objects: &[u16],
-        atom: &mut Atom,
-    ) -> Result<usize, AllocError>
-        requires within { IsPatternWithin (length objects.now) pattern.now }
-        requires new { number_in self.old.atoms (ground objects.now pattern.now) ≡ None }
-        ensures number { IfOk result (λ number. number_in self.new.atoms (ground objects.now pattern.now) ≡ Some number) }
+    /// The number of the atom of a key. If it has none, it gets the next one.
+    #[inline(always)]
+    fn number_few(&mut self, key: AtomKey) -> Result<usize, AllocError>
+        requires { IsKeyOf (atom_of key) key }
+        ensures number { IfOk result (λ number. number_in self.new.atoms (atom_of key) ≡ Some number) }
         ensures state { state_of self.new ≡ state_of self.old }
         ensures grows { Grows self.old self.new }
     {
-        ground(pattern, objects, atom)?;
-        let number = self.next_number()?;
-        self.bits.reserve(number as usize + 1)?;
-        self.push(alloc, atom.copy(alloc)?, number)?;
-        Ok(number as usize)
-    }
-
-    /// Gives an atom the next number.
-    fn push(&mut self, alloc: Global, atom: Atom, number: u32) -> Result<(), AllocError>
-        requires new { number_in self.old.atoms atom ≡ None }
-        requires number { number ≡ length self.old.atoms }
-        requires room { number + 1 ≤ 64 * length self.old.bits }
-        ensures atoms { OnOk result (self.new.atoms ≡ self.old.atoms ++ atom ∷ []) }
-        ensures failed { OnErr result (self.new.atoms ≡ self.old.atoms) }
-        ensures bits { self.new.bits ≡ self.old.bits }
-        ensures initial { self.new.initial ≡ self.old.initial }
-    {
-        match AtomKey::of(&atom) {
-            Some(key) => self.add_few(key, atom, number),
-            None => self.add_many(alloc, atom, number),
+        match self.look_up_few(key)? {
+            Some(number) => Ok(number),
+            None => self.add_few(key),
         }
     }
 
-    /// Gives an atom of few objects the next number.
-    fn add_few(&mut self, key: AtomKey, atom: Atom, number: u32) -> Result<(), AllocError>
-        requires new { number_in self.old.atoms atom ≡ None }
-        requires key { key ≡ key_of atom }
-        requires atom { atom_of key ≡ atom }
-        requires few { length atom.args ≤ 4 }
-        requires number { number ≡ length self.old.atoms }
-        requires room { number + 1 ≤ 64 * length self.old.bits }
-        ensures atoms { OnOk result (self.new.atoms ≡ self.old.atoms ++ atom ∷ []) }
-        ensures failed { OnErr result (self.new.atoms ≡ self.old.atoms) }
-        ensures bits { self.new.bits ≡ self.old.bits }
-        ensures initial { self.new.initial ≡ self.old.initial }
+    /// The number of an atom of many objects. If it has none, it gets the next one.
+    fn number_long(&mut self, alloc: Global, atom: &Atom) -> Result<usize, AllocError>
+        requires { 4 < length atom.now.args }
+        ensures number { IfOk result (λ number. number_in self.new.atoms atom.now ≡ Some number) }
+        ensures state { state_of self.new ≡ state_of self.old }
+        ensures grows { Grows self.old self.new }
     {
-        self.later.reserve(1)?;
-        self.index.keep(key, number)?;
-        self.later.push_reserved(atom);
-        Ok(())
+        match self.number_of_long(atom) {
+            Some(number) => Ok(number),
+            None => self.add_long(alloc, atom),
+        }
     }
 
-    /// Gives an atom of many objects the next number.
-    fn add_many(&mut self, alloc: Global, atom: Atom, number: u32) -> Result<(), AllocError>
-        requires new { number_in self.old.atoms atom ≡ None }
-        requires many { 4 < length atom.args }
-        requires number { number ≡ length self.old.atoms }
-        requires room { number + 1 ≤ 64 * length self.old.bits }
-        ensures atoms { OnOk result (self.new.atoms ≡ self.old.atoms ++ atom ∷ []) }
-        ensures failed { OnErr result (self.new.atoms ≡ self.old.atoms) }
-        ensures bits { self.new.bits ≡ self.old.bits }
-        ensures initial { self.new.initial ≡ self.old.initial }
+    /// Gives the atom of a key, which has no number, the next one. The atom is false.
+    #[inline(never)]
+    fn add_few(&mut self, key: AtomKey) -> Result<usize, AllocError>
+        requires key { IsKeyOf (atom_of key) key }
+        requires new { number_in self.old.atoms (atom_of key) ≡ None }
+        ensures number { IfOk result (λ number. number_in self.new.atoms (atom_of key) ≡ Some number) }
+        ensures state { state_of self.new ≡ state_of self.old }
+        ensures grows { Grows self.old self.new }
     {
-        self.later.reserve(1)?;
-        let key = atom.copy(alloc)?;
-        self.long.keep(key, number)?;
-        self.later.push_reserved(atom);
-        Ok(())
+        let number = self.next_number()?;
+        self.bits.reserve(number as usize + 1)?;
+        self.push_few(key)?;
+        Ok(number as usize)
+    }
+
+    /// Gives an atom of many objects, which has no number, the next one. The atom is false.
+    #[inline(never)]
+    fn add_long(&mut self, alloc: Global, atom: &Atom) -> Result<usize, AllocError>
+        requires many { 4 < length atom.now.args }
+        requires new { number_in self.old.atoms atom.now ≡ None }
+        ensures number { IfOk result (λ number. number_in self.new.atoms atom.now ≡ Some number) }
+        ensures state { state_of self.new ≡ state_of self.old }
+        ensures grows { Grows self.old self.new }
+    {
+        let number = self.next_number()?;
+        self.bits.reserve(number as usize + 1)?;
+        self.push_long(atom.copy(alloc)?)?;
+        Ok(number as usize)
     }
 
     /// The number that comes next, if it has 32 bits.
@@ -290,6 +308,38 @@ impl NumberedState<'_> {
             return Err(AllocError);
         }
         Ok(number as u32)
+    }
+
+    /// Gives the atom of a key the next number.
+    fn push_few(&mut self, key: AtomKey) -> Result<(), AllocError>
+        requires key { IsKeyOf (atom_of key) key }
+        requires new { number_in self.old.atoms (atom_of key) ≡ None }
+        requires room { length self.old.atoms + 1 ≤ 64 * length self.old.bits }
+        requires small { length self.old.atoms + 1 < 2 ^ 32 }
+        ensures atoms { OnOk result (self.new.atoms ≡ self.old.atoms ++ atom_of key ∷ []) }
+        ensures failed { OnErr result (self.new.atoms ≡ self.old.atoms) }
+        ensures bits { self.new.bits ≡ self.old.bits }
+        ensures initial { self.new.initial ≡ self.old.initial }
+    {
+        mark(&mut self.marks, key.pred())?;
+        self.later.push_few(key)?;
+        Ok(())
+    }
+
+    /// Gives an atom of many objects the next number.
+    fn push_long(&mut self, atom: Atom) -> Result<(), AllocError>
+        requires many { 4 < length atom.args }
+        requires new { number_in self.old.atoms atom ≡ None }
+        requires room { length self.old.atoms + 1 ≤ 64 * length self.old.bits }
+        requires small { length self.old.atoms + 1 < 2 ^ 32 }
+        ensures atoms { OnOk result (self.new.atoms ≡ self.old.atoms ++ atom ∷ []) }
+        ensures failed { OnErr result (self.new.atoms ≡ self.old.atoms) }
+        ensures bits { self.new.bits ≡ self.old.bits }
+        ensures initial { self.new.initial ≡ self.old.initial }
+    {
+        mark(&mut self.marks, atom.pred)?;
+        self.later.push_long(atom)?;
+        Ok(())
     }
 
     /// Whether the atom with a number is true.
@@ -378,4 +428,17 @@ impl NumberedState<'_> {
         }
         Ok(())
     }
+}
+
+/// Marks a predicate.
+fn mark(marks: &mut Vec<bool>, pred: u16) -> Result<(), AllocError>
+    ensures marked { OnOk result (slice_index_or marks.new.items pred false ≡ true) }
+    ensures still { (other : ℕ) → slice_index_or marks.old.items other false ≡ true → slice_index_or marks.new.items other false ≡ true }
+{
+    let index = usize::from(pred);
+    if index >= marks.len() {
+        marks.resize(index + 1, false)?;
+    }
+    marks[index] = true;
+    Ok(())
 }

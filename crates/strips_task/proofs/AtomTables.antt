@@ -1,191 +1,177 @@
--- Lists of distinct atoms, and the slots from which they are found.
+-- Tables of atoms: one more atom is found, and those before it stay found.
 
-use Rattle.std.proofs.Common.{◌≡◌, ◌≢◌, ◌≤◌, ◌<◌, ◌+◌, ℕ, zero, suc, Bool, true, false, true≢false, cond, ◌||◌, List, [], ◌∷◌, ◌++◌, All, Option, None, Some, IfSome, IfNone, Result, Ok, Err, IfOk, OnOk, OnErr, ◌⊎◌, inl, inr, length, slice_get, if◌then◌else◌, refl, ap, sym, ◌∙◌, subst, arith}
-use Rattle.std.proofs.lemmas.Bool.{cases_lt}
-use Rattle.std.specs.List.{list_any, position_from}
-use Rattle.indexmap.specs.IndexSet.{insert_key}
-use Rattle.strips_task.specs.declared.atom_table.AtomSlot.{AtomSlot}
+use Rattle.std.proofs.Common.{◌≡◌, ◌≤◌, ◌<◌, ◌+◌, ◌/◌, ℕ, suc, Bool, true, false, cond, leb, List, [], ◌∷◌, ◌++◌, All, Option, Some, None, get_or, length, length-append, refl, ap, sym, ◌∙◌, subst, arith}
+use Rattle.std.proofs.lemmas.Bool.{le-leb, leb-false, lt-leb}
+use Rattle.std.proofs.lemmas.List.{map-append}
+use Rattle.std.proofs.lemmas.List.Elements.{All-push}
+use Rattle.std.specs.Option.{option_map_or}
 use Rattle.strips_task.specs.declared.atoms.Atom.{Atom}
-use Rattle.strips_task.specs.declared.seed.Seed.{Seed}
+use Rattle.strips_task.specs.declared.atom_keys.AtomKey.{AtomKey}
 use Rattle.strips_task.specs.Atom.{atom_eq}
-use Rattle.strips_task.specs.FormulaEquality.{atom_decides}
-use Rattle.strips_task.specs.AtomSlots.{hash_of, IsReached, IsIndex, IsAtomTable, AreDistinct}
+use Rattle.strips_task.specs.AtomKeys.{IsKeyOf, atom_of, key_of}
+use Rattle.strips_task.specs.AtomNumbers.{number_in}
+use Rattle.strips_task.specs.AtomTables.{AreFound, IsAtomTable, atom_at, atoms_of, long_atom}
+use Rattle.strips_task.specs.KnownAtoms.{AreRight, IsKnown, Known, key_in}
+use Rattle.strips_task.specs.LongAtoms.{long_number}
+use Rattle.strips_task.proofs.AtomEquality.{atom_same}
+use Rattle.strips_task.proofs.AtomKeys.{few_said}
+use Rattle.strips_task.proofs.Numbered.{at_end, slice_get-more}
+use Rattle.strips_task.proofs.Numbering.{index-stays, number_in-push_new, number_in-push_other}
 
-module _ {A : Type 0} where
-  -- an item of a list with one more at its end is one of the list, or the last
-  pub at_more : (xs : List A) (last : A) (n : ℕ) (x : A) → slice_get (xs ++ last ∷ []) n ≡ Some x → (slice_get xs n ≡ Some x) ⊎ ((n ≡ length xs) × (last ≡ x))
-  at_more [] last zero x at = inr (refl, cc)
-  at_more [] last (suc n) x at = let none : None ≡ Some x = at in cc
-  at_more (y ∷ ys) last zero x at = inl at
-  at_more (y ∷ ys) last (suc n) x at =
-      elim (at_more ys last n x at) [
-        | inl here ↦ inl here
-        | inr end ↦ inr (ap suc end.0, end.1)
-      ]
+-- what is said of an entry for an atom of many objects
+abbrev IsWithin : List (Atom × ℕ) → AtomKey → Type 0
+IsWithin long entry = 4 < entry.head / 65536 → entry.objects < length long
 
-  -- the last item stands behind the others
-  pub at_end : (xs : List A) (last : A) → slice_get (xs ++ last ∷ []) (length xs) ≡ Some last
-  at_end [] last = refl
-  at_end (x ∷ xs) last = at_end xs last
+-- the atom of an entry of few objects
+atom_at-few : (long : List (Atom × ℕ)) (entry : AtomKey) → entry.head / 65536 ≤ 4 → atom_at long entry ≡ atom_of entry
+atom_at-few long entry few = ap (λ b. cond b (atom_of entry) (long_atom long entry.objects)) (le-leb (entry.head / 65536) 4 few)
 
-  -- where a test finds an index, an item that passes stands there
-  found_item : (p : A → Bool) (at number : ℕ) (xs : List A) → position_from p at xs ≡ Some number
-      → (k : ℕ) × (x : A) × (number ≡ at + k) × (slice_get xs k ≡ Some x) × (p x ≡ true)
-  found_item p at number [] found = cc
-  found_item p at number (x ∷ xs) found = by (p x) refl (found_item p (at + 1) number xs)
-    where
-      by : (b : Bool) → p x ≡ b
-          → (position_from p (at + 1) xs ≡ Some number → (k : ℕ) × (y : A) × (number ≡ at + 1 + k) × (slice_get xs k ≡ Some y) × (p y ≡ true))
-          → (k : ℕ) × (y : A) × (number ≡ at + k) × (slice_get (x ∷ xs) k ≡ Some y) × (p y ≡ true)
-      by true is rest =
-          let here : Some at ≡ Some number = sym (ap (λ b. cond b (Some at) (position_from p (at + 1) xs)) is) ∙ found in
-          let first : at ≡ number = cc in
-          (0, x, omega (arith, first), refl, is)
-      by false is rest =
-          let there = rest (sym (ap (λ b. cond b (Some at) (position_from p (at + 1) xs)) is) ∙ found) in
-          let far : number ≡ at + 1 + there.0 = there.2 in
-          (suc there.0, there.1, omega (arith, far), there.3, there.4)
+-- an entry of few objects adds its atom
+atoms_of-few : (long : List (Atom × ℕ)) (entries : List AtomKey) (entry : AtomKey) → entry.head / 65536 ≤ 4
+    → atoms_of long (entries ++ entry ∷ []) ≡ atoms_of long entries ++ atom_of entry ∷ []
+atoms_of-few long entries entry few = map-append (atom_at long) entries (entry ∷ []) ∙ ap (λ a. atoms_of long entries ++ a ∷ []) (atom_at-few long entry few)
 
-  -- where a test finds none, no item passes
-  none_found : (p : A → Bool) (at : ℕ) (xs : List A) → position_from p at xs ≡ None → (k : ℕ) (x : A) → slice_get xs k ≡ Some x → p x ≡ false
-  none_found p at [] none k x is = cc
-  none_found p at (y ∷ ys) none k x is = by (p y) refl k is (none_found p (at + 1) ys)
-    where
-      by : (b : Bool) → p y ≡ b → (k : ℕ) → slice_get (y ∷ ys) k ≡ Some x → (position_from p (at + 1) ys ≡ None → (k : ℕ) (x : A) → slice_get ys k ≡ Some x → p x ≡ false) → p x ≡ false
-      by true here k is rest = let some : Some at ≡ None = sym (ap (λ b. cond b (Some at) (position_from p (at + 1) ys)) here) ∙ none in cc
-      by false here zero is rest = let same : Some y ≡ Some x = is in let first : y ≡ x = cc in ap p (sym first) ∙ here
-      by false here (suc k) is rest = rest (sym (ap (λ b. cond b (Some at) (position_from p (at + 1) ys)) here) ∙ none) k x is
+-- the atom with an index stays when others come behind it
+long_atom-more : (long more : List (Atom × ℕ)) (index : ℕ) → index < length long → long_atom (long ++ more) index ≡ long_atom long index
+long_atom-more long more index within = ap (λ o. option_map_or (λ entry. entry.0) o (record { pred = 0; args = [] })) (slice_get-more long more index within)
 
-  -- an item that passes is found
-  any_at : (p : A → Bool) (xs : List A) (k : ℕ) (x : A) → slice_get xs k ≡ Some x → p x ≡ true → list_any p xs ≡ true
-  any_at p [] k x is passes = cc
-  any_at p (y ∷ ys) zero x is passes =
-      let same : Some y ≡ Some x = is in
-      let first : y ≡ x = cc in
-      ap (λ b. b || list_any p ys) (ap p first ∙ passes)
-  any_at p (y ∷ ys) (suc k) x is passes = by (p y) (any_at p ys k x is passes)
-    where
-      by : (b : Bool) → list_any p ys ≡ true → (b || list_any p ys) ≡ true
-      by true rest = refl
-      by false rest = rest
-
-  -- and if none passes, none is found
-  none_any : (p : A → Bool) (xs : List A) → ((k : ℕ) (x : A) → slice_get xs k ≡ Some x → p x ≡ false) → list_any p xs ≡ false
-  none_any p [] none = refl
-  none_any p (y ∷ ys) none = ap (λ b. b || list_any p ys) (none 0 y refl) ∙ none_any p ys (λ k x is. none (suc k) x is)
-
-itself : (atom : Atom) → atom_eq atom atom ≡ true
-itself atom = (atom_decides atom atom).1 refl
-
--- an atom that stands at a number has it
-pub number_found : (atoms : List Atom) (atom : Atom) (number : ℕ) → AreDistinct atoms → slice_get atoms number ≡ Some atom → position_from (atom_eq atom) 0 atoms ≡ Some number
-number_found atoms atom number distinct at = by (position_from (atom_eq atom) 0 atoms) refl
+-- an entry stands for the same atom when an atom of many objects is added behind those that there are
+atom_at-more : (long more : List (Atom × ℕ)) (entry : AtomKey) → IsWithin long entry → atom_at (long ++ more) entry ≡ atom_at long entry
+atom_at-more long more entry within = by (leb (entry.head / 65536) 4) refl
   where
-    by : (found : Option ℕ) → position_from (atom_eq atom) 0 atoms ≡ found → position_from (atom_eq atom) 0 atoms ≡ Some number
-    by None is = absurd (true≢false (sym (itself atom) ∙ none_found (atom_eq atom) 0 atoms is number atom at))
-    by (Some other) is =
-        let item = found_item (atom_eq atom) 0 other atoms is in
-        let k : ℕ = item.0 in
-        let same : item.1 ≡ atom = sym ((atom_decides atom item.1).0 item.4) in
-        let one : number ≡ k = distinct.apart number k atom at (item.3 ∙ ap Some same) in
-        let far : other ≡ 0 + k = item.2 in
-        let end : other ≡ number = omega (arith, one, far) in
-        is ∙ ap Some end
+    by : (b : Bool) → leb (entry.head / 65536) 4 ≡ b → atom_at (long ++ more) entry ≡ atom_at long entry
+    by true is =
+        ap (λ b. cond b (atom_of entry) (long_atom (long ++ more) entry.objects)) is
+        ∙ sym (ap (λ b. cond b (atom_of entry) (long_atom long entry.objects)) is)
+    by false is =
+        let many : 4 < entry.head / 65536 = leb-false (entry.head / 65536) 4 is in
+        ap (λ b. cond b (atom_of entry) (long_atom (long ++ more) entry.objects)) is
+        ∙ long_atom-more long more entry.objects (within many)
+        ∙ sym (ap (λ b. cond b (atom_of entry) (long_atom long entry.objects)) is)
 
-absent_unequal : (atoms : List Atom) (atom : Atom) → ((number : ℕ) → slice_get atoms number ≢ Some atom) → (k : ℕ) (x : Atom) → slice_get atoms k ≡ Some x → atom_eq atom x ≡ false
-absent_unequal atoms atom absent k x at = by (atom_eq atom x) refl
+-- and so do all entries
+atoms_of-more : (long more : List (Atom × ℕ)) (entries : List AtomKey) → All (IsWithin long) entries → atoms_of (long ++ more) entries ≡ atoms_of long entries
+atoms_of-more long more [] within = refl
+atoms_of-more long more (entry ∷ entries) within =
+    λ j. atom_at-more long more entry (within 0 entry (omega arith)) j ∷ atoms_of-more long more entries (λ k d lt. within (suc k) d (omega arith)) j
+
+-- an entry for an atom of many objects, which is added behind those that there are, adds this atom
+pub atoms_of-many : (long more : List (Atom × ℕ)) (entries : List AtomKey) (atom : Atom) (number : ℕ) (entry : AtomKey) → All (IsWithin long) entries
+    → more ≡ long ++ (atom, number) ∷ [] → entry.objects ≡ length long → 4 < entry.head / 65536
+    → atoms_of more (entries ++ entry ∷ []) ≡ atoms_of long entries ++ atom ∷ []
+atoms_of-many long more entries atom number entry within is at many =
+    ap (λ l. atoms_of l (entries ++ entry ∷ [])) is
+    ∙ map-append (atom_at (long ++ (atom, number) ∷ [])) entries (entry ∷ [])
+    ∙ (λ j. atoms_of-more long ((atom, number) ∷ []) entries within j ++ here j ∷ [])
   where
-    by : (b : Bool) → atom_eq atom x ≡ b → atom_eq atom x ≡ false
-    by true is = absurd (absent k (at ∙ ap Some (sym ((atom_decides atom x).0 is))))
-    by false is = is
+    here : atom_at (long ++ (atom, number) ∷ []) entry ≡ atom
+    here =
+        ap (λ b. cond b (atom_of entry) (long_atom (long ++ (atom, number) ∷ []) entry.objects)) (lt-leb (entry.head / 65536) 4 many)
+        ∙ ap (long_atom (long ++ (atom, number) ∷ [])) at
+        ∙ ap (λ o. option_map_or (λ (e : Atom × ℕ). e.0) o (record { pred = 0; args = [] })) (at_end long (atom, number))
 
--- an atom that stands nowhere has none
-pub number_absent : (atoms : List Atom) (atom : Atom) → ((number : ℕ) → slice_get atoms number ≢ Some atom) → position_from (atom_eq atom) 0 atoms ≡ None
-number_absent atoms atom absent = by (position_from (atom_eq atom) 0 atoms) refl
-  where
-    by : (found : Option ℕ) → position_from (atom_eq atom) 0 atoms ≡ found → position_from (atom_eq atom) 0 atoms ≡ None
-    by None is = is
-    by (Some number) is =
-        let item = found_item (atom_eq atom) 0 number atoms is in
-        absurd (absent item.0 (item.3 ∙ ap Some (sym ((atom_decides atom item.1).0 item.4))))
+module _ (atoms : List Atom) (slots : Known) (long : List (Atom × ℕ)) (atom : Atom) (found : AreFound atoms slots long) (none : number_in atoms atom ≡ None) where
+  -- the slots are still right
+  right_for_more : AreRight (λ key. number_in (atoms ++ atom ∷ []) (atom_of key)) slots
+  right_for_more = λ k d lt full. index-stays (atom_eq (atom_of (key_in (get_or slots.slots k d)))) 0 _ atoms (atom ∷ []) (found.right k d lt full)
 
--- an atom that is there is not added
-pub insert_known : (atoms : List Atom) (atom : Atom) (number : ℕ) → slice_get atoms number ≡ Some atom → insert_key atom_eq atoms atom ≡ atoms
-insert_known atoms atom number at = ap (λ b. if b then atoms else atoms ++ atom ∷ []) (any_at (atom_eq atom) atoms number atom at (itself atom))
+  -- the atom is another one than one with more or fewer objects
+  other_length : (other : Atom) → (length other.args ≡ length atom.args → ⊥) → atom_eq atom other ≡ false
+  other_length other apart = by (atom_eq atom other) refl
+    where
+      by : (b : Bool) → atom_eq atom other ≡ b → atom_eq atom other ≡ false
+      by false is = is
+      by true is = absurd (apart (ap (λ (a : Atom). length a.args) (sym (atom_same atom other is))))
 
--- and one that is not goes last
-pub insert_new : (atoms : List Atom) (atom : Atom) → ((number : ℕ) → slice_get atoms number ≢ Some atom) → insert_key atom_eq atoms atom ≡ atoms ++ atom ∷ []
-insert_new atoms atom absent = ap (λ b. if b then atoms else atoms ++ atom ∷ []) (none_any (atom_eq atom) atoms (absent_unequal atoms atom absent))
+  -- another atom has the number that it had
+  as_before : (other : Atom) → atom_eq atom other ≡ false → number_in (atoms ++ atom ∷ []) other ≡ number_in atoms other
+  as_before other apart = number_in-push_other atoms atom atom other refl apart
 
--- a new atom behind distinct ones leaves them distinct
-pub distinct_more : (atoms : List Atom) (atom : Atom) → ((number : ℕ) → slice_get atoms number ≢ Some atom) → AreDistinct atoms → AreDistinct (atoms ++ atom ∷ [])
-distinct_more atoms atom absent distinct = record {
-  apart = λ number other x at there.
-      elim (at_more atoms atom number x at) [
-        | inl here ↦ elim (at_more atoms atom other x there) [
-          | inl both ↦ distinct.apart number other x here both
-          | inr last ↦ absurd (absent number (here ∙ ap Some (sym last.1)))
-        ]
-        | inr end ↦ elim (at_more atoms atom other x there) [
-          | inl here ↦ absurd (absent other (here ∙ ap Some (sym end.1)))
-          | inr last ↦ end.0 ∙ sym last.0
-        ]
-      ];
+  -- one atom of few objects more
+  found_few : (new : Known) → length atom.args ≤ 4 → ((other : AtomKey) → IsKnown slots other → IsKnown new other) → IsKnown new (key_of atom)
+      → AreRight (λ key. number_in (atoms ++ atom ∷ []) (atom_of key)) new → AreFound (atoms ++ atom ∷ []) new long
+  found_few new are_few still here right =
+      record {
+        right = right;
+        few = few;
+        many = λ other are_many. found.many other are_many ∙ sym (as_before other (other_length other (λ same. absurd (omega (arith, are_few, are_many, same)))));
+      }
+    where
+      few : (other : Atom) (number : ℕ) → length other.args ≤ 4 → number_in (atoms ++ atom ∷ []) other ≡ Some number → IsKnown new (key_of other)
+      few other number le at = by (atom_eq atom other) refl
+        where
+          by : (b : Bool) → atom_eq atom other ≡ b → IsKnown new (key_of other)
+          by true is = subst (λ (a : Atom). IsKnown new (key_of a)) (atom_same atom other is) here
+          by false is = still (key_of other) (found.few other number le (sym (as_before other is) ∙ at))
+
+  -- one atom of many objects more
+  found_many : (more : List (Atom × ℕ)) → 4 < length atom.args → long_number more atom ≡ Some (length atoms)
+      → ((other : Atom) → atom_eq atom other ≡ false → long_number more other ≡ long_number long other) → AreFound (atoms ++ atom ∷ []) slots more
+  found_many more are_many here others =
+      record {
+        right = right_for_more;
+        few = λ other number le at. found.few other number le (sym (as_before other (other_length other (λ same. absurd (omega (arith, are_many, le, same))))) ∙ at);
+        many = many;
+      }
+    where
+      many : (other : Atom) → 4 < length other.args → long_number more other ≡ number_in (atoms ++ atom ∷ []) other
+      many other lt = by (atom_eq atom other) refl
+        where
+          by : (b : Bool) → atom_eq atom other ≡ b → long_number more other ≡ number_in (atoms ++ atom ∷ []) other
+          by true is =
+              subst (λ (a : Atom). long_number more a ≡ number_in (atoms ++ atom ∷ []) a) (atom_same atom other is)
+              (here ∙ sym (number_in-push_new atoms atom atom refl none))
+          by false is = others other is ∙ found.many other lt ∙ sym (as_before other is)
+
+-- a table without atoms
+pub table_none : (slots : Known) (long : List (Atom × ℕ)) → ((number_of : AtomKey → Option ℕ) → AreRight number_of slots) → ((atom : Atom) → long_number long atom ≡ None) → IsAtomTable [] slots long
+table_none slots long right none = record {
+  found = record { right = right (λ key. number_in (atoms_of long []) (atom_of key)); few = λ atom number le at. cc; many = λ atom lt. none atom };
+  within = λ k d lt. absurd (omega arith);
 }
 
--- one more atom, whose number is reached
-pub index_more : (seed : Seed) (atoms : List Atom) (slots more : List AtomSlot) (atom : Atom) → IsIndex seed atoms slots
-    → All (λ slot. slot.next ≤ length (atoms ++ atom ∷ [])) more → IsReached more (hash_of seed atom) (length atoms)
-    → ((hash other : ℕ) → IsReached slots hash other → IsReached more hash other) → IsIndex seed (atoms ++ atom ∷ []) more
-index_more seed atoms slots more atom index within placed kept = record {
-  within = within;
-  reached = λ number x at.
-      elim (at_more atoms atom number x at) [
-        | inl here ↦ kept (hash_of seed x) number (index.reached number x here)
-        | inr end ↦ subst (λ n. IsReached more (hash_of seed x) n) (sym end.0) (subst (λ (a : Atom). IsReached more (hash_of seed a) (length atoms)) end.1 placed)
-      ];
-}
+module _ (entries : List AtomKey) (slots : Known) (long : List (Atom × ℕ)) (table : IsAtomTable entries slots long) where
+  -- slots in which at least the same is known
+  pub table_more : (new : Known) → ((number_of : AtomKey → Option ℕ) → AreRight number_of slots → AreRight number_of new)
+      → ((key : AtomKey) → IsKnown slots key → IsKnown new key) → IsAtomTable entries new long
+  table_more new right still = record {
+    found = record {
+      right = right (λ key. number_in (atoms_of long entries) (atom_of key)) table.found.right;
+      few = λ atom number le at. still (key_of atom) (table.found.few atom number le at);
+      many = table.found.many;
+    };
+    within = table.within;
+  }
 
--- the atoms up to one, whose number is reached
-pub reached_more : (seed : Seed) (atoms : List Atom) (slots more : List AtomSlot) (count : ℕ) (atom : Atom) → slice_get atoms count ≡ Some atom
-    → ((number : ℕ) (x : Atom) → number < count → slice_get atoms number ≡ Some x → IsReached slots (hash_of seed x) number)
-    → IsReached more (hash_of seed atom) count → ((hash other : ℕ) → IsReached slots hash other → IsReached more hash other)
-    → (number : ℕ) (x : Atom) → number < count + 1 → slice_get atoms number ≡ Some x → IsReached more (hash_of seed x) number
-reached_more seed atoms slots more count atom at before placed kept number x lt is =
-    elim (cases_lt number count) [
-      | inl less ↦ kept (hash_of seed x) number (before number x less is)
-      | inr ge ↦
-          let same : count ≡ number = omega arith in
-          let one : Some atom ≡ Some x = sym at ∙ ap (slice_get atoms) same ∙ is in
-          let atoms_same : atom ≡ x = cc in
-          subst (λ n. IsReached more (hash_of seed x) n) same (subst (λ (a : Atom). IsReached more (hash_of seed a) count) atoms_same placed)
-    ]
+  -- one more entry for an atom of few objects
+  pub table_few : (new : Known) (key : AtomKey) → IsKeyOf (atom_of key) key → number_in (atoms_of long entries) (atom_of key) ≡ None
+      → ((number_of : AtomKey → Option ℕ) → number_of key ≡ Some (length (atoms_of long entries)) → AreRight number_of slots → AreRight number_of new)
+      → IsKnown new key → ((other : AtomKey) → IsKnown slots other → IsKnown new other) → IsAtomTable (entries ++ key ∷ []) new long
+  table_few new key is none right known still =
+      let atoms : List Atom = atoms_of long entries in
+      let few : key.head / 65536 ≤ 4 = few_said key is in
+      record {
+        found = subst (λ (l : List Atom). AreFound l new long) (sym (atoms_of-few long entries key few))
+            (found_few atoms slots long (atom_of key) table.found none new is.few still (subst (IsKnown new) is.key_is known)
+            (right (λ k. number_in (atoms ++ atom_of key ∷ []) (atom_of k)) (number_in-push_new atoms (atom_of key) (atom_of key) refl none)
+            (right_for_more atoms slots long (atom_of key) table.found none)));
+        within = All-push (IsWithin long) entries key table.within (λ many. absurd (omega (arith, few, many)));
+      }
 
--- an atom whose number is not reached is not there
-pub unreached : (seed : Seed) (atoms searched_atoms : List Atom) (slots searched_slots : List AtomSlot) (atom : Atom) (hash : ℕ) → searched_atoms ≡ atoms → searched_slots ≡ slots
-    → IsIndex seed atoms slots → hash ≡ hash_of seed atom
-    → ((number : ℕ) → IsReached searched_slots hash number → slice_get searched_atoms number ≢ Some atom) → (number : ℕ) → slice_get atoms number ≢ Some atom
-unreached seed atoms searched_atoms slots searched_slots atom hash same_atoms same_slots index is absent number at =
-    let found = subst (λ h. IsReached slots h number) (sym is) (index.reached number atom at) in
-    absent number (subst (λ (l : List AtomSlot). IsReached l hash number) (sym same_slots) found) (ap (λ l. slice_get l number) same_atoms ∙ at)
+  -- one more entry for an atom of many objects
+  pub table_many : (atom : Atom) (number : ℕ) (more : List (Atom × ℕ)) (entry : AtomKey) → 4 < length atom.args → number_in (atoms_of long entries) atom ≡ None
+      → number ≡ length (atoms_of long entries) → more ≡ long ++ (atom, number) ∷ [] → entry.objects ≡ length long → 4 < entry.head / 65536
+      → long_number more atom ≡ Some number → ((other : Atom) → atom_eq atom other ≡ false → long_number more other ≡ long_number long other)
+      → IsAtomTable (entries ++ entry ∷ []) slots more
+  table_many atom number more entry are_many none count is at many here others =
+      record {
+        found = subst (λ (l : List Atom). AreFound l slots more) (sym (atoms_of-many long more entries atom number entry table.within is at many))
+            (found_many (atoms_of long entries) slots long atom table.found none more are_many (here ∙ ap Some count) others);
+        within = within;
+      }
+    where
+      longer : length more ≡ length long + 1
+      longer = omega (arith, ap length is, length-append long ((atom, number) ∷ []))
 
--- the number that a search for the hash of an atom finds is exact
-pub number_exact : (seed : Seed) (atoms : List Atom) (slots : List AtomSlot) (atom : Atom) (hash : ℕ) (found : Option ℕ) → IsAtomTable seed atoms slots → hash ≡ hash_of seed atom
-    → IfSome found (λ number. slice_get atoms number ≡ Some atom) → IfNone found ((number : ℕ) → IsReached slots hash number → slice_get atoms number ≢ Some atom)
-    → found ≡ position_from (atom_eq atom) 0 atoms
-number_exact seed atoms slots atom hash (Some number) table is at absent = sym (number_found atoms atom number table.distinct at)
-number_exact seed atoms slots atom hash None table is at absent = sym (number_absent atoms atom (unreached seed atoms atoms slots slots atom hash refl refl table.index is absent))
-
--- a table after a new atom was to be added
-pub table_after : {X E : Type 0} (result : Result X E) (seed : Seed) (atoms more : List Atom) (slots : List AtomSlot) (atom : Atom)
-    → ((number : ℕ) → slice_get atoms number ≢ Some atom) → AreDistinct atoms → OnOk result (more ≡ atoms ++ atom ∷ []) → OnErr result (more ≡ atoms)
-    → IsIndex seed more slots → IsAtomTable seed more slots
-table_after (Ok x) seed atoms more slots atom absent distinct ok err index =
-    record { distinct = subst AreDistinct (sym ok) (distinct_more atoms atom absent distinct); index = index }
-table_after (Err e) seed atoms more slots atom absent distinct ok err index = record { distinct = subst AreDistinct (sym err) distinct; index = index }
-
--- and the atom at its number, if it was added
-pub added_at : {E : Type 0} (result : Result ℕ E) (atoms more : List Atom) (atom : Atom) → OnOk result (more ≡ atoms ++ atom ∷ []) → IfOk result (λ number. number ≡ length atoms)
-    → IfOk result (λ number. slice_get more number ≡ Some atom)
-added_at (Ok number) atoms more atom ok is = ap (λ l. slice_get l number) ok ∙ ap (slice_get (atoms ++ atom ∷ [])) is ∙ at_end atoms atom
-added_at (Err e) atoms more atom ok is = tt
+      within : All (IsWithin more) (entries ++ entry ∷ [])
+      within = All-push (IsWithin more) entries entry (λ k d lt has_many. omega (arith, longer, table.within k d lt has_many)) (λ has_many. omega (arith, longer, at))

@@ -2,8 +2,10 @@ pub mod FirstOccurrences
 pub mod JoinedRanges
 pub mod Numbered
 pub mod AtomEquality
-pub mod AtomSearches
+pub mod AtomKeys
 pub mod AtomTables
+pub mod KnownAtoms
+pub mod Numbering
 pub mod NameNumbers
 pub mod NamedEntries
 pub mod NamedRows

@@ -43,6 +43,11 @@ module _ {A : Type 0} where
       ap (λ l. slice_get l (suc i)) (cons_shown ks n ns at.0 at.1)
       ∙ slice_get-shown ks ns (all_tail (length ks) n ns h) i d (let k : suc i < suc (length ns) = lt in omega arith)
 
+  -- an item stands behind those before it
+  pub at_end : (xs : List A) (last : A) → slice_get (xs ++ last ∷ []) (length xs) ≡ Some last
+  at_end [] last = refl
+  at_end (x ∷ xs) last = at_end xs last
+
   -- an item keeps its number when others come behind it
   pub slice_get-more : (ks zs : List A) (n : ℕ) → n < length ks → slice_get (ks ++ zs) n ≡ slice_get ks n
   slice_get-more [] zs n h = absurd (omega arith)

@@ -1,6 +1,10 @@
 pub mod Atom
 pub mod AtomHash
-pub mod AtomSlots
+pub mod AtomKeys
+pub mod AtomNumbers
+pub mod AtomTables
+pub mod KnownAtoms
+pub mod LongAtoms
 pub mod FirstOccurrences
 pub mod FormulaEquality
 pub mod Names

@@ -6,9 +6,10 @@ ghost use Rattle.std.specs.Prelude.{◌≡◌, ◌+◌, ◌<◌, ◌≤◌, coun
 ghost use Rattle.std.specs.List.{position_from};
 ghost use Rattle.strips_task.specs.FirstOccurrences.{first_occurrences};
 ghost use Rattle.strips_task.specs.Atom.{atom_eq};
+ghost use Rattle.strips_task.specs.AtomTables.{kept_atom};
 
 use crate::atom_table::AtomTable;
-use crate::{Atom, Seed};
+use crate::{Atom, KeptAtom, Seed};
 use std::alloc::{AllocFailed, Global};
 use std::marker::Model;
 
@@ -82,11 +83,19 @@ impl InitialAtoms {
     }
 
     /// The atom with an index in the order of the text, counted from 0.
-    pub fn get(&self, index: usize) -> &Atom
+    pub fn get(&self, index: usize) -> KeptAtom<'_>
         requires { index < length self.now }
-        ensures { slice_get self.now index ≡ Some result.now }
+        ensures { slice_get self.now index ≡ Some (kept_atom result) }
     {
         self.distinct.get(self.numbers[index])
+    }
+
+    /// The distinct atoms, in the order in which they first occur.
+    #[inline(always)]
+    pub fn distinct(&self) -> &AtomTable
+        ensures { result.now ≡ first_occurrences atom_eq self.now }
+    {
+        &self.distinct
     }
 
     /// How many distinct atoms the list holds.
@@ -94,18 +103,6 @@ impl InitialAtoms {
         ensures { result ≡ length (first_occurrences atom_eq self.now) }
     {
         self.distinct.len()
-    }
-
-    /// How many of these atoms the list holds. They are looked up directly one after the other, so that the processor waits for several reads of the
-    /// table at the same time. Atoms that are pushed right afterwards find their part of the table in the cache.
-    pub fn known(&self, atoms: &[Atom]) -> usize
-        ensures count { result ≡ count_by (λ atom. is_some (position_from (atom_eq atom) 0 (first_occurrences atom_eq self.now))) atoms.now }
-        ensures within { result ≤ length atoms.now }
-    {
-        atoms
-            .iter()
-            .filter(|atom| self.number_of(atom).is_some())
-            .count()
     }
 
     /// The number of an atom among the distinct ones, in the order in which they first occur. Takes one hash and no memory.

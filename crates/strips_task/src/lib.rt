@@ -17,11 +17,13 @@
 #![tactic(auto)]
 
 mod actions;
+mod atom_keys;
 mod atom_table;
 mod atoms;
 mod ends;
 mod equality;
 mod initial;
+mod known_atoms;
 pub mod laws;
 mod names;
 mod plans;
@@ -39,6 +41,8 @@ mod well_formed;
 mod words;
 
 pub use actions::{Action, Alternatives, Cond, Formula, Pattern, Term};
+pub use atom_keys::AtomKey;
+pub use atom_table::{AtomTable, KeptAtom};
 pub use atoms::{Atom, AtomList, CondList, GroundCond, GroundFormula};
 pub use initial::InitialAtoms;
 pub use names::{Name, NameKey};

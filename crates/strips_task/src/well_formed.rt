@@ -2,16 +2,18 @@
 //!
 //! The readers of this project never make it: their contracts say that what they answer is well formed. Each function here is the
 //! test of one definition, from a term up to the whole task.
-ghost use Rattle.std.specs.Prelude.{◌≡◌, ◌<◌, ◌≤◌, ◌↔◌, ℕ, IsTrue, length, slice_get, map, List, [], Some, nat_lt};
+ghost use Rattle.std.specs.Prelude.{◌≡◌, ◌<◌, ◌≤◌, ◌↔◌, IsTrue, length, map, [], Some, nat_lt};
 ghost use Rattle.std.specs.List.{list_all, zip};
 ghost use Rattle.std.specs.Map.{keys_of, values_of};
+ghost use Rattle.strips_task.specs.AtomKeys.{atom_of};
+ghost use Rattle.strips_task.specs.AtomTables.{kept_atom};
 ghost use Rattle.strips_task.specs.Names.{are_distinct};
 ghost use Rattle.strips_task.specs.declared.actions.Term.TheVariants.{Object};
 ghost use Rattle.strips_task.specs.WellFormed.{IsWellFormed, most_types, most_objects, most_predicates, most_actions, are_alternatives, are_variables, term_types, is_fitting, are_fitting, is_pattern, is_object, is_known, is_formula, is_atom, is_ground_formula, is_action};
 
 use crate::{
-    Action, Alternatives, Atom, Cond, Formula, GroundFormula, NameTable, Pattern, TaskParts, Term,
-    TypeList,
+    Action, Alternatives, Atom, AtomKey, Cond, Formula, GroundFormula, KeptAtom, NameTable,
+    Pattern, TaskParts, Term, TypeList,
 };
 
 /// The most types of a task, `object` among them.
@@ -110,7 +112,7 @@ fn initial_atoms_fit(parts: &TaskParts) -> bool
     ensures { result ≡ list_all (is_atom parts.now) parts.now.init }
 {
     for index in 0..parts.init.len() {
-        if !is_atom(parts, parts.init.get(index)) {
+        if !is_kept_atom(parts, parts.init.get(index)) {
             return false;
         }
     }
@@ -264,12 +266,38 @@ fn is_ground_formula(parts: &TaskParts, formula: &GroundFormula) -> bool
 }
 
 /// Whether an atom has a predicate of the task, and objects that fit its arguments.
-#[tactic(auto, unfolding(crate::specs::WellFormed::is_atom, crate::specs::WellFormed::are_fitting))]
 fn is_atom(parts: &TaskParts, atom: &Atom) -> bool
     ensures { result ≡ is_atom parts.now atom.now }
 {
-    match parts.preds.value(usize::from(atom.pred)) {
-        Some(allowed) => objects_fit(parts, atom.args.as_slice(), allowed.as_slice()),
+    is_atom_of(parts, atom.pred, atom.args.as_slice())
+}
+
+/// Whether an atom of a table is one of the task.
+fn is_kept_atom(parts: &TaskParts, atom: KeptAtom<'_>) -> bool
+    ensures { result ≡ is_atom parts.now (kept_atom atom.entry) }
+{
+    match atom {
+        KeptAtom::Few(key) => is_atom_of_key(parts, key),
+        KeptAtom::Many(atom) => is_atom(parts, atom),
+    }
+}
+
+/// Whether the atom of a key is one of the task.
+fn is_atom_of_key(parts: &TaskParts, key: AtomKey) -> bool
+    ensures { result ≡ is_atom parts.now (atom_of key) }
+{
+    let objects = key.objects();
+    let count = key.count().min(objects.len());
+    is_atom_of(parts, key.pred(), &objects[..count])
+}
+
+/// Whether a predicate with these objects is an atom of the task.
+#[tactic(auto, unfolding(crate::specs::WellFormed::is_atom, crate::specs::WellFormed::are_fitting))]
+fn is_atom_of(parts: &TaskParts, pred: u16, objects: &[u16]) -> bool
+    ensures { result ≡ is_atom parts.now (record { pred = pred; args = objects.now }) }
+{
+    match parts.preds.value(usize::from(pred)) {
+        Some(allowed) => objects_fit(parts, objects, allowed.as_slice()),
         None => false,
     }
 }

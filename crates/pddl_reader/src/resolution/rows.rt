@@ -173,12 +173,13 @@ pub(crate) fn next_atoms(
     Ok(atoms)
 }
 
-/// Adds atoms to a list. It looks them up first, one right after the other, so that the processor waits for several reads of the table at once.
+/// Adds atoms to a list. First it asks how many are surely new, one right after the other, so that the processor waits for several reads of the table at
+/// once. Atoms that are pushed right afterwards find their part of the table in the cache.
 pub(crate) fn put_atoms(list: &mut InitialAtoms, atoms: Vec<Atom>) -> Result<(), AllocError>
     ensures { OnOk result (list.new ≡ list.old ++ atoms.items) }
 {
-    let known = list.known(atoms.as_slice());
-    list.expect(atoms.len() - known);
+    let new = list.distinct().surely_new(atoms.as_slice());
+    list.expect(new);
     for atom in atoms {
         list.push(atom)?;
     }

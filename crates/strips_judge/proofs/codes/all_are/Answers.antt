@@ -1,5 +1,5 @@
 use Rattle.std.proofs.Common.{◌≡◌, subst, All, Some, arith, tests}
-use Rattle.strips_judge.specs.AtomNumbers.{number_in}
+use Rattle.strips_task.specs.AtomNumbers.{number_in}
 use Rattle.strips_judge.specs.NumberedState.{state_of}
 use Rattle.strips_judge.proofs.CodeLaws.{are_more, take_beside}
 use Rattle.strips_judge.proofs.codes.all_are.Goals as goal

@@ -3,7 +3,7 @@ use Rattle.std.specs.Bool.{beq}
 use Rattle.strips_task.specs.declared.actions.Formula.{Formula}
 use Rattle.strips_judge.specs.Codes.{Code, AsksFor, asking_more}
 use Rattle.strips_judge.specs.Grounding.{ground, ground_term, ground_formula}
-use Rattle.strips_judge.specs.AtomNumbers.{number_in}
+use Rattle.strips_task.specs.AtomNumbers.{number_in}
 use Rattle.strips_judge.proofs.CodeLaws.{asks_atom, asks_equality}
 use Rattle.strips_judge.proofs.codes.ask_one.Goals as goal
 

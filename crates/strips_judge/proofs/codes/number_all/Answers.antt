@@ -1,6 +1,6 @@
 use Rattle.std.proofs.Common.{◌≡◌, ℕ, Option, Some, IfSome, ◌∙◌, subst, take, map}
 use Rattle.strips_judge.specs.Grounding.{ground}
-use Rattle.strips_judge.specs.AtomNumbers.{number_in}
+use Rattle.strips_task.specs.AtomNumbers.{number_in}
 use Rattle.strips_judge.proofs.CodeLaws.{numbers_more}
 use Rattle.strips_judge.proofs.Growth.{grows_twice}
 use Rattle.strips_judge.proofs.StepLaws.{mapped_more}

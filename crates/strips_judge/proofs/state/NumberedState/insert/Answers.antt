@@ -1,5 +1,5 @@
 use Rattle.strips_judge.specs.Grounding.{ground}
-use Rattle.strips_judge.proofs.Numbering.{number_in-lt}
+use Rattle.strips_task.proofs.Numbering.{number_in-lt}
 use Rattle.strips_judge.proofs.state.NumberedState.insert.Goals as goal
 
 pub set-requires : goal.set-requires

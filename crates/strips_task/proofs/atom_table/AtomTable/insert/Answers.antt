@@ -1,29 +1,34 @@
-use Rattle.std.proofs.Common.{List, slice_get, ap, sym, ◌∙◌}
-use Rattle.std.proofs.lemmas.Result.{on_ok_weaker}
-use Rattle.indexmap.specs.IndexSet.{insert_key}
-use Rattle.strips_task.specs.declared.atoms.Atom.{Atom}
-use Rattle.strips_task.specs.Atom.{atom_eq}
-use Rattle.strips_task.proofs.AtomTables.{added_at, insert_known, insert_new, table_after, unreached}
+use Rattle.std.proofs.Common.{◌≡◌, ◌++◌, ◌∷◌, [], OnOk, Result, Ok, Err, length, slice_get, ap, sym, ◌∙◌}
+use Rattle.strips_task.proofs.Numbered.{at_end}
+use Rattle.strips_task.proofs.Numbering.{insert_key-known, insert_key-new, number_at_end, number_in-at}
 use Rattle.strips_task.proofs.atom_table.AtomTable.insert.Goals as goal
 
 pub returns-in-Some-clause-ok : goal.returns-in-Some-clause-ok
-returns-in-Some-clause-ok c =
-    let at = ap (λ (l : List Atom). slice_get l c.in-Some.number) (sym c.self.view_is ∙ sym c.as_slice-2.ensures.value) ∙ c.in-Some.ensures.found in
-    sym (insert_known c.args.self.now c.args.atom c.in-Some.number at)
+returns-in-Some-clause-ok c = sym (insert_key-known c.args.self.now c.args.atom c.in-Some.number (sym c.in-Some.ensures))
 
-pub returns-in-None-clause-ok : goal.returns-in-None-clause-ok
-returns-in-None-clause-ok c =
-    let absent = unreached c.self.inside.seed c.self.inside.atoms.items c.as_slice-2.result.now c.self.inside.slots.items c.as_slice.result.now c.args.atom c.hash_of-hash.result
-    c.as_slice-2.ensures.value c.as_slice.ensures.value c.self.invariant.index c.hash_of-hash.ensures c.in-None.ensures.absent in
-    on_ok_weaker c.add.result
-    (λ added. added ∙ sym (insert_new c.self.inside.atoms.items c.args.atom absent) ∙ ap (λ l. insert_key atom_eq l c.args.atom) c.self.view_is) c.add.ensures.ok
+pub returns-in-Some-clause-number : goal.returns-in-Some-clause-number
+returns-in-Some-clause-number c = number_in-at c.args.self.now c.args.atom c.in-Some.number (sym c.in-Some.ensures)
 
-pub returns-in-None-clause-number : goal.returns-in-None-clause-number
-returns-in-None-clause-number c = added_at c.add.result c.self.inside.atoms.items c.add.new.atoms.items c.args.atom c.add.ensures.ok c.add.ensures.number
+-- what a call leaves if it succeeds is the same as another value
+same_if_ok : {A X E : Type 0} (result : Result X E) (more some other : A) → some ≡ other → OnOk result (more ≡ some) → OnOk result (more ≡ other)
+same_if_ok (Ok x) more some other same is = is ∙ same
+same_if_ok (Err e) more some other same is = tt
 
-pub invariant_of-self : goal.invariant_of-self
-invariant_of-self c =
-    let absent = unreached c.self.inside.seed c.self.inside.atoms.items c.as_slice-2.result.now c.self.inside.slots.items c.as_slice.result.now c.args.atom c.hash_of-hash.result
-    c.as_slice-2.ensures.value c.as_slice.ensures.value c.self.invariant.index c.hash_of-hash.ensures c.in-None.ensures.absent in
-    table_after c.add.result c.self.inside.seed c.self.inside.atoms.items c.add.new.atoms.items c.add.new.slots.items c.args.atom absent c.self.invariant.distinct c.add.ensures.ok
-    c.add.ensures.err c.add.ensures.index
+pub returns-in_default-of-clause-ok : goal.returns-in_default-of-clause-ok
+returns-in_default-of-clause-ok c =
+    same_if_ok c.push_long.result c.push_long.new.self (c.args.self.now ++ c.args.atom ∷ []) _ (sym (insert_key-new c.args.self.now c.args.atom (sym c.in_default.ensures))) c.push_long.ensures.ok
+
+pub returns-in_default-of-clause-number : goal.returns-in_default-of-clause-number
+returns-in_default-of-clause-number c = number_at_end c.push_long.result c.args.self.now c.push_long.new.self c.args.atom c.push_long.ensures.ok c.push_long.ensures.number
+
+pub returns-in-Ok-clause-ok : goal.returns-in-Ok-clause-ok
+returns-in-Ok-clause-ok c =
+    c.in-Ok.ensures.ok
+    ∙ ap (λ a. c.args.self.now ++ a ∷ []) c.in-Some-of.ensures.key.atom_is
+    ∙ sym (insert_key-new c.args.self.now c.args.atom (sym c.in_default.ensures))
+
+pub returns-in-Ok-clause-number : goal.returns-in-Ok-clause-number
+returns-in-Ok-clause-number c =
+    ap (slice_get c.push_few.new.self) c.in-Ok.ensures.number
+    ∙ ap (λ l. slice_get l (length c.args.self.now)) (c.in-Ok.ensures.ok ∙ ap (λ a. c.args.self.now ++ a ∷ []) c.in-Some-of.ensures.key.atom_is)
+    ∙ at_end c.args.self.now c.args.atom
