@@ -1,6 +1,6 @@
 -- Rows of names: the numbers of one word more, and the atoms that rows stand for.
 
-use Rattle.std.proofs.Common.{◌≡◌, ℕ, suc, true, false, List, [], ◌∷◌, ◌++◌, Some, length, map, refl, ap, sym, ◌∙◌, append_assoc, arith}
+use Rattle.std.proofs.Common.{◌≡◌, ◌↔◌, ℕ, suc, Bool, IsTrue, true, false, List, [], ◌∷◌, ◌++◌, Some, length, map, refl, ap, sym, ◌∙◌, append_assoc, arith}
 use Rattle.std.proofs.lemmas.Bool.{eq-eqb}
 use Rattle.std.proofs.lemmas.List.{map-append}
 use Rattle.std.specs.List.{list_all, slice_get, zip}
@@ -19,6 +19,12 @@ use Rattle.pddl_syntax.specs.Syntax.{AtomForm, LiteralForm, atom_literal}
 use Rattle.pddl_reader.specs.Declarations.{Known, fitted_all, fitted_arguments, fitting_object, ground_by, ground_of, object_number, predicate_number, predicate_taking, takes_terms}
 use Rattle.pddl_reader.specs.Rows.{BeginWithAtoms, row_number, row_numbers}
 use Rattle.pddl_reader.proofs.TermSteps.{object_fit}
+
+-- what holds exactly when there are no numbers tells whether there is none yet
+pub exactly_none_yet : (numbers : List ℕ) (test : Bool) → (IsTrue test ↔ (numbers ≡ [])) → test ≡ none_yet numbers
+exactly_none_yet [] test exactly = exactly.1 refl
+exactly_none_yet (number ∷ numbers) true exactly = let none : number ∷ numbers ≡ [] = exactly.0 refl in cc
+exactly_none_yet (number ∷ numbers) false exactly = refl
 
 module _ (known : Known) where
   -- one word more has one number more

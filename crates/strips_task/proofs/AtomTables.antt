@@ -1,6 +1,6 @@
 -- Tables of atoms: one more atom is found, and those before it stay found.
 
-use Rattle.std.proofs.Common.{◌≡◌, ◌≤◌, ◌<◌, ◌+◌, ◌/◌, ℕ, suc, Bool, true, false, cond, leb, List, [], ◌∷◌, ◌++◌, All, Option, Some, None, get_or, length, length-append, refl, ap, sym, ◌∙◌, subst, arith}
+use Rattle.std.proofs.Common.{◌≡◌, ◌≤◌, ◌<◌, ◌+◌, ◌/◌, ℕ, suc, Bool, true, false, cond, leb, List, [], ◌∷◌, ◌++◌, All, Option, Some, None, OnOk, Result, Ok, Err, get_or, length, length-append, refl, ap, sym, ◌∙◌, subst, arith}
 use Rattle.std.proofs.lemmas.Bool.{le-leb, leb-false, lt-leb}
 use Rattle.std.proofs.lemmas.List.{map-append}
 use Rattle.std.proofs.lemmas.List.Elements.{All-push}
@@ -18,6 +18,11 @@ use Rattle.strips_task.proofs.AtomKeys.{few_said}
 use Rattle.strips_task.proofs.Numbered.{at_end, slice_get-more}
 use Rattle.strips_task.proofs.Numbering.{index-stays, number_in-push_new, number_in-push_other}
 
+-- what a call leaves if it succeeds is the same as another value
+pub same_if_ok : {A X E : Type 0} (result : Result X E) (more some other : A) → some ≡ other → OnOk result (more ≡ some) → OnOk result (more ≡ other)
+same_if_ok (Ok x) more some other same is = is ∙ same
+same_if_ok (Err e) more some other same is = tt
+
 -- what is said of an entry for an atom of many objects
 abbrev IsWithin : List (Atom × ℕ) → AtomKey → Type 0
 IsWithin long entry = 4 < entry.head / 65536 → entry.objects < length long
@@ -27,7 +32,7 @@ atom_at-few : (long : List (Atom × ℕ)) (entry : AtomKey) → entry.head / 655
 atom_at-few long entry few = ap (λ b. cond b (atom_of entry) (long_atom long entry.objects)) (le-leb (entry.head / 65536) 4 few)
 
 -- an entry of few objects adds its atom
-atoms_of-few : (long : List (Atom × ℕ)) (entries : List AtomKey) (entry : AtomKey) → entry.head / 65536 ≤ 4
+pub atoms_of-few : (long : List (Atom × ℕ)) (entries : List AtomKey) (entry : AtomKey) → entry.head / 65536 ≤ 4
     → atoms_of long (entries ++ entry ∷ []) ≡ atoms_of long entries ++ atom_of entry ∷ []
 atoms_of-few long entries entry few = map-append (atom_at long) entries (entry ∷ []) ∙ ap (λ a. atoms_of long entries ++ a ∷ []) (atom_at-few long entry few)
 
@@ -142,6 +147,14 @@ module _ (entries : List AtomKey) (slots : Known) (long : List (Atom × ℕ)) (t
     };
     within = table.within;
   }
+
+  -- an atom of few objects that is not among the slots has no number
+  pub absent_few : (key : AtomKey) → IsKeyOf (atom_of key) key → (IsKnown slots key → ⊥) → number_in (atoms_of long entries) (atom_of key) ≡ None
+  absent_few key is absent = by (number_in (atoms_of long entries) (atom_of key)) refl
+    where
+      by : (o : Option ℕ) → number_in (atoms_of long entries) (atom_of key) ≡ o → number_in (atoms_of long entries) (atom_of key) ≡ None
+      by None none = none
+      by (Some number) some = absurd (absent (subst (IsKnown slots) (sym is.key_is) (table.found.few (atom_of key) number is.few some)))
 
   -- one more entry for an atom of few objects
   pub table_few : (new : Known) (key : AtomKey) → IsKeyOf (atom_of key) key → number_in (atoms_of long entries) (atom_of key) ≡ None

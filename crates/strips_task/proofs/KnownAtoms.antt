@@ -7,7 +7,7 @@ use Rattle.std.proofs.lemmas.Nat.{mod_below}
 use Rattle.std.proofs.Math.Nat.{mod-add-mod, mod-eq_of_lt}
 use Rattle.strips_task.specs.declared.atom_keys.AtomKey.{AtomKey}
 use Rattle.strips_task.specs.declared.known_atoms.Slot.{Slot}
-use Rattle.strips_task.specs.KnownAtoms.{Known, HasRight, IsFreeFor, IsKnown, first_slot, hash_of, key_in, searched, table}
+use Rattle.strips_task.specs.KnownAtoms.{Known, AreRight, HasRight, IsFreeFor, IsKnown, IsKnownAs, first_slot, hash_of, key_in, searched, table}
 
 -- the index of the slot to which the search comes
 abbrev pub place : Known → AtomKey → ℕ → ℕ
@@ -100,8 +100,9 @@ module _ (objects_by head_by : ℕ) (slots : List Slot) (index : ℕ) (slot : Sl
     }
 
     -- and what is put there is known
-    pub put_known : key_in slot ≡ key → slot.next ≢ 0 → index < length slots → IsKnown after key
-    put_known is full within =
+    pub put_known : key_in slot ≡ key → slot.next ≢ 0 → IsKnown after key
+    put_known is full =
+        let within : index < length slots = omega (arith, free.at_index, free.few) in
         let here = searched_same key free.steps free.at_index within in
         record {
           steps = free.steps;
@@ -111,15 +112,25 @@ module _ (objects_by head_by : ℕ) (slots : List Slot) (index : ℕ) (slot : Sl
           taken = λ k lt. still_taken key k (free.taken k lt);
         }
 
+-- what holds of each slot holds of the one to which a search comes
+at_searched : (P : Slot → Type 0) (known : Known) (key : AtomKey) (steps : ℕ) → steps < length known.slots → All P known.slots → P (searched known key steps)
+at_searched P known key steps few all =
+    let index : ℕ = place known key steps in
+    let some : 0 < length known.slots = omega (arith, few) in
+    let within : index < length known.slots = mod_below _ (length known.slots) some in
+    subst P (slot_there known key steps index refl) (all index empty within)
+
 -- what is known in a table is known in another in which the key of each taken slot is known
 pub known_there : (known other : Known) → All (λ slot. slot.next ≢ 0 → IsKnown other (key_in slot)) known.slots → (key : AtomKey) → IsKnown known key → IsKnown other key
 known_there known other all key found =
-    let index : ℕ = place known key found.steps in
-    let some : 0 < length known.slots = omega (arith, found.few) in
-    let within : index < length known.slots = mod_below _ (length known.slots) some in
-    let there : get_or known.slots index empty ≡ searched known key found.steps = slot_there known key found.steps index refl in
-    let here : IsKnown other (key_in (searched known key found.steps)) = subst (λ (s : Slot). s.next ≢ 0 → IsKnown other (key_in s)) there (all index empty within) found.full in
-    subst (IsKnown other) found.here here
+    subst (IsKnown other) found.here (at_searched (λ slot. slot.next ≢ 0 → IsKnown other (key_in slot)) known key found.steps found.few all found.full)
+
+-- where each slot has the number of its key, so has the one that a search finds
+pub number_found : (number_of : AtomKey → Option ℕ) (known : Known) (key : AtomKey) (number : ℕ) → IsKnownAs known key number → AreRight number_of known → number_of key ≡ Some number
+number_found number_of known key number is right =
+    let found : IsKnown known key = is.found in
+    let there : (searched known key found.steps).next - 1 ≡ number = omega (arith, is.number_there) in
+    subst (λ k. number_of k ≡ Some number) found.here (at_searched (HasRight number_of) known key found.steps found.few right found.full ∙ ap Some there)
 
 -- what holds of the slots before one, and of that one, holds of each up to it
 pub up_to : (P : Slot → Type 0) (slots : List Slot) (count : ℕ) → count < length slots → ((k : ℕ) (d : Slot) → k < count → P (get_or slots k d)) → P (get_or slots count empty)

@@ -12,7 +12,7 @@ use Rattle.pddl_words.specs.Words.{is_name, folded}
 use Rattle.joined_bytes.specs.declared.short_words.ShortWord.{ShortWord}
 use Rattle.joined_bytes.specs.ShortWords.{IsWord}
 use Rattle.joined_bytes.proofs.ShortWordLaws.{one_word}
-use Rattle.strips_task.specs.declared.short_names.Slot.{Slot}
+use Rattle.strips_task.specs.declared.short_names.Numbered.{Numbered}
 use Rattle.strips_task.specs.Names.{number_named, IsStoredName}
 use Rattle.strips_task.specs.ShortNames.{IsNumbered, IsTable}
 use Rattle.strips_task.proofs.NameNumbers.{entries_distinct}
@@ -108,15 +108,15 @@ named_last entries name value new =
     ∙ position_last (bytes_eq name) 0 (keys_of entries) name new ((bytes_eq-Decides name name).1 refl)
     ∙ ap Some (zero-add (length (keys_of entries)) ∙ length_keys entries)
 
--- and so do the names in slots
-pub numbered_more : {V : Type 0} (entries more : List (List ℕ × V)) (slots : List Slot) → All (IsNumbered (number_named entries)) slots
+-- and so do the short names
+pub numbered_more : {V : Type 0} (entries more : List (List ℕ × V)) (slots : List Numbered) → All (IsNumbered (number_named entries)) slots
     → All (IsNumbered (number_named (entries ++ more))) slots
-numbered_more entries more slots all = λ k d within taken word is.
-    let found = all k d within taken word is in
+numbered_more entries more slots all = λ k d within word is.
+    let found = all k d within word is in
     (found.0, named_more entries more word _ found.1)
 
 -- a new entry leaves a table a table
-pub table_more : {V : Type 0} (entries more : List (List ℕ × V)) (name : List ℕ) (value : V) (slots : List Slot) → more ≡ entries ++ (name, value) ∷ []
+pub table_more : {V : Type 0} (entries more : List (List ℕ × V)) (name : List ℕ) (value : V) (slots : List Numbered) → more ≡ entries ++ (name, value) ∷ []
     → number_named entries name ≡ None → IsTable entries slots → IsTable more slots
 table_more {V} entries more name value slots is new table =
     subst (λ (es : List (List ℕ × V)). IsTable es slots) (sym is)

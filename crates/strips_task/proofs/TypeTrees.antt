@@ -1,8 +1,9 @@
 -- In a tree of types a chain of parents is no longer than there are types, so a bounded walk decides the order.
 
-use Rattle.std.proofs.Common.{◌≡◌, ℕ, ◌+◌, ◌-◌, ◌<◌, ◌≤◌, zero, suc, Bool, true, false, cond, ◌||◌, nat_eq, List, length, refl, ap, sym, ◌∙◌, subst, arith, slice_index, true≢false, ◌⊎◌, inl, inr, zero-add, below_more}
+use Rattle.std.proofs.Common.{◌≡◌, ℕ, ◌+◌, ◌-◌, ◌<◌, ◌≤◌, zero, suc, Bool, true, false, cond, ◌||◌, ◌&&◌, nat_eq, List, [], ◌∷◌, length, refl, ap, sym, ◌∙◌, subst, arith, slice_index, true≢false, ◌⊎◌, inl, inr, zero-add, below_more}
 use Rattle.std.proofs.lemmas.Bool.{eqb-true, eq-eqb, cases_lt}
-use Rattle.strips_task.specs.Types.{ancestor, IsBelow, is_within}
+use Rattle.std.specs.List.{list_any}
+use Rattle.strips_task.specs.Types.{ancestor, IsBelow, is_within, is_below, fits}
 
 module _ (parents : List ℕ) where
   -- a step up from behind
@@ -50,6 +51,13 @@ module _ (parents : List ℕ) where
   pub below_itself : (n sub sup : ℕ) → sub ≡ sup → is_within parents n sub sup ≡ true
   unfolding ancestor
   below_itself n sub sup same = within_from_steps n 0 sub sup (omega arith) same
+
+  -- so an object of some type fits where that is the first of those that are asked for
+  pub first_fits : (types : List ℕ) (own : ℕ) → 1 ≤ length types → slice_index types 0 ≡ own → fits parents (own ∷ []) types ≡ true
+  unfolding fits is_below
+  first_fits [] own some same = absurd (omega arith)
+  first_fits (type ∷ types) own some same =
+      ap (λ b. (b || list_any (is_below parents own) types) && true) (below_itself (length parents) own type (sym same))
 
 -- how many numbers below a bound pass a test
 count : (ℕ → Bool) → ℕ → ℕ

@@ -4,6 +4,8 @@
 use Rattle.std.specs.Prelude.{◌≡◌, ◌≢◌, ◌<◌, ◌+◌, ◌-◌, ◌%◌, ℕ, List, All, Option, Some, bit_and, bit_xor, length, slice_index_or}
 use Rattle.std.specs.Hash.FoldHasher.{folded_multiply}
 use Rattle.strips_task.specs.declared.atom_keys.AtomKey.{AtomKey}
+use Rattle.strips_task.specs.declared.known_atoms.Place.{Place}
+use Rattle.strips_task.specs.declared.known_atoms.Place.TheVariants.{Has, Free, Nowhere}
 use Rattle.strips_task.specs.declared.known_atoms.Slot.{Slot}
 
 -- a table: two secret numbers that its hashes depend on, and its slots
@@ -58,3 +60,19 @@ pub record IsFreeFor (known : Known) (key : AtomKey) (index : ℕ) : Type 0 wher
   pub at_index : index ≡ (first_slot (hash_of known.objects_by known.head_by key) (length known.slots) + steps) % length known.slots
   pub free : (searched known key steps).next ≡ 0
   pub taken : (before : ℕ) → before < steps → (searched known key before).next ≢ 0
+
+-- the search for a key comes to a slot that has it, with this number
+pub record IsKnownAs (known : Known) (key : AtomKey) (number : ℕ) : Type 0 where
+  pub found : IsKnown known key
+  pub number_there : (searched known key found.steps).next ≡ number + 1
+
+-- the search for a key comes to the free slot at an index, and the key is in no slot that it passes
+pub record IsNewAt (known : Known) (key : AtomKey) (index : ℕ) : Type 0 where
+  pub free : IsFreeFor known key index
+  pub absent : IsKnown known key → ⊥
+
+-- the search for a key ends at a place: at the slot that has it, at a free slot, so that the key is in none, or nowhere, and then the key is in none either
+abbrev pub EndsAt : Known → AtomKey → Place → Type 0
+EndsAt known key (Has number) = IsKnownAs known key number
+EndsAt known key (Free index) = IsNewAt known key index
+EndsAt known key Nowhere = IsKnown known key → ⊥

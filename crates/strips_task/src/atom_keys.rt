@@ -34,14 +34,13 @@ impl AtomKey {
         }
     }
 
-    /// The key of an atom, unless it has more than four objects.
+    /// The key of the atom of a predicate and these objects, unless there are more than four.
     #[inline(always)]
-    pub fn of(atom: &Atom) -> Option<AtomKey>
-        ensures key { IfSome result (IsKeyOf atom.now) }
-        ensures many { IfNone result (4 < length atom.now.args) }
+    pub fn with(pred: u16, objects: &[u16]) -> Option<AtomKey>
+        ensures key { IfSome result (IsKeyOf (record { pred = pred; args = objects.now })) }
+        ensures many { IfNone result (4 < length objects.now) }
     {
-        let pred = atom.pred;
-        match atom.args.as_slice() {
+        match objects {
             [] => Some(AtomKey::new(pred, 0, 0, 0, 0, 0)),
             [a] => Some(AtomKey::new(pred, 1, *a, 0, 0, 0)),
             [a, b] => Some(AtomKey::new(pred, 2, *a, *b, 0, 0)),
@@ -49,6 +48,15 @@ impl AtomKey {
             [a, b, c, d] => Some(AtomKey::new(pred, 4, *a, *b, *c, *d)),
             _ => None,
         }
+    }
+
+    /// The key of an atom, unless it has more than four objects.
+    #[inline(always)]
+    pub fn of(atom: &Atom) -> Option<AtomKey>
+        ensures key { IfSome result (IsKeyOf atom.now) }
+        ensures many { IfNone result (4 < length atom.now.args) }
+    {
+        AtomKey::with(atom.pred, atom.args.as_slice())
     }
 
     /// The number of the predicate.

@@ -3,7 +3,7 @@
 //! The number of an atom is its index in the order in which the atoms were added. An atom of at most four objects is kept as its key, and found by one
 //! read of memory in most cases. Atoms of more objects have a hash table of their own. An atom of few objects takes 16 bytes in the order, and 22 to 43
 //! for its slot.
-ghost use Rattle.std.specs.Prelude.{◌≡◌, ◌<◌, ◌≤◌, ◌++◌, ◌∷◌, [], IfErr, IfOk, IsTrue, None, OnErr, OnOk, Some, length, slice_get};
+ghost use Rattle.std.specs.Prelude.{◌≡◌, ◌<◌, ◌≤◌, ◌++◌, ◌∷◌, [], IfErr, IfOk, None, OnErr, OnOk, Some, length, slice_get};
 ghost use Rattle.indexmap.specs.IndexSet.{insert_key};
 ghost use Rattle.strips_task.specs.declared.atoms.Atom.{Atom};
 ghost use Rattle.strips_task.specs.Atom.{atom_eq};
@@ -117,23 +117,14 @@ impl AtomTable {
         }
     }
 
-    /// How many of these atoms are surely not here, as one read of memory for each tells: at least so many slots will be wanted. The reads come directly one
-    /// after the other, so that the processor waits for several of them at the same time. No answer depends on it.
-    pub fn surely_new(&self, atoms: &[Atom]) -> usize
-        ensures { result ≤ length atoms.now }
+    /// How many of the atoms of these keys are surely not here, as one read of memory for each tells: at least so many slots will be wanted. The reads come
+    /// directly one after the other, so that the processor waits for several of them at the same time. No answer depends on it.
+    pub fn surely_new(&self, keys: &[AtomKey]) -> usize
+        ensures { result ≤ length keys.now }
     {
-        atoms.iter().filter(|atom| self.is_surely_new(atom)).count()
-    }
-
-    /// Whether an atom is surely not here: it has few objects, and the search for it begins at a free slot.
-    #[inline(always)]
-    fn is_surely_new(&self, atom: &Atom) -> bool
-        ensures { IsTrue result → number_in self.now atom.now ≡ None }
-    {
-        match AtomKey::of(atom) {
-            Some(key) => self.few.begins_free(key),
-            None => false,
-        }
+        keys.iter()
+            .filter(|key| self.few.begins_free(**key))
+            .count()
     }
 
     /// Makes room for `count` more atoms of few objects if there is memory for it.
@@ -187,6 +178,38 @@ impl AtomTable {
         Ok(number)
     }
 
+    /// Adds the atom of a key at the end, unless it is here, and answers its number.
+    pub fn insert_few(&mut self, key: AtomKey) -> Result<u32, AllocError>
+        requires { IsKeyOf (atom_of key) key }
+        ensures ok { OnOk result (self.new ≡ insert_key atom_eq self.old (atom_of key)) }
+        ensures number { IfOk result (λ number. slice_get self.new number ≡ Some (atom_of key)) }
+        ensures err { OnErr result (self.new ≡ self.old) }
+    {
+        let next = self.next_number()?;
+        self.entries.reserve(1)?;
+        match self.few.find_or_keep(key, next)? {
+            Some(number) => Ok(number),
+            None => {
+                self.entries.push_reserved(key);
+                Ok(next)
+            }
+        }
+    }
+
+    /// Adds an atom of more than four objects at the end, unless it is here, and answers its number. If memory runs out, the atom is given back.
+    fn insert_long(&mut self, atom: Atom) -> Result<u32, AllocFailed<Atom>>
+        requires { 4 < length atom.args }
+        ensures ok { OnOk result (self.new ≡ insert_key atom_eq self.old atom) }
+        ensures number { IfOk result (λ number. slice_get self.new number ≡ Some atom) }
+        ensures err { OnErr result (self.new ≡ self.old) }
+        ensures value_returned { IfErr result (λ failed. failed.value ≡ atom) }
+    {
+        match self.find_long(&atom) {
+            Some(number) => Ok(number),
+            None => self.push_long(atom),
+        }
+    }
+
     /// Adds an atom at the end, unless it is here, and answers its number. If memory runs out, the atom is given back.
     pub fn insert(&mut self, atom: Atom) -> Result<u32, AllocFailed<Atom>>
         ensures ok { OnOk result (self.new ≡ insert_key atom_eq self.old atom) }
@@ -194,13 +217,10 @@ impl AtomTable {
         ensures err { OnErr result (self.new ≡ self.old) }
         ensures value_returned { IfErr result (λ failed. failed.value ≡ atom) }
     {
-        if let Some(number) = self.number_of(&atom) {
-            return Ok(number);
-        }
         let Some(key) = AtomKey::of(&atom) else {
-            return self.push_long(atom);
+            return self.insert_long(atom);
         };
-        match self.push_few(key) {
+        match self.insert_few(key) {
             Ok(number) => Ok(number),
             Err(AllocError) => Err(AllocFailed { value: atom }),
         }

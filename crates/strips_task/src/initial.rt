@@ -6,11 +6,12 @@ ghost use Rattle.std.specs.Prelude.{◌≡◌, ◌+◌, ◌<◌, ◌≤◌, coun
 ghost use Rattle.std.specs.List.{position_from};
 ghost use Rattle.strips_task.specs.FirstOccurrences.{first_occurrences};
 ghost use Rattle.strips_task.specs.Atom.{atom_eq};
+ghost use Rattle.strips_task.specs.AtomKeys.{IsKeyOf, atom_of};
 ghost use Rattle.strips_task.specs.AtomTables.{kept_atom};
 
 use crate::atom_table::AtomTable;
-use crate::{Atom, KeptAtom, Seed};
-use std::alloc::{AllocFailed, Global};
+use crate::{Atom, AtomKey, KeptAtom, Seed};
+use std::alloc::{AllocError, AllocFailed, Global};
 use std::marker::Model;
 
 /// The initial atoms in the order of the text, repeats kept. Contracts see the list of them.
@@ -66,6 +67,18 @@ impl InitialAtoms {
             return Err(AllocFailed { value: atom });
         }
         let number = self.distinct.insert(atom)?;
+        self.numbers.push_reserved(number);
+        Ok(())
+    }
+
+    /// Adds the atom of a key at the end, with one hash.
+    pub fn push_few(&mut self, key: AtomKey) -> Result<(), AllocError>
+        requires { IsKeyOf (atom_of key) key }
+        ensures ok { OnOk result (self.new ≡ self.old ++ atom_of key ∷ []) }
+        ensures err { OnErr result (self.new ≡ self.old) }
+    {
+        self.numbers.reserve(1)?;
+        let number = self.distinct.insert_few(key)?;
         self.numbers.push_reserved(number);
         Ok(())
     }

@@ -3,10 +3,10 @@
 //! A slot has the key of an atom next to its number, so that most look-ups take one read of memory. At most three quarters of the slots are taken. A search
 //! begins at the slot that the hash of the key chooses and goes on to the next slot, from the last one to the first, up to a free one. The hash depends
 //! on secret numbers, so that nobody can choose atoms whose searches are long. A slot takes 16 bytes, so that an atom takes 22 to 43.
-ghost use Rattle.std.specs.Prelude.{◌≡◌, ◌≢◌, ◌<◌, ◌+◌, ◌%◌, ◌↔◌, ℕ, All, Option, None, Some, IfSome, IsTrue, OnErr, OnOk};
+ghost use Rattle.std.specs.Prelude.{◌≡◌, ◌≢◌, ◌<◌, ◌+◌, ◌%◌, ◌↔◌, ℕ, All, Option, None, Some, IfNone, IfOk, IfSome, IsTrue, OnErr, OnOk};
 ghost use Rattle.std.specs.Hash.FoldHasher.{folded_multiply};
 ghost use Rattle.strips_task.specs.declared.atom_keys.AtomKey.{AtomKey};
-ghost use Rattle.strips_task.specs.KnownAtoms.{AreRight, HasRight, IsFreeFor, IsKnown, first_slot, hash_of, key_in, table};
+ghost use Rattle.strips_task.specs.KnownAtoms.{AreRight, EndsAt, HasRight, IsKnown, first_slot, hash_of, key_in, table};
 
 use crate::{AtomKey, Seed};
 use std::alloc::{AllocError, Global};
@@ -78,22 +78,11 @@ impl KnownAtoms {
         ensures right { IfSome result (λ number. (number_of : AtomKey → Option ℕ) → AreRight number_of self.now → number_of key ≡ Some number) }
         ensures absent { result ≡ None → IsKnown self.now key → ⊥ }
     {
-        let slots = self.slots.as_slice();
-        if slots.is_empty() {
-            return None;
+        match search(self.slots.as_slice(), self.objects_by, self.head_by, key) {
+            Place::Has(number) => Some(number),
+            Place::Free(_) => None,
+            Place::Nowhere => None,
         }
-        let mut index = first_slot(hash_of(self.objects_by, self.head_by, key), slots.len());
-        for step in 0..slots.len() {
-            let slot = slots[index];
-            if slot.next == 0 {
-                return None;
-            }
-            if is_same(slot.key(), key) {
-                return Some(slot.next - 1);
-            }
-            index = slot_after(index, slots.len());
-        }
-        None
     }
 
     /// Whether the search for an atom begins at a free slot, so that the atom is not here. Takes one read of memory.
@@ -108,9 +97,27 @@ impl KnownAtoms {
         slots[first_slot(hash_of(self.objects_by, self.head_by, key), slots.len())].next == 0
     }
 
-    /// Adds an atom with its number. The atom must not be here already, or it is here twice. Makes more slots if three quarters of them are taken.
+    /// Adds an atom with its number, unless it is here.
     pub(crate) fn keep(&mut self, key: AtomKey, number: u32) -> Result<(), AllocError>
         ensures right { (number_of : AtomKey → Option ℕ) → number_of key ≡ Some number → AreRight number_of self.old → AreRight number_of self.new }
+        ensures failed { OnErr result ((number_of : AtomKey → Option ℕ) → AreRight number_of self.old → AreRight number_of self.new) }
+        ensures known { OnOk result (IsKnown self.new key) }
+        ensures still { (other : AtomKey) → IsKnown self.old other → IsKnown self.new other }
+    {
+        self.find_or_keep(key, number)?;
+        Ok(())
+    }
+
+    /// The number of an atom, if it is here. Otherwise adds it with this number. Searches once. Makes more slots if three quarters of them are taken.
+    #[inline(always)]
+    pub(crate) fn find_or_keep(
+        &mut self,
+        key: AtomKey,
+        number: u32,
+    ) -> Result<Option<u32>, AllocError>
+        ensures found { IfOk result (λ found. IfSome found (λ there. (number_of : AtomKey → Option ℕ) → AreRight number_of self.old → number_of key ≡ Some there)) }
+        ensures absent { IfOk result (λ found. IfNone found (IsKnown self.old key → ⊥)) }
+        ensures right { IfOk result (λ found. (number_of : AtomKey → Option ℕ) → (found ≡ None → number_of key ≡ Some number) → AreRight number_of self.old → AreRight number_of self.new) }
         ensures failed { OnErr result ((number_of : AtomKey → Option ℕ) → AreRight number_of self.old → AreRight number_of self.new) }
         ensures known { OnOk result (IsKnown self.new key) }
         ensures still { (other : AtomKey) → IsKnown self.old other → IsKnown self.new other }
@@ -121,14 +128,19 @@ impl KnownAtoms {
         if self.taken >= self.slots.len() / 4 * 3 {
             self.expect(1)?;
         }
-        let slot = Slot {
-            objects: key.objects,
-            head: key.head,
-            next: number + 1,
-        };
-        put(&mut self.slots, self.objects_by, self.head_by, slot)?;
-        self.taken = self.taken.saturating_add(1);
-        Ok(())
+        match search(self.slots.as_slice(), self.objects_by, self.head_by, key) {
+            Place::Has(number) => Ok(Some(number)),
+            Place::Free(index) => {
+                self.slots[index] = Slot {
+                    objects: key.objects,
+                    head: key.head,
+                    next: number + 1,
+                };
+                self.taken = self.taken.saturating_add(1);
+                Ok(None)
+            }
+            Place::Nowhere => Err(AllocError),
+        }
     }
 
     /// Makes more slots if those that there are have no room for `count` more atoms.
@@ -226,24 +238,40 @@ fn is_same(key: AtomKey, other: AtomKey) -> bool
     key.objects == other.objects && key.head == other.head
 }
 
-/// The index of the free slot to which the search for a key comes, if there is one.
-fn free_slot(slots: &[Slot], objects_by: u64, head_by: u64, key: AtomKey) -> Option<usize>
-    ensures { IfSome result (λ index. IsFreeFor (table objects_by head_by slots.now) key index) }
+/// Where the search for an atom ends.
+#[derive(Drop)]
+enum Place {
+    /// At the slot that has the atom, with this number.
+    Has(u32),
+    /// At the free slot with this index, so that the atom is not here.
+    Free(usize),
+    /// Nowhere: all slots are taken by others.
+    Nowhere,
+}
+
+/// Where the search for a key ends.
+#[inline(always)]
+fn search(slots: &[Slot], objects_by: u64, head_by: u64, key: AtomKey) -> Place
+    ensures { EndsAt (table objects_by head_by slots.now) key result }
 {
     if slots.is_empty() {
-        return None;
+        return Place::Nowhere;
     }
     let mut index = first_slot(hash_of(objects_by, head_by, key), slots.len());
     for step in 0..slots.len() {
-        if slots[index].next == 0 {
-            return Some(index);
+        let slot = slots[index];
+        if slot.next == 0 {
+            return Place::Free(index);
+        }
+        if is_same(slot.key(), key) {
+            return Place::Has(slot.next - 1);
         }
         index = slot_after(index, slots.len());
     }
-    None
+    Place::Nowhere
 }
 
-/// Puts an atom into a free slot. If there is none, nothing changes.
+/// Puts an atom into the free slot to which the search for it comes. If it comes to none, nothing changes.
 fn put(slots: &mut Vec<Slot>, objects_by: u64, head_by: u64, slot: Slot) -> Result<(), AllocError>
     requires { slot.next ≢ 0 }
     ensures placed { OnOk result (IsKnown (table objects_by head_by slots.new.items) (key_in slot)) }
@@ -251,13 +279,11 @@ fn put(slots: &mut Vec<Slot>, objects_by: u64, head_by: u64, slot: Slot) -> Resu
     ensures full { OnErr result (slots.new.items ≡ slots.old.items) }
     ensures right { (number_of : AtomKey → Option ℕ) → HasRight number_of slot → All (HasRight number_of) slots.old.items → All (HasRight number_of) slots.new.items }
 {
-    match free_slot(slots.as_slice(), objects_by, head_by, slot.key()) {
-        Some(index) => {
-            slots[index] = slot;
-            Ok(())
-        }
-        None => Err(AllocError),
-    }
+    let Place::Free(index) = search(slots.as_slice(), objects_by, head_by, slot.key()) else {
+        return Err(AllocError);
+    };
+    slots[index] = slot;
+    Ok(())
 }
 
 /// Puts the atoms of slots into others.

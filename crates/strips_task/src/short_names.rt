@@ -1,11 +1,14 @@
 //! The numbers of names of at most 16 bytes.
 //!
-//! A table of names compares the word that is looked up with a name elsewhere in memory. Here a name is kept as two numbers, next to the number of
-//! its entry, so one read of memory finds it. It is in one of eight slots, which its bytes choose. If they are all taken when it is added, it is only
-//! in the table of all names. No answer depends on that, so someone who chooses names for the same slots only makes them be looked up there.
+//! A table of names hashes the word that is looked up byte by byte, and compares it with a name elsewhere in memory. Here a name is kept as two numbers,
+//! next to the number of its entry. The names are in the order in which they were added, so that names that are declared one after the other are near
+//! each other. Beside them is a list of slots. A slot has the index of a name and 16 bits of its hash. A name is in one of eight slots, which its bytes
+//! choose. If they are all taken when it is added, or 65,535 names are here already, it is only in the table of all names. No answer depends on that, so
+//! someone who chooses names for the same slots only makes them be looked up there.
 //!
-//! A slot takes 24 bytes. There are two to four for each name of the table, so 48 to 96 bytes a name, and at least 552 bytes if there is a name.
-ghost use Rattle.std.specs.Prelude.{◌≡◌, ◌≢◌, ◌≤◌, ◌<◌, ◌+◌, ◌==◌, not, ℕ, List, Option, Some, All, IfOk, IfSome, length, vec_len};
+//! A name takes 24 bytes, and a slot 4. There are two to four slots for each name of the table, so 32 to 40 bytes a name. The slots of all the
+//! objects that a task can have take half a megabyte, which the cache of many a processor holds.
+ghost use Rattle.std.specs.Prelude.{◌≡◌, ◌≢◌, ◌≤◌, ◌<◌, ◌+◌, ℕ, List, Option, Some, All, IfSome, length};
 ghost use Rattle.pddl_words.specs.Words.{folded};
 ghost use Rattle.strips_task.specs.Names.{IsStoredName};
 ghost use Rattle.joined_bytes.specs.ShortWords.{IsWord};
@@ -21,25 +24,17 @@ const WAYS: usize = 8;
 /// How many slots there are at first: 16 that a hash can choose, and seven after the last of them.
 const FIRST_SLOTS: usize = 23;
 
-/// A slot for a name and the number of its entry.
+/// A name and the number of its entry.
 #[derive(Clone, Copy, Debug)]
-pub(crate) struct Slot {
+pub(crate) struct Numbered {
     front: u64,
     back: u64,
-    /// How many bytes the name has. It is 0 if there is none.
+    /// How many bytes the name has.
     len: u32,
     number: u32,
 }
 
-impl Slot {
-    /// Whether it has a name.
-    #[inline]
-    fn is_taken(self) -> bool
-        ensures { result ≡ not (self.len == 0) }
-    {
-        self.len != 0
-    }
-
+impl Numbered {
     /// Its name.
     #[inline]
     fn name(self) -> ShortWord
@@ -53,20 +48,30 @@ impl Slot {
     }
 }
 
-/// Names of at most 16 bytes with the numbers of their entries. Contracts see the slots.
+/// A slot for the index of a name.
+#[derive(Clone, Copy, Debug)]
+struct Slot {
+    /// The low bits of the name's hash.
+    tag: u16,
+    /// The index that comes after the name's. It is 0 if the slot is free.
+    next: u16,
+}
+
+/// Names of at most 16 bytes with the numbers of their entries. Contracts see the list of them.
 #[derive(Debug, Drop)]
 pub(crate) struct ShortNames {
+    names: Vec<Numbered>,
     /// None, or a power of two that a hash can choose and seven more, so that there are eight from each of those on.
     slots: Vec<Slot>,
 }
 
 impl Model for ShortNames {
     ghost use Rattle.std.specs.Prelude.{List};
-    ghost use Rattle.strips_task.specs.declared.short_names.Slot.{Slot};
+    ghost use Rattle.strips_task.specs.declared.short_names.Numbered.{Numbered};
 
-    ghost Value = { List Slot };
+    ghost Value = { List Numbered };
 
-    ghost view = { λ s. s.slots.items };
+    ghost view = { λ s. s.names.items };
 }
 
 impl ShortNames {
@@ -75,6 +80,7 @@ impl ShortNames {
         ensures { (number_of : List ℕ → Option ℕ) → All (IsNumbered number_of) result }
     {
         ShortNames {
+            names: Vec::new(alloc),
             slots: Vec::new(alloc),
         }
     }
@@ -99,7 +105,24 @@ impl ShortNames {
         self.find_short(asked)
     }
 
-    /// The number of a name, if it is here. Reads its slots up to the first free one, and at most eight.
+    /// The number of a word, if it is here. The name with an index and the one after it are compared with it before any other.
+    #[inline(always)]
+    pub(crate) fn find_near(&self, word: &[u8], index: usize) -> Option<usize>
+        ensures { IfSome result (λ number. (number_of : List ℕ → Option ℕ) → All (IsNumbered number_of) self.now
+            → IsStoredName word.now × (number_of word.now ≡ Some number)) }
+    {
+        let asked = ShortWord::of(word)?;
+        let names = self.names.as_slice();
+        if let Some(number) = number_at(names, index, asked) {
+            return Some(number);
+        }
+        if let Some(number) = number_at(names, index.saturating_add(1), asked) {
+            return Some(number);
+        }
+        self.find_short(asked)
+    }
+
+    /// The number of a name, if it is here. Reads its slots up to the first free one, at most eight, and a name for each with the same bits of its hash.
     #[inline(always)]
     fn find_short(&self, asked: ShortWord) -> Option<usize>
         requires { asked.len ≢ 0 }
@@ -110,98 +133,109 @@ impl ShortNames {
         if slots.len() < WAYS {
             return None;
         }
-        let first = first_slot(asked.hash(), slots.len());
-        search(&slots[first..first + WAYS], asked)
+        let hash = asked.hash();
+        let first = first_slot(hash, slots.len());
+        search(
+            &slots[first..first + WAYS],
+            tag_of(hash),
+            self.names.as_slice(),
+            asked,
+        )
     }
 
     /// Makes twice as many slots if there are fewer than two for each of `names` names and one more.
     pub(crate) fn make_room(&mut self, names: usize) -> Result<(), AllocError>
-        ensures { (number_of : List ℕ → Option ℕ) → All (IsNumbered number_of) self.old → All (IsNumbered number_of) self.new }
+        ensures { self.new ≡ self.old }
     {
         if names < self.slots.len() / 2 {
             return Ok(());
         }
         let count = slots_after(self.slots.len());
-        self.grow(count)
+        self.make_slots(count)
     }
 
-    /// Keeps a name with its number, if one of its slots is free.
+    /// Makes room for `names` names in all.
+    pub(crate) fn reserve(&mut self, names: usize) -> Result<(), AllocError>
+        ensures { self.new ≡ self.old }
+    {
+        if names < self.slots.len() / 2 {
+            return Ok(());
+        }
+        self.names.reserve(names.saturating_sub(self.names.len()))?;
+        self.make_slots(slots_for(names)?)
+    }
+
+    /// Makes `count` slots in place of those that there are.
+    fn make_slots(&mut self, count: usize) -> Result<(), AllocError>
+        ensures { self.new ≡ self.old }
+    {
+        let mut slots = empty_slots(*self.slots.allocator(), count)?;
+        put_all(&mut slots, self.names.as_slice());
+        self.slots = slots;
+        Ok(())
+    }
+
+    /// Keeps a name with its number, if there is memory for it.
     pub(crate) fn keep(&mut self, name: ShortWord, number: usize)
         ensures { (number_of : List ℕ → Option ℕ) → ((word : List ℕ) → IsWord name word → IsStoredName word × (number_of word ≡ Some number))
             → All (IsNumbered number_of) self.old → All (IsNumbered number_of) self.new }
     {
-        if self.slots.len() >= WAYS && number <= u32::MAX as usize {
-            let slot = Slot {
-                front: name.front,
-                back: name.back,
-                len: name.len,
-                number: number as u32,
-            };
-            put(&mut self.slots, slot);
+        if number > u32::MAX as usize {
+            return;
         }
-    }
-
-    /// Makes `count` slots, and puts all names in them.
-    fn grow(&mut self, count: usize) -> Result<(), AllocError>
-        requires { 8 ≤ count }
-        ensures { (number_of : List ℕ → Option ℕ) → All (IsNumbered number_of) self.old → All (IsNumbered number_of) self.new }
-    {
-        let mut slots = empty_slots(*self.slots.allocator(), count)?;
-        put_all(&mut slots, self.slots.as_slice());
-        self.slots = slots;
-        Ok(())
+        let numbered = Numbered {
+            front: name.front,
+            back: name.back,
+            len: name.len,
+            number: number as u32,
+        };
+        let index = self.names.len();
+        if self.names.push(numbered).is_ok() {
+            put(&mut self.slots, name.hash(), index);
+        }
     }
 }
 
 /// How many slots there are after `count`: twice as many that a hash can choose.
-fn slots_after(count: usize) -> usize
-    ensures { 8 ≤ result }
-{
+fn slots_after(count: usize) -> usize {
     count
         .saturating_mul(2)
         .saturating_sub(WAYS - 1)
         .max(FIRST_SLOTS)
 }
 
-/// `count` slots without a name.
-fn empty_slots(alloc: Global, count: usize) -> Result<Vec<Slot>, AllocError>
-    ensures slots { IfOk result (λ slots. (number_of : List ℕ → Option ℕ) → All (IsNumbered number_of) slots.items) }
-    ensures count { IfOk result (λ slots. vec_len slots ≡ count) }
-{
-    let empty = Slot {
-        front: 0,
-        back: 0,
-        len: 0,
-        number: 0,
-    };
+/// How many slots there are for so many names: two for each, rounded up to a power of two, that a hash can choose.
+fn slots_for(names: usize) -> Result<usize, AllocError> {
+    if names > usize::MAX / 8 {
+        return Err(AllocError);
+    }
+    Ok(((names * 2).next_power_of_two() + WAYS - 1).max(FIRST_SLOTS))
+}
+
+/// `count` free slots.
+fn empty_slots(alloc: Global, count: usize) -> Result<Vec<Slot>, AllocError> {
     let mut slots = Vec::new(alloc);
-    slots.resize(count, empty)?;
+    slots.resize(count, Slot { tag: 0, next: 0 })?;
     Ok(slots)
 }
 
-/// Puts the names of slots into others.
-fn put_all(slots: &mut Vec<Slot>, others: &[Slot])
-    requires { 8 ≤ vec_len slots.old }
-    ensures { (number_of : List ℕ → Option ℕ) → All (IsNumbered number_of) others.now → All (IsNumbered number_of) slots.old.items
-        → All (IsNumbered number_of) slots.new.items }
-{
-    for slot in others {
-        put(slots, *slot);
+/// Puts the indexes of all names into slots.
+fn put_all(slots: &mut Vec<Slot>, names: &[Numbered]) {
+    for (index, numbered) in names.iter().enumerate() {
+        put(slots, numbered.name().hash(), index);
     }
 }
 
-/// Puts the name of a slot, if it has one, into the first of its slots here that is free. If none is, it is left out.
-fn put(slots: &mut Vec<Slot>, slot: Slot)
-    requires { 8 ≤ vec_len slots.old }
-    ensures len { vec_len slots.new ≡ vec_len slots.old }
-    ensures numbered { (number_of : List ℕ → Option ℕ) → IsNumbered number_of slot → All (IsNumbered number_of) slots.old.items
-        → All (IsNumbered number_of) slots.new.items }
-{
-    if !slot.is_taken() {
+/// Puts the index of a name with a hash into the first of its slots that is free. If none is, or the index is too large for a slot, it is left out.
+fn put(slots: &mut Vec<Slot>, hash: u64, index: usize) {
+    if slots.len() < WAYS || index >= u16::MAX as usize {
         return;
     }
-    if let Some(index) = free_slot(slots.as_slice(), slot.name().hash()) {
-        slots[index] = slot;
+    if let Some(free) = free_slot(slots.as_slice(), hash) {
+        slots[free] = Slot {
+            tag: tag_of(hash),
+            next: index as u16 + 1,
+        };
     }
 }
 
@@ -212,11 +246,17 @@ fn free_slot(slots: &[Slot], hash: u64) -> Option<usize>
 {
     let first = first_slot(hash, slots.len());
     for index in first..first + WAYS {
-        if !slots[index].is_taken() {
+        if slots[index].next == 0 {
             return Some(index);
         }
     }
     None
+}
+
+/// The bits of a hash that a slot keeps.
+#[inline]
+fn tag_of(hash: u64) -> u16 {
+    (hash % 65_536) as u16
 }
 
 /// The index of the first of the eight slots of a hash, among `slots` slots.
@@ -229,21 +269,38 @@ fn first_slot(hash: u64, slots: usize) -> usize
     (hash >> 32) as usize & (slots - WAYS)
 }
 
-/// The number of a name, if one of these slots has it. They are taken in this order, so a free one ends the search.
+/// The number of a name, if one of these slots has its index. They are taken in this order, so a free one ends the search.
 #[inline]
-fn search(slots: &[Slot], asked: ShortWord) -> Option<usize>
-    requires { asked.len ≢ 0 }
-    ensures { IfSome result (λ number. (number_of : List ℕ → Option ℕ) → All (IsNumbered number_of) slots.now → (word : List ℕ) → IsWord asked word
+fn search(slots: &[Slot], tag: u16, names: &[Numbered], asked: ShortWord) -> Option<usize>
+    ensures { IfSome result (λ number. (number_of : List ℕ → Option ℕ) → All (IsNumbered number_of) names.now → (word : List ℕ) → IsWord asked word
         → IsStoredName word × (number_of word ≡ Some number)) }
 {
     for slot in slots {
-        let slot = *slot;
-        if slot.name().is(asked) {
-            return Some(slot.number as usize);
-        }
-        if !slot.is_taken() {
+        if slot.next == 0 {
             return None;
+        }
+        if slot.tag == tag {
+            if let Some(number) = number_at(names, slot.next as usize - 1, asked) {
+                return Some(number);
+            }
         }
     }
     None
+}
+
+/// The number beside the name at an index, if that is the name that is asked for.
+#[inline(always)]
+fn number_at(names: &[Numbered], index: usize, asked: ShortWord) -> Option<usize>
+    ensures { IfSome result (λ number. (number_of : List ℕ → Option ℕ) → All (IsNumbered number_of) names.now → (word : List ℕ) → IsWord asked word
+        → IsStoredName word × (number_of word ≡ Some number)) }
+{
+    if index >= names.len() {
+        return None;
+    }
+    let numbered = names[index];
+    if numbered.name().is(asked) {
+        Some(numbered.number as usize)
+    } else {
+        None
+    }
 }

@@ -75,6 +75,20 @@ impl<V> NameTable<V> {
         }
     }
 
+    /// The number of the entry with a name, as by `number_of`. It is found without a hash if it is `near` or the number after it, as is often so where
+    /// names come in the order of their entries.
+    #[inline(always)]
+    pub fn number_near(&self, word: &[u8], near: usize) -> Option<usize>
+        ensures number { result ≡ number_named self.now word.now }
+        ensures within { IfSome result (λ number. number < length self.now) }
+        ensures named { IfSome result (λ _. (is_name word.now ≡ true) × (folded word.now ≡ word.now)) }
+    {
+        match self.short_names.find_near(word, near) {
+            Some(number) => Some(number),
+            None => self.number_among_all(word),
+        }
+    }
+
     /// The number of the entry whose name the word spells in upper or lower case, if it is among the short names. If there is none, the name may be in
     /// the table all the same, so it is looked up in lower case by `number_of`. Takes one read of memory for most names, and writes no bytes.
     #[inline(always)]
@@ -131,6 +145,15 @@ impl<V> NameTable<V> {
 }
 
 impl<V: Drop> NameTable<V> {
+    /// Makes room for `count` more entries, so that the table need not grow while they are added.
+    pub fn reserve(&mut self, count: usize) -> Result<(), AllocError>
+        ensures { self.new ≡ self.old }
+    {
+        self.short_names
+            .reserve(self.entries.len().saturating_add(count))?;
+        self.entries.reserve(count)
+    }
+
     /// Adds an entry at the end. Its name must be new, which `number_of` finds out. If memory runs out, the name and the value are given back.
     pub fn push(&mut self, name: Name, value: V) -> Result<(), AllocFailed<(Name, V)>>
         requires new_name { number_named self.old name ≡ None }

@@ -327,10 +327,16 @@ fn objects_fit_types(parts: &TaskParts, objects: &[u16], allowed: &[Alternatives
 pub fn object_fits(parents: &TypeList, objects: &NameTable<u16>, number: u16, types: &[u16]) -> bool
     ensures { result ≡ is_fitting parents.now (term_types objects.now [] (Object number)) types.now }
 {
-    match objects.value(usize::from(number)) {
-        Some(own) => parents.are_below(&[*own], types),
-        None => false,
+    let Some(own) = objects.value(usize::from(number)) else {
+        return false;
+    };
+    // Most objects are of the very type that is asked for.
+    if let [first, ..] = types {
+        if first == own {
+            return true;
+        }
     }
+    parents.are_below(&[*own], types)
 }
 
 /// Whether the variables of a predicate or an action are not too many, and each has alternatives.

@@ -11,7 +11,7 @@ ghost use Rattle.pddl_reader.specs.Resolved.{known_form, vocabulary_form};
 
 use crate::resolution::atoms::ground_atom;
 use crate::resolution::literals::unsupported;
-use crate::resolution::rows::{next_atoms, put_atoms};
+use crate::resolution::rows::{RowNumbers, next_atom, next_keys, put_keys};
 use crate::resolution::tables::Declared;
 use crate::resolution::vocabulary::Vocabulary;
 use pddl_syntax::{AtomSyntax, FaultKind, LiteralSyntax, Literals, ReadFault, ValueSyntax};
@@ -98,17 +98,40 @@ fn put_rows(
     vocabulary: &Vocabulary<'_>,
     literals: &mut Literals<'_>,
     state: &mut InitialState,
-    numbers: &mut Vec<u16>,
+    numbers: &mut RowNumbers,
 ) -> Result<bool, AllocError>
     ensures same { OnOk result (through (with_initial (vocabulary_form vocabulary.now)) state.new literals.new
         ≡ through (with_initial (vocabulary_form vocabulary.now)) state.old literals.old) }
     ensures fewer { IfOk result (λ some. IsTrue some → length literals.new < length literals.old) }
     ensures not_more { OnOk result (length literals.new ≤ length literals.old) }
 {
-    let atoms = next_atoms(alloc, &vocabulary.atoms, literals, numbers)?;
-    let some = !atoms.is_empty();
-    put_atoms(&mut state.atoms, atoms)?;
-    Ok(some)
+    let keys = next_keys(alloc, &vocabulary.atoms, literals, numbers)?;
+    if keys.is_empty() {
+        return put_row(alloc, vocabulary, literals, state, numbers);
+    }
+    put_keys(&mut state.atoms, keys.as_slice())?;
+    Ok(true)
+}
+
+/// Adds the atom that the next literal stands for, if it is written as a row and has no fault. Returns whether it was. The last argument is room for
+/// numbers.
+fn put_row(
+    alloc: Global,
+    vocabulary: &Vocabulary<'_>,
+    literals: &mut Literals<'_>,
+    state: &mut InitialState,
+    numbers: &mut RowNumbers,
+) -> Result<bool, AllocError>
+    ensures same { OnOk result (through (with_initial (vocabulary_form vocabulary.now)) state.new literals.new
+        ≡ through (with_initial (vocabulary_form vocabulary.now)) state.old literals.old) }
+    ensures fewer { IfOk result (λ some. IsTrue some → length literals.new < length literals.old) }
+    ensures not_more { OnOk result (length literals.new ≤ length literals.old) }
+{
+    let Some(atom) = next_atom(alloc, &vocabulary.atoms, literals, numbers)? else {
+        return Ok(false);
+    };
+    state.atoms.push(atom)?;
+    Ok(true)
 }
 
 /// What the initial literals of a problem of `size` bytes give. No answer depends on the size.
@@ -127,7 +150,7 @@ pub(crate) fn initial(
         values: FunctionValues::new(alloc, seed),
     };
     state.atoms.expect(size / BYTES_FOR_AN_ATOM);
-    let mut numbers = Vec::new(alloc);
+    let mut numbers = RowNumbers::new(alloc);
     'literals: loop {
         if put_rows(alloc, vocabulary, &mut literals, &mut state, &mut numbers)? {
             continue 'literals;

@@ -67,6 +67,7 @@ fn declare_objects(
 ) -> Result<(), ReadFault>
     ensures { Puts result (through (object_declared kind) objects.old (name_forms words.now)) objects.new }
 {
+    objects.reserve(words.len())?;
     'words: for word in words {
         declare_object(alloc, objects, *word, kind)?;
     }

@@ -3,11 +3,12 @@
 //! Nearly all initial atoms are, and a problem may have hundreds of thousands. They are not read word by word: the names of such a row are looked
 //! up as they are written, and a word that is found is a name. Any other literal is read as its syntax, and so is one with a fault.
 
-ghost use Rattle.std.specs.Prelude.{◌≡◌, ◌++◌, ◌+◌, [], ◌∷◌, ◌&&◌, nat_eq, length, map, true, false, IfNone, IfOk, IfSome, IsTrue, List, OnOk, Some, ℕ};
+ghost use Rattle.std.specs.Prelude.{◌≡◌, ◌++◌, [], ◌∷◌, ◌↔◌, ◌&&◌, nat_eq, length, map, true, false, All, IfNone, IfOk, IfSome, IsTrue, List, OnOk, Some, ℕ};
 ghost use Rattle.std.specs.List.{list_all, zip};
 ghost use Rattle.pddl_words.specs.SpacedWords.{words_of};
 ghost use Rattle.pddl_words.specs.Words.{is_name};
 ghost use Rattle.strips_task.specs.declared.actions.Term.TheVariants.{Object};
+ghost use Rattle.strips_task.specs.AtomKeys.{IsKeyOf, atom_of};
 ghost use Rattle.strips_task.specs.WellFormed.{is_fitting, term_types};
 ghost use Rattle.pddl_syntax.specs.Rows.{AreNames, atom_spelled};
 ghost use Rattle.pddl_reader.specs.Declarations.{ground_of};
@@ -18,17 +19,85 @@ use crate::resolution::tables::Declared;
 use pddl_syntax::Literals;
 use pddl_words::RowWords;
 use std::alloc::{AllocError, Global};
-use strips_task::{Alternatives, Atom, InitialAtoms, ShortSeq, object_fits};
+use std::marker::Model;
+use std::mem::swap;
+use strips_task::{Alternatives, Atom, AtomKey, InitialAtoms, ShortSeq, object_fits};
 
 /// How many rows are read before their atoms are added.
 const BATCH: usize = 32;
 
+/// The numbers of the names of a row, and those of the row before. Contracts see the former.
+///
+/// In rows that follow each other, names at the same place are often the same, or declared one after the other. So the number at the same place in the row
+/// before tells which names to compare with first.
+#[derive(Drop)]
+pub(crate) struct RowNumbers {
+    row: Vec<u16>,
+    before: Vec<u16>,
+}
+
+impl Model for RowNumbers {
+    ghost use Rattle.std.specs.Prelude.{List, ℕ};
+
+    ghost Value = { List ℕ };
+
+    ghost view = { λ n. n.row.items };
+}
+
+impl RowNumbers {
+    /// No row. Takes no memory.
+    pub(crate) fn new(alloc: Global) -> Self {
+        RowNumbers {
+            row: Vec::new(alloc),
+            before: Vec::new(alloc),
+        }
+    }
+
+    /// Begins another row.
+    fn begin(&mut self)
+        ensures { self.new ≡ [] }
+    {
+        swap(&mut self.row, &mut self.before);
+        self.row.clear();
+    }
+
+    /// Adds the number of the next name.
+    fn push(&mut self, number: u16) -> Result<(), AllocError>
+        ensures { OnOk result (self.new ≡ self.old ++ number ∷ []) }
+    {
+        self.row.push(number)?;
+        Ok(())
+    }
+
+    /// Whether the row has no name yet.
+    fn is_empty(&self) -> bool
+        ensures { IsTrue result ↔ (self.now ≡ []) }
+    {
+        self.row.is_empty()
+    }
+
+    /// The numbers.
+    fn as_slice(&self) -> &[u16]
+        ensures { result.now ≡ self.now }
+    {
+        self.row.as_slice()
+    }
+
+    /// The number at the place of the next name in the row before, or 0 if that was shorter.
+    fn near(&self) -> usize {
+        match self.before.get(self.row.len()) {
+            Some(number) => usize::from(*number),
+            None => 0,
+        }
+    }
+}
+
 /// The number of the predicate that a word names as it is written. Then it is a name.
 #[tactic(auto, using(crate::proofs::TableSteps::named_as_written))]
-fn predicate_as_written(known: &Declared<'_>, word: &[u8]) -> Option<u16>
+fn predicate_as_written(known: &Declared<'_>, word: &[u8], near: usize) -> Option<u16>
     ensures { IfSome result (λ number. (is_name word.now ≡ true) × (row_number (known_form known.now) true word.now ≡ Some number)) }
 {
-    match known.predicates.number_of(word) {
+    match known.predicates.number_near(word, near) {
         Some(number) => Some(number as u16),
         None => None,
     }
@@ -36,23 +105,23 @@ fn predicate_as_written(known: &Declared<'_>, word: &[u8]) -> Option<u16>
 
 /// The number of the object that a word names as it is written. Then it is a name.
 #[tactic(auto, using(crate::proofs::TableSteps::named_as_written))]
-fn object_as_written(known: &Declared<'_>, word: &[u8]) -> Option<u16>
+fn object_as_written(known: &Declared<'_>, word: &[u8], near: usize) -> Option<u16>
     ensures { IfSome result (λ number. (is_name word.now ≡ true) × (row_number (known_form known.now) false word.now ≡ Some number)) }
 {
-    match known.objects.number_of(word) {
+    match known.objects.number_near(word, near) {
         Some(number) => Some(number as u16),
         None => None,
     }
 }
 
 /// The number of the predicate or of the object that a word of a row names as it is written.
-fn number_as_written(known: &Declared<'_>, is_first: bool, word: &[u8]) -> Option<u16>
+fn number_as_written(known: &Declared<'_>, is_first: bool, word: &[u8], near: usize) -> Option<u16>
     ensures { IfSome result (λ number. (is_name word.now ≡ true) × (row_number (known_form known.now) is_first word.now ≡ Some number)) }
 {
     if is_first {
-        predicate_as_written(known, word)
+        predicate_as_written(known, word, near)
     } else {
-        object_as_written(known, word)
+        object_as_written(known, word, near)
     }
 }
 
@@ -61,15 +130,15 @@ fn number_as_written(known: &Declared<'_>, is_first: bool, word: &[u8]) -> Optio
 fn find_numbers(
     known: &Declared<'_>,
     row: &[u8],
-    numbers: &mut Vec<u16>,
+    numbers: &mut RowNumbers,
 ) -> Result<bool, AllocError>
     ensures names { IfOk result (λ found. IsTrue found → AreNames row.now) }
-    ensures numbers { IfOk result (λ found. IsTrue found → row_numbers (known_form known.now) (words_of row.now) ≡ map Some numbers.new.items) }
+    ensures numbers { IfOk result (λ found. IsTrue found → row_numbers (known_form known.now) (words_of row.now) ≡ map Some numbers.new) }
 {
-    numbers.clear();
+    numbers.begin();
     let mut words = RowWords::new(row);
     'words: while let Some(word) = words.next() {
-        match number_as_written(known, numbers.is_empty(), word) {
+        match number_as_written(known, numbers.is_empty(), word, numbers.near()) {
             Some(number) => numbers.push(number)?,
             None => return Ok(false),
         }
@@ -97,24 +166,41 @@ fn each_fits(known: &Declared<'_>, objects: &[u16], argument_types: &[Alternativ
     ))
 }
 
-/// The atom of a predicate and objects with these numbers, if the objects fit its arguments.
-fn atom_of(alloc: Global, known: &Declared<'_>, numbers: &[u16]) -> Result<Option<Atom>, AllocError>
-    ensures { IfOk result (λ found. IfSome found (λ atom. (row : List ℕ) → row_numbers (known_form known.now) (words_of row) ≡ map Some numbers.now
-        → ground_of (known_form known.now) (atom_spelled row) ≡ Some atom)) }
+/// The predicate and the objects with these numbers, if the objects fit its arguments.
+fn fitting<'n>(known: &Declared<'_>, numbers: &'n [u16]) -> Option<(u16, &'n [u16])>
+    ensures { IfSome result (λ found. (row : List ℕ) → row_numbers (known_form known.now) (words_of row) ≡ map Some numbers.now
+        → ground_of (known_form known.now) (atom_spelled row) ≡ Some (record { pred = found.0; args = found.1.now })) }
 {
     let [pred, objects @ ..] = numbers else {
-        return Ok(None);
+        return None;
     };
     let Some(argument_types) = known.predicates.value(usize::from(*pred)) else {
-        return Ok(None);
+        return None;
     };
     if !all_fit(known, objects, argument_types.as_slice()) {
+        return None;
+    }
+    Some((*pred, objects))
+}
+
+/// The key of the atom that a row stands for, if its words are known names as they are written, and its objects fit and are at most four. The last
+/// argument is room for numbers.
+fn row_key(
+    known: &Declared<'_>,
+    row: &[u8],
+    numbers: &mut RowNumbers,
+) -> Result<Option<AtomKey>, AllocError>
+    ensures names { IfOk result (λ found. IfSome found (λ _. AreNames row.now)) }
+    ensures key { IfOk result (λ found. IfSome found (λ key. IsKeyOf (atom_of key) key)) }
+    ensures atom { IfOk result (λ found. IfSome found (λ key. ground_of (known_form known.now) (atom_spelled row.now) ≡ Some (atom_of key))) }
+{
+    if !find_numbers(known, row, numbers)? {
         return Ok(None);
     }
-    Ok(Some(Atom {
-        pred: *pred,
-        args: ShortSeq::from_slice(alloc, objects)?,
-    }))
+    let Some((pred, objects)) = fitting(known, numbers.as_slice()) else {
+        return Ok(None);
+    };
+    Ok(AtomKey::with(pred, objects))
 }
 
 /// The atom that a row stands for, if its words are known names as they are written and its objects fit. The last argument is room for numbers.
@@ -122,7 +208,7 @@ fn row_atom(
     alloc: Global,
     known: &Declared<'_>,
     row: &[u8],
-    numbers: &mut Vec<u16>,
+    numbers: &mut RowNumbers,
 ) -> Result<Option<Atom>, AllocError>
     ensures names { IfOk result (λ found. IfSome found (λ _. AreNames row.now)) }
     ensures atom { IfOk result (λ found. IfSome found (λ atom. ground_of (known_form known.now) (atom_spelled row.now) ≡ Some atom)) }
@@ -130,16 +216,21 @@ fn row_atom(
     if !find_numbers(known, row, numbers)? {
         return Ok(None);
     }
-    let found = atom_of(alloc, known, numbers.as_slice())?;
-    Ok(found)
+    let Some((pred, objects)) = fitting(known, numbers.as_slice()) else {
+        return Ok(None);
+    };
+    Ok(Some(Atom {
+        pred,
+        args: ShortSeq::from_slice(alloc, objects)?,
+    }))
 }
 
 /// The atom that the next literal stands for, if it is written as a row and has no fault. Otherwise no literal is passed.
-fn next_atom(
+pub(crate) fn next_atom(
     alloc: Global,
     known: &Declared<'_>,
     literals: &mut Literals<'_>,
-    numbers: &mut Vec<u16>,
+    numbers: &mut RowNumbers,
 ) -> Result<Option<Atom>, AllocError>
     ensures taken { IfOk result (λ found. IfSome found (λ atom. BeginWithAtoms (known_form known.now) literals.old (atom ∷ []) literals.new)) }
     ensures not { IfOk result (λ found. IfNone found (literals.new ≡ literals.old)) }
@@ -154,34 +245,57 @@ fn next_atom(
     Ok(Some(atom))
 }
 
-/// The atoms that the next literals stand for, as long as these are written as rows and have no fault, up to a batch.
-pub(crate) fn next_atoms(
+/// The key of the atom that the next literal stands for, if it is written as a row, has no fault and at most four objects. Otherwise no literal is
+/// passed.
+fn next_key(
+    known: &Declared<'_>,
+    literals: &mut Literals<'_>,
+    numbers: &mut RowNumbers,
+) -> Result<Option<AtomKey>, AllocError>
+    ensures taken { IfOk result (λ found. IfSome found (λ key. BeginWithAtoms (known_form known.now) literals.old (atom_of key ∷ []) literals.new)) }
+    ensures key { IfOk result (λ found. IfSome found (λ key. IsKeyOf (atom_of key) key)) }
+    ensures not { IfOk result (λ found. IfNone found (literals.new ≡ literals.old)) }
+{
+    let Some(row) = literals.row() else {
+        return Ok(None);
+    };
+    let Some(key) = row_key(known, row.bytes(), numbers)? else {
+        return Ok(None);
+    };
+    literals.pass(row);
+    Ok(Some(key))
+}
+
+/// The keys of the atoms that the next literals stand for, as long as these are written as rows, have no fault and at most four objects, up to a batch.
+pub(crate) fn next_keys(
     alloc: Global,
     known: &Declared<'_>,
     literals: &mut Literals<'_>,
-    numbers: &mut Vec<u16>,
-) -> Result<Vec<Atom>, AllocError>
-    ensures { IfOk result (λ atoms. BeginWithAtoms (known_form known.now) literals.old atoms.items literals.new) }
+    numbers: &mut RowNumbers,
+) -> Result<Vec<AtomKey>, AllocError>
+    ensures atoms { IfOk result (λ keys. BeginWithAtoms (known_form known.now) literals.old (map atom_of keys.items) literals.new) }
+    ensures keys { IfOk result (λ keys. All (λ key. IsKeyOf (atom_of key) key) keys.items) }
 {
-    let mut atoms = Vec::with_capacity(alloc, BATCH)?;
+    let mut keys = Vec::with_capacity(alloc, BATCH)?;
     'rows: for _ in 0..BATCH {
-        match next_atom(alloc, known, literals, numbers)? {
-            Some(atom) => atoms.push(atom)?,
-            None => return Ok(atoms),
+        match next_key(known, literals, numbers)? {
+            Some(key) => keys.push(key)?,
+            None => return Ok(keys),
         }
     }
-    Ok(atoms)
+    Ok(keys)
 }
 
-/// Adds atoms to a list. First it asks how many are surely new, one right after the other, so that the processor waits for several reads of the table at
-/// once. Atoms that are pushed right afterwards find their part of the table in the cache.
-pub(crate) fn put_atoms(list: &mut InitialAtoms, atoms: Vec<Atom>) -> Result<(), AllocError>
-    ensures { OnOk result (list.new ≡ list.old ++ atoms.items) }
+/// Adds the atoms of keys to a list. First it asks how many are surely new, one right after the other, so that the processor waits for several reads of the
+/// table at once. Atoms that are pushed right afterwards find their part of the table in the cache.
+pub(crate) fn put_keys(list: &mut InitialAtoms, keys: &[AtomKey]) -> Result<(), AllocError>
+    requires { All (λ key. IsKeyOf (atom_of key) key) keys.now }
+    ensures { OnOk result (list.new ≡ list.old ++ map atom_of keys.now) }
 {
-    let new = list.distinct().surely_new(atoms.as_slice());
+    let new = list.distinct().surely_new(keys);
     list.expect(new);
-    for atom in atoms {
-        list.push(atom)?;
+    for key in keys {
+        list.push_few(*key)?;
     }
     Ok(())
 }

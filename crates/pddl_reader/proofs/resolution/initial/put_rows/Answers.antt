@@ -1,4 +1,5 @@
-use Rattle.std.proofs.Common.{ap, ◌∙◌}
+use Rattle.std.proofs.Common.{◌++◌, map, ap, ◌∙◌}
+use Rattle.strips_task.specs.AtomKeys.{atom_of}
 use Rattle.pddl_syntax.specs.Optional.{through}
 use Rattle.pddl_reader.specs.Problem.{with_initial, given_atoms}
 use Rattle.pddl_reader.specs.Resolved.{vocabulary_form}
@@ -8,5 +9,7 @@ use Rattle.pddl_reader.proofs.resolution.initial.put_rows.Goals as goal
 pub returns-clause-same : goal.returns-clause-same
 returns-clause-same c =
     let vocabulary = vocabulary_form c.args.vocabulary.now in
-    ap (λ atoms. through (with_initial vocabulary) (given_atoms c.args.state.now atoms) c.next_atoms.new.literals) c.in_ok-put_atoms.ensures
-    ∙ through_atoms vocabulary c.args.state.now c.args.literals.now c.next_atoms.new.literals c.in_ok-atoms.atoms.items c.in_ok-atoms.ensures
+    let keys = c.in_ok-keys.keys.items in
+    ap (λ atoms. through (with_initial vocabulary) (given_atoms c.args.state.now atoms) c.next_keys.new.literals)
+    (c.in_ok-put_keys.ensures ∙ ap (λ l. c.args.state.now.atoms ++ map atom_of l) c.as_slice.ensures.value)
+    ∙ through_atoms vocabulary c.args.state.now c.args.literals.now c.next_keys.new.literals (map atom_of keys) c.in_ok-keys.ensures.atoms

@@ -11,7 +11,7 @@ use Rattle.strips_task.proofs.AtomEquality.{both_hold}
 use Rattle.pddl_reader.specs.Resolved.{known_form}
 use Rattle.pddl_reader.specs.Rows.{row_numbers}
 use Rattle.pddl_reader.proofs.RowSteps.{row_ground}
-use Rattle.pddl_reader.proofs.resolution.rows.atom_of.Goals as goal
+use Rattle.pddl_reader.proofs.resolution.rows.fitting.Goals as goal
 
 pub returns : goal.returns
 returns c = λ row is.
@@ -29,4 +29,4 @@ returns c = λ row is.
     let count : length objects ≡ length types = grind (arith, nat_tests, both.0) in
     let at : slice_get (values_of known.predicates) pred ≡ Some types =
     ap (slice_get (values_of known.predicates)) (sym c.from.ensures) ∙ sym c.value.ensures ∙ ap option_copied c.in-Some.is ∙ ap Some (sym c.as_slice.ensures) in
-    row_ground known row pred objects types parted at count both.1 ∙ ap (λ args. Some (record { pred = pred; args = args })) (sym c.in_ok-from_slice.ensures)
+    row_ground known row pred objects types parted at count both.1
