@@ -1,12 +1,12 @@
 -- Rows of bits: what a word changed in place leaves of the others, and which bits a word's own are.
 
-use Rattle.std.proofs.Common.{◌≡◌, ◌≢◌, ℕ, ◌+◌, ◌*◌, ◌/◌, ◌%◌, ◌^◌, ◌-◌, ◌<◌, ◌≤◌, ⊎_elim, false, ltb, List, length, get_or, set, slice_index, nat_eq, ap, sym, ◌∙◌, arith, get_or-set_same, get_or-set_other}
+use Rattle.std.proofs.Common.{◌≡◌, ◌≢◌, ℕ, ◌+◌, ◌*◌, ◌/◌, ◌%◌, ◌^◌, ◌-◌, ◌<◌, ◌≤◌, ⊎_elim, false, ltb, List, length, get_or, set, slice_index, nat_eq, ap, sym, ◌∙◌, arith, get_or-set_same, get_or-set_other, replicate, ◌++◌}
 use Rattle.std.specs.Int.{bit_at}
 use Rattle.std.proofs.Math.Nat.{mod-eq_of_lt, one-mul}
 use Rattle.std.proofs.Math.Pow.{pow-lt}
 use Rattle.std.proofs.lemmas.Nat.Bits.{bit_at-zero, bit_at_ones, bit_at_ones_above}
 use Rattle.std.proofs.lemmas.Bool.{cases_eq, cases_lt, lt-ltb, le-ltb}
-use Rattle.std.proofs.lemmas.List.{get_or_past}
+use Rattle.std.proofs.lemmas.List.{get_or_past, get_or-replicate, length-replicate, get_or_append_left, get_or-append_right}
 use Rattle.bit_rows.specs.Rows.{row_has, ChangesBit}
 
 -- two numbers with the same quotient and the same remainder are the same
@@ -61,53 +61,91 @@ row_has-in words j i b within at =
     ∙ ap (λ v. nat_eq v 1) at
 
 -- a whole word of a row of which the first bits are set
-pub whole_word : (index count bit : ℕ) → index < count / 64 → bit < 64 → nat_eq (bit_at (2 ^ 64 - 1) bit) 1 ≡ ltb (index * 64 + bit) count
+whole_word : (index count bit : ℕ) → index < count / 64 → bit < 64 → nat_eq (bit_at (2 ^ 64 - 1) bit) 1 ≡ ltb (index * 64 + bit) count
 whole_word index count bit before within =
     ap (λ b. nat_eq b 1) (bit_at_ones 64 bit within) ∙ sym (lt-ltb (index * 64 + bit) count (omega arith))
 
--- its last word that has a bit set
-pub last_word : (index count bit : ℕ) → index ≡ count / 64 → bit < 64
-    → nat_eq (bit_at (1 * 2 ^ (count % 64) % 2 ^ 64 - 1) bit) 1 ≡ ltb (index * 64 + bit) count
-last_word index count bit at within =
+-- the word in which its set bits end
+pub last_word : (count bit : ℕ) → bit < 64
+    → nat_eq (bit_at (1 * 2 ^ (count % 64) % 2 ^ 64 - 1) bit) 1 ≡ ltb (count / 64 * 64 + bit) count
+last_word count bit within =
     let few : count % 64 < 64 = omega arith in
     let fits : 1 * 2 ^ (count % 64) % 2 ^ 64 ≡ 2 ^ (count % 64) =
     ap (λ n. n % 2 ^ 64) (one-mul (2 ^ (count % 64))) ∙ mod-eq_of_lt (pow-lt few) in
     ap (λ w. nat_eq (bit_at (w - 1) bit) 1) fits
     ∙ ⊎_elim
-    (λ (low : bit < count % 64). ap (λ b. nat_eq b 1) (bit_at_ones (count % 64) bit low) ∙ sym (lt-ltb (index * 64 + bit) count (omega arith)))
-    (λ (high : count % 64 ≤ bit). ap (λ b. nat_eq b 1) (bit_at_ones_above (count % 64) bit high) ∙ sym (le-ltb (index * 64 + bit) count (omega arith)))
+    (λ (low : bit < count % 64). ap (λ b. nat_eq b 1) (bit_at_ones (count % 64) bit low) ∙ sym (lt-ltb (count / 64 * 64 + bit) count (omega arith)))
+    (λ (high : count % 64 ≤ bit). ap (λ b. nat_eq b 1) (bit_at_ones_above (count % 64) bit high) ∙ sym (le-ltb (count / 64 * 64 + bit) count (omega arith)))
     (cases_lt bit (count % 64))
 
--- a row whose words are those of a row of which the first bits are set is one
-pub row_has-first : (words : List ℕ) (count : ℕ)
-    → ((j bit : ℕ) → bit < 64 → nat_eq (bit_at (slice_index words j) bit) 1 ≡ ltb (j * 64 + bit) count)
+-- a row with whole words, then the word in which the set bits end, and no bit set behind it
+row_has-first : (words : List ℕ) (count : ℕ)
+    → ((j : ℕ) → j < count / 64 → slice_index words j ≡ 2 ^ 64 - 1)
+    → ((bit : ℕ) → bit < 64 → nat_eq (bit_at (slice_index words (count / 64)) bit) 1 ≡ ltb (count / 64 * 64 + bit) count)
+    → ((j : ℕ) → count / 64 < j → slice_index words j ≡ 0)
     → (k : ℕ) → row_has words k ≡ ltb k count
-row_has-first words count first k =
+row_has-first words count ones last zeros k =
     let within : k % 64 < 64 = omega arith in
     let whole : k / 64 * 64 + k % 64 ≡ k = omega arith in
-    first (k / 64) (k % 64) within ∙ ap (λ n. ltb n count) whole
+    ⊎_elim
+    (λ (before : k / 64 < count / 64).
+    ap (λ w. nat_eq (bit_at w (k % 64)) 1) (ones (k / 64) before) ∙ whole_word (k / 64) count (k % 64) before within ∙ ap (λ n. ltb n count) whole)
+    (λ (behind : count / 64 ≤ k / 64).
+    ⊎_elim
+    (λ (same : k / 64 ≡ count / 64).
+    ap (λ j. nat_eq (bit_at (slice_index words j) (k % 64)) 1) same
+    ∙ last (k % 64) within
+    ∙ ap (λ j. ltb (j * 64 + k % 64) count) (sym same)
+    ∙ ap (λ n. ltb n count) whole)
+    (λ (other : k / 64 ≢ count / 64).
+    row_has-zero words k (zeros (k / 64) (omega (arith, other, behind))) ∙ sym (le-ltb k count (omega (arith, other, behind))))
+    (cases_eq (k / 64) (count / 64)))
+    (cases_lt (k / 64) (count / 64))
 
 -- one word that is cut to the first bits behind whole ones makes such a row
 pub cut_last : (words : List ℕ) (count word : ℕ) → length words ≡ count / 64 + 1 → ((j : ℕ) → j < count / 64 + 1 → slice_index words j ≡ 2 ^ 64 - 1)
     → ((bit : ℕ) → bit < 64 → nat_eq (bit_at word bit) 1 ≡ ltb (count / 64 * 64 + bit) count)
     → (k : ℕ) → row_has (set words (count / 64) word) k ≡ ltb k count
-cut_last words count word long ones last = row_has-first (set words (count / 64) word) count by
-  where
-    by : (j bit : ℕ) → bit < 64 → nat_eq (bit_at (slice_index (set words (count / 64) word) j) bit) 1 ≡ ltb (j * 64 + bit) count
-    by j bit within =
-        ⊎_elim
-        (λ (same : j ≡ count / 64).
-        ap (λ i. nat_eq (bit_at (slice_index (set words (count / 64) word) i) bit) 1) same
-        ∙ ap (λ w. nat_eq (bit_at w bit) 1) (get_or-set_same words (count / 64) word 0 (omega (arith, long)))
-        ∙ last bit within
-        ∙ ap (λ i. ltb (i * 64 + bit) count) (sym same))
-        (λ (other : j ≢ count / 64).
-        ap (λ w. nat_eq (bit_at w bit) 1) (get_or-set_other words (count / 64) j word 0 other)
-        ∙ ⊎_elim
-        (λ (before : j < count / 64). ap (λ w. nat_eq (bit_at w bit) 1) (ones j (omega arith)) ∙ whole_word j count bit before within)
-        (λ (behind : count / 64 ≤ j).
-        let past : length words ≤ j = omega (arith, other, long) in
-        let none : slice_index words j ≡ 0 = get_or_past words j 0 past in
-        ap (λ w. nat_eq (bit_at w bit) 1) none ∙ ap (λ b. nat_eq b 1) (bit_at-zero bit) ∙ sym (le-ltb (j * 64 + bit) count (omega (arith, other))))
-        (cases_lt j (count / 64)))
-        (cases_eq j (count / 64))
+cut_last words count word long ones last =
+    row_has-first (set words (count / 64) word) count
+    (λ j before. get_or-set_other words (count / 64) j word 0 (omega (arith, before)) ∙ ones j (omega arith))
+    (λ bit within. ap (λ w. nat_eq (bit_at w bit) 1) (get_or-set_same words (count / 64) word 0 (omega (arith, long))) ∙ last bit within)
+    (λ j behind. get_or-set_other words (count / 64) j word 0 (omega (arith, behind)) ∙ get_or_past words j 0 (omega (arith, long, behind)))
+
+-- a row of whole words, and behind them the word in which the set bits end, with no bit set behind it
+pub row_has-split : (full rest : List ℕ) (count whole : ℕ) → whole ≡ count / 64 → full ≡ replicate whole (2 ^ 64 - 1)
+    → ((bit : ℕ) → bit < 64 → nat_eq (bit_at (slice_index rest 0) bit) 1 ≡ ltb (count / 64 * 64 + bit) count)
+    → ((j : ℕ) → 0 < j → slice_index rest j ≡ 0)
+    → (k : ℕ) → row_has (full ++ rest) k ≡ ltb k count
+row_has-split full rest count whole is_whole ones last zeros =
+    let long : length full ≡ count / 64 = ap length ones ∙ length-replicate whole (2 ^ 64 - 1) ∙ is_whole in
+    row_has-first (full ++ rest) count
+    (λ j before.
+    get_or_append_left full rest 0 j (omega (arith, before, long))
+    ∙ ap (λ words. slice_index words j) ones
+    ∙ get_or-replicate whole j (2 ^ 64 - 1) 0 (omega (arith, before, is_whole)))
+    (λ bit within.
+    let none : count / 64 - count / 64 ≡ 0 = omega arith in
+    let at : slice_index (full ++ rest) (count / 64) ≡ slice_index rest 0 =
+    get_or-append_right full rest (count / 64) (count / 64) 0 long (omega arith) ∙ ap (slice_index rest) none in
+    ap (λ w. nat_eq (bit_at w bit) 1) at ∙ last bit within)
+    (λ j behind. get_or-append_right full rest (count / 64) j 0 long (omega (arith, behind)) ∙ zeros (j - count / 64) (omega (arith, behind)))
+
+-- of words that are 0 those behind the first still are, whatever the first is now
+pub zeros_behind : (rest : List ℕ) (n word : ℕ) → rest ≡ replicate n 0 → (j : ℕ) → 0 < j → slice_index (set rest 0 word) j ≡ 0
+zeros_behind rest n word empty j behind =
+    let long : length (replicate {A = ℕ} n 0) ≡ n = length-replicate n 0 in
+    get_or-set_other rest 0 j word 0 (omega (arith, behind))
+    ∙ ap (λ words. slice_index words j) empty
+    ∙ ⊎_elim
+    (λ (in_row : j < n). get_or-replicate n j 0 0 in_row)
+    (λ (past : n ≤ j). get_or_past (replicate n 0) j 0 (omega (arith, past, long)))
+    (cases_lt j n)
+
+-- behind a row with room for the set bits and for no more, no bit is set
+pub none_behind : (rest : List ℕ) (count : ℕ) → length rest ≡ 0 → count ≤ 64 * (count / 64)
+    → (bit : ℕ) → bit < 64 → nat_eq (bit_at (slice_index rest 0) bit) 1 ≡ ltb (count / 64 * 64 + bit) count
+none_behind rest count none room bit within =
+    ap (λ w. nat_eq (bit_at w bit) 1) (get_or_past rest 0 0 (omega (arith, none)))
+    ∙ ap (λ b. nat_eq b 1) (bit_at-zero bit)
+    ∙ sym (le-ltb (count / 64 * 64 + bit) count (omega (arith, room)))

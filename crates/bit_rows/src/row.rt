@@ -1,7 +1,7 @@
 //! A row of bits that grows.
 //!
 //! A bit that was never set is clear, even if there is no room for it. Room is made ahead; setting and clearing take no memory.
-ghost use Rattle.std.specs.Prelude.{◌≡◌, ◌≢◌, ◌+◌, ◌*◌, ◌<◌, ◌≤◌, ℕ, length, ltb, nat_eq, true, false, OnOk, IfOk};
+ghost use Rattle.std.specs.Prelude.{◌≡◌, ◌≢◌, ◌+◌, ◌*◌, ◌/◌, ◌<◌, ◌≤◌, ℕ, length, ltb, nat_eq, true, false, OnOk, IfOk};
 ghost use Rattle.std.specs.Int.{bit_at};
 ghost use Rattle.bit_rows.specs.Rows.{row_has};
 
@@ -41,7 +41,7 @@ impl Row {
         let whole = count / WORD_BITS;
         let mut words = Vec::new(alloc);
         words.resize(whole + 1, u64::MAX)?;
-        words[whole] = first_in(whole, count);
+        words[whole] = last_word(count);
         Ok(Row { words })
     }
 
@@ -58,15 +58,13 @@ impl Row {
         Ok(())
     }
 
-    /// Sets the first `count` bits, for which there is room, and clears all others, a word at a time.
+    /// Sets the first `count` bits, for which there is room, and clears all others. The words are filled in bulk.
     pub fn reset_to_first(&mut self, count: usize)
         requires { count ≤ 64 * length self.old }
         ensures first { (k : ℕ) → row_has self.new k ≡ ltb k count }
         ensures long { length self.new ≡ length self.old }
     {
-        for index in 0..self.words.len() {
-            self.words[index] = first_in(index, count);
-        }
+        set_first(&mut self.words, count);
     }
 
     /// Whether a bit is set.
@@ -98,16 +96,23 @@ impl Row {
     }
 }
 
-/// The word with this index in a row in which the first `count` bits are set and no others.
-fn first_in(index: usize, count: usize) -> u64
-    ensures { (bit : ℕ) → bit < 64 → nat_eq (bit_at result bit) 1 ≡ ltb (index * 64 + bit) count }
+/// Sets the first `count` bits of the words, which have room for them, and clears all others.
+fn set_first(words: &mut [u64], count: usize)
+    requires { count ≤ 64 * length words.old }
+    ensures first { (k : ℕ) → row_has words.new k ≡ ltb k count }
+    ensures long { length words.new ≡ length words.old }
 {
-    let whole = count / WORD_BITS;
-    if index < whole {
-        u64::MAX
-    } else if index == whole {
-        (1 << (count % WORD_BITS)) - 1
-    } else {
-        0
+    let (full, rest) = words.split_at_mut(count / WORD_BITS);
+    full.fill(u64::MAX);
+    rest.fill(0);
+    if !rest.is_empty() {
+        rest[0] = last_word(count);
     }
+}
+
+/// The word in which the set bits end, in a row in which the first `count` bits are set and no others.
+fn last_word(count: usize) -> u64
+    ensures { (bit : ℕ) → bit < 64 → nat_eq (bit_at result bit) 1 ≡ ltb (count / 64 * 64 + bit) count }
+{
+    (1 << (count % WORD_BITS)) - 1
 }

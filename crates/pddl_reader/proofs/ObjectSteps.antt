@@ -1,11 +1,12 @@
 -- Objects declared with their types, one equation for each case.
 
-use Rattle.std.proofs.Common.{◌≡◌, ◌≢◌, ℕ, ◌<◌, ◌≤◌, ◌++◌, false, nat_eq, List, [], ◌∷◌, length, Option, Some, None, refl, arith}
+use Rattle.std.proofs.Common.{◌≡◌, ◌≢◌, ℕ, ◌<◌, ◌≤◌, ◌++◌, false, nat_eq, List, [], ◌∷◌, length, Option, Some, None, refl, ap, sym, ◌∙◌, arith}
 use Rattle.std.proofs.lemmas.Bool.{le-ltb, lt-ltb, eqb-true, eq-eqb}
 use Rattle.std.specs.List.{slice_get}
 use Rattle.std.specs.Map.{keys_of}
 use Rattle.pddl_words.specs.Words.{folded}
-use Rattle.strips_task.specs.Names.{number_named}
+use Rattle.strips_task.specs.Names.{number_named, with_entry}
+use Rattle.strips_task.proofs.NamedEntries.{inserted_new, inserted_again}
 use Rattle.pddl_syntax.specs.declared.walk.NameWord.{NameWord}
 use Rattle.pddl_syntax.specs.declared.syntax.NameGroup as groups
 use Rattle.pddl_syntax.specs.Forms.{name_forms, name_group_form, name_groups}
@@ -38,12 +39,22 @@ pub objects_many : (type : ℕ) (objects : Objects) (word : List ℕ) → number
 unfolding object_declared of_type guard
 objects_many type objects word h le = rw (value_unnamed objects (folded word) h, le-ltb (length objects) 65535 le) refl
 
-pub object_new : (type : ℕ) (objects : Objects) (word : List ℕ) → number_named objects (folded word) ≡ None → length objects < 65535 →
-    object_declared type objects word ≡ Some (objects ++ (folded word, type) ∷ [])
-unfolding object_declared of_type guard
-object_new type objects word h lt = rw (value_unnamed objects (folded word) h, lt-ltb (length objects) 65535 lt) refl
+pub object_put_again : (type : ℕ) (objects : Objects) (word : List ℕ) (number known : ℕ) → number_named objects (folded word) ≡ Some number →
+    slice_get objects number ≡ Some (folded word, known) → known ≡ type → object_declared type objects word ≡ Some (with_entry objects (folded word) type)
+object_put_again type objects word number known h e is =
+    let same : slice_get objects number ≡ Some (folded word, type) = e ∙ ap (λ t. Some (folded word, t)) is in
+    object_again type objects word (folded word) number known h e is ∙ sym (ap Some (inserted_again objects (folded word) type number h same))
 
-pub ruleset object_steps = (object_again, object_otherwise, objects_many, object_new)
+pub object_put : (type : ℕ) (objects : Objects) (word : List ℕ) → number_named objects (folded word) ≡ None → length objects < 65535 →
+    object_declared type objects word ≡ Some (with_entry objects (folded word) type)
+unfolding object_declared of_type guard
+object_put type objects word h lt =
+    let new : object_declared type objects word ≡ Some (objects ++ (folded word, type) ∷ []) =
+    rw (value_unnamed objects (folded word) h, lt-ltb (length objects) 65535 lt) refl
+    in
+    new ∙ sym (ap Some (inserted_new objects (folded word) type h))
+
+pub ruleset object_steps = (object_again, object_otherwise, objects_many, object_put_again, object_put)
 
 pub names_item : {S : Type 0} (step : S → List ℕ → Option S) (state : S) (x : NameWord) (xs : List NameWord) →
     through step state (name_forms (x ∷ xs)) ≡ through_behind step (step state x.text.now) (name_forms xs)

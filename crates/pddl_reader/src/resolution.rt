@@ -1,7 +1,7 @@
 //! The third layer: names are looked up, and the domain and the task are made.
 //!
-//! Tables are filled in text order, so that a name's number is its index among those declared. Most look-ups are one read of memory. Initial atoms,
-//! which are the most numerous, are looked up in rows, as they are written.
+//! Tables are filled in text order, so that a name's number is its index among those declared. Most look-ups are one or two reads of memory. Initial
+//! atoms, which are the most numerous, are looked up in rows, as they are written.
 
 pub(crate) mod actions;
 pub(crate) mod atoms;

@@ -155,6 +155,7 @@ pub(crate) fn is_term(context: Context, word: &[u8]) -> bool
 }
 
 /// Whether a word is as long as the reserved words that begin with its first letter. Most names are not, and so need no comparison with any.
+#[inline(always)]
 fn looks_reserved(word: &[u8]) -> bool
     ensures { result ≡ false → is_name word.now ≡ true → formula_head word.now ≡ FormulaHead.Name }
 {
@@ -405,6 +406,7 @@ fn is_comparison(word: &[u8]) -> bool
 /// Whether the first word of a row of names is not reserved. The row is then an atom, wherever numbers are not changed. Of a row that is not names the
 /// answer says nothing, so that no byte is read twice.
 #[tactic(auto, unfolding(crate::specs::Rows::heads_atom), using(crate::proofs::RowSteps::first_word, crate::proofs::RowSteps::first_is_name))]
+#[inline(always)]
 pub(crate) fn heads_atom(row: &[u8]) -> bool
     ensures { AreNames row.now → result ≡ heads_atom row.now }
 {

@@ -17,6 +17,7 @@ use pddl_tokens::TokenKind;
 use strips_task::MOST_STEPS;
 
 /// Reads a token after `steps` steps, where no name may come; `None` if the token may not come here.
+#[inline(always)]
 pub(crate) fn read_between(
     steps: usize,
     expected: Expected,
@@ -34,6 +35,7 @@ pub(crate) fn read_between(
 }
 
 /// Reads a `(` after `steps` steps; `None` if it may not come here.
+#[inline(always)]
 pub(crate) fn read_left(steps: usize, expected: Expected) -> Option<Expected>
     ensures { ReadsBetween result expected steps left }
 {
@@ -46,6 +48,7 @@ pub(crate) fn read_left(steps: usize, expected: Expected) -> Option<Expected>
 }
 
 /// Reads a word after `steps` steps, where no name may come; `None` if it may not come here.
+#[inline(always)]
 pub(crate) fn read_number(steps: usize, expected: Expected, text: &[u8]) -> Option<Expected>
     requires { takes_name expected.want ≡ false }
     ensures { ReadsBetween result expected steps (word text.now) }
@@ -58,6 +61,7 @@ pub(crate) fn read_number(steps: usize, expected: Expected, text: &[u8]) -> Opti
 }
 
 /// A step begins, unless the plan has as many as it may have.
+#[inline(always)]
 fn begun(steps: usize, next: Expected) -> Option<Expected>
     ensures { (plan : OpenPlan) → length plan.steps ≡ steps → (length plan.steps < MOST_STEPS → IsReady next.want plan)
         → LeadsTo result plan (begun (reading next plan) (Some (reading next plan))) }
@@ -66,6 +70,7 @@ fn begun(steps: usize, next: Expected) -> Option<Expected>
 }
 
 /// A word before a step, which must be a stamp, larger than all stamps before it.
+#[inline(always)]
 fn stamped(steps: usize, expected: Expected, text: &[u8]) -> Option<Expected>
     ensures { (plan : OpenPlan) → length plan.steps ≡ steps → plan.words ≡ [] → LeadsTo result plan (stamped (reading expected plan) text.now) }
 {
@@ -83,6 +88,7 @@ fn stamped(steps: usize, expected: Expected, text: &[u8]) -> Option<Expected>
 }
 
 /// A word after a step: its number in brackets, or the stamp of the next step.
+#[inline(always)]
 fn followed(steps: usize, expected: Expected, text: &[u8]) -> Option<Expected>
     ensures { (plan : OpenPlan) → length plan.steps ≡ steps → plan.words ≡ [] → LeadsTo result plan (followed (reading expected plan) text.now) }
 {

@@ -175,6 +175,7 @@ impl<'a> PlanSteps<'a> {
     /// The bytes between the parentheses that follow, if a step may come here.
     ///
     /// These bytes were not read yet. They are the next step only if they are known to spell one.
+    #[inline(always)]
     pub fn next_group(&self) -> Option<Group<'a>>
         ensures { IfSome result (λ group. ComesNext self.now group) }
     {
@@ -186,6 +187,7 @@ impl<'a> PlanSteps<'a> {
     }
 
     /// Passes the next step, which the key of its group must spell.
+    #[inline(always)]
     pub fn skip(&mut self, group: Group<'a>)
         requires next { ComesNext self.old group }
         requires spelled { IsSpelled group.key.now }
@@ -198,6 +200,7 @@ impl<'a> PlanSteps<'a> {
 
     /// Passes the bracketed number or the stamp that comes next, if one may come and does. Returns whether it did; otherwise the walk stays
     /// where it is.
+    #[inline(always)]
     pub fn pass_number(&mut self) -> bool
         ensures on { GoesOn self.old self.new }
         ensures shorter { IsTrue result → length self.new.rest < length self.old.rest }
@@ -220,6 +223,7 @@ impl<'a> PlanSteps<'a> {
 
     /// Reads to the end of the next step, including its stamp. At the end of the text and at a fault the walk stays where it is, so each further
     /// call gives the same answer.
+    #[inline(always)]
     pub fn next_step(&mut self) -> TextStep<'a>
         ensures { IsFound result self.old self.new }
     {
@@ -232,6 +236,7 @@ impl<'a> PlanSteps<'a> {
     }
 
     /// Passes the step that a group spells.
+    #[inline(always)]
     fn take_group(&mut self, group: Group<'a>) -> TextStep<'a>
         requires next { ComesNext self.old group }
         requires spelled { IsSpelled group.key.now }

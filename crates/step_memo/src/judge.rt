@@ -169,7 +169,7 @@ impl<'t> Judge<'t> {
     /// Takes the step that a row spells, if its names are known and it is applicable, and otherwise changes no atom. Returns whether it did. Learns a
     /// step that has a code while there is room.
     ///
-    /// Takes one read of memory for most names and for each atom that was looked up before, more for others, and memory for what is new. If memory runs
+    /// Takes a few reads of memory for each name and for each atom, fewer for those that were looked up before, and memory for what is new. If memory runs
     /// out, the plan is over.
     pub fn take_row(&mut self, alloc: Global, row: &[u8]) -> Result<bool, AllocError>
         requires { self.old.count < MOST_STEPS }

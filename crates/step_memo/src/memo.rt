@@ -96,6 +96,7 @@ impl Memo {
     }
 
     /// The known step that a key spells, with one hash.
+    #[inline(always)]
     pub(crate) fn find(&self, key: &[u8]) -> Option<KnownStep<'_>>
         ensures { IfSome result (λ known. (number : ℕ)
             × (slice_get self.now number ≡ Some (record { key = key.now; code = code_shown known.code; amount = known.amount }))) }
@@ -147,6 +148,7 @@ impl Memo {
 }
 
 /// The number of the entry with a key.
+#[inline(always)]
 fn find_entry(
     hash: u64,
     key: &[u8],
@@ -176,6 +178,7 @@ fn find_entry(
 }
 
 /// The key of an entry.
+#[inline(always)]
 fn key_of<'m>(entry: &Entry, bytes: &'m [u8]) -> &'m [u8]
     requires { (entry.now.key_start ≤ entry.now.key_end) × (entry.now.key_end ≤ length bytes.now) }
     ensures { result.now ≡ slice_range bytes.now entry.now.key_start entry.now.key_end }
@@ -184,6 +187,7 @@ fn key_of<'m>(entry: &Entry, bytes: &'m [u8]) -> &'m [u8]
 }
 
 /// What is known of the step of an entry.
+#[inline(always)]
 fn known_step<'m>(entry: &Entry, numbers: &'m [u32]) -> KnownStep<'m>
     requires { IsEntry entry.now.key_end (length numbers.now) entry.now }
     ensures code { (bytes : List ℕ) → code_shown result.code ≡ (known_at bytes numbers.now entry.now).code }

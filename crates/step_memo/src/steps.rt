@@ -15,6 +15,7 @@ use strips_judge::{
 
 /// Takes the step that a key spells, if it is known and applicable, and returns what it adds to the cost. Otherwise changes nothing. The task
 /// is only there for the contract.
+#[inline(always)]
 pub(crate) fn take_found(
     _task: &CostedTask,
     memo: &Memo,
@@ -51,6 +52,7 @@ pub(crate) struct NewStep<'s> {
 
 /// Takes a step if it is applicable, and otherwise changes no atom. Returns whether it did. Learns the step first, if it may be learned, is not
 /// known, and has a code and room. If memory runs out, some effects may have happened.
+#[inline(always)]
 pub(crate) fn take_new(
     alloc: Global,
     task: &CostedTask,

@@ -18,9 +18,6 @@ keeps_more atoms more atom number e = number_in-first atoms more atom number e
 pub grows_same : (old new : Numbered) → new.initial ≡ old.initial → new.atoms ≡ old.atoms → Grows old new
 grows_same old new initial atoms = record { initial = initial; numbers = keeps_same old.atoms new.atoms atoms }
 
-pub grows_none : (old : Numbered) → Grows old old
-grows_none old = grows_same old old refl refl
-
 -- growth and growth again
 pub grows_twice : (old mid new : Numbered) → Grows old mid → Grows mid new → Grows old new
 grows_twice old mid new a b =
@@ -35,17 +32,6 @@ row_for_none first later count bits empty is small of_bits room =
       room = omega (arith, all, room);
       clear = λ k le. of_bits k ∙ le-ltb k count (omega (arith, all, le));
       countable = omega (arith, all, small);
-    }
-
--- a row that has changed only at bits of atoms with numbers
-pub row_for_first : (first later : List Atom) (count : ℕ) (old bits : List ℕ) → IsRowFor (first ++ later) old → count ≡ length first → length bits ≡ length old
-    → ((k : ℕ) → row_has bits k ≡ ltb k count) → IsRowFor (first ++ later) bits
-row_for_first first later count old bits kept is long of_bits =
-    let all : length (first ++ later) ≡ length first + length later = length-append first later in
-    record {
-      room = omega (arith, kept.room, long);
-      clear = λ k le. of_bits k ∙ le-ltb k count (omega (arith, all, le, is));
-      countable = kept.countable;
     }
 
 -- the row of a state with one atom more

@@ -12,4 +12,3 @@ pub mod Searches
 pub mod StepLaws
 pub mod VerdictLaws
 pub mod NumberedSteps
-pub mod FoundNames

@@ -57,6 +57,7 @@ fn find_objects(
 }
 
 /// The first object that does not fit the parameter beside it, counted from 1.
+#[inline(always)]
 pub(crate) fn first_ill_typed(task: &Task, params: &[Alternatives], objects: &[u16]) -> Option<u32>
     requires few { length params.now ≤ 32 }
     requires beside { length objects.now ≡ length params.now }
@@ -73,6 +74,7 @@ pub(crate) fn first_ill_typed(task: &Task, params: &[Alternatives], objects: &[u
 }
 
 /// Whether an object is of one of these types, or of one below them.
+#[inline(always)]
 fn object_fits(task: &Task, alternatives: &[u16], object: u16) -> bool
     requires types { All (λ type. type < length task.now.parents) alternatives.now }
     requires known { object < length task.now.objects }

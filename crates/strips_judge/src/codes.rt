@@ -97,6 +97,7 @@ impl CodeBuffer {
 }
 
 /// Takes a step by its code if everything that the code asks for holds, and otherwise changes nothing. Returns whether it did. Takes no memory.
+#[inline(always)]
 pub fn take_by_code(state: &mut NumberedState<'_>, code: StepCode<'_>) -> bool
     requires { All (λ number. number < length state.old.atoms) (code_shown code).added }
     ensures taken { IsTrue result → (parts : TaskParts) (step : StepText) → IsCode parts state.old.atoms step (code_shown code.entry)
@@ -117,6 +118,7 @@ pub fn take_by_code(state: &mut NumberedState<'_>, code: StepCode<'_>) -> bool
 }
 
 /// Whether all atoms with these numbers are true, or all are false.
+#[inline(always)]
 fn all_are(state: &NumberedState<'_>, numbers: &[u32], truth: bool) -> bool
     ensures { IsTrue result → (ground : List Atom) → AreNumbers state.now.atoms ground numbers.now → All (λ atom. state_of state.now atom ≡ truth) ground }
 {
@@ -128,6 +130,7 @@ fn all_are(state: &NumberedState<'_>, numbers: &[u32], truth: bool) -> bool
     true
 }
 
+#[inline(always)]
 fn clear_all(state: &mut NumberedState<'_>, numbers: &[u32])
     ensures state { (ground : List Atom) → AreNumbers state.old.atoms ground numbers.now → state_of state.new ≡ without (state_of state.old) ground }
     ensures atoms { state.new.atoms ≡ state.old.atoms }
@@ -138,6 +141,7 @@ fn clear_all(state: &mut NumberedState<'_>, numbers: &[u32])
     }
 }
 
+#[inline(always)]
 fn set_all(state: &mut NumberedState<'_>, numbers: &[u32])
     requires { All (λ number. number < length state.old.atoms) numbers.now }
     ensures state { (ground : List Atom) → AreNumbers state.old.atoms ground numbers.now → state_of state.new ≡ with_all (state_of state.old) ground }

@@ -57,6 +57,7 @@ pub(crate) fn missing_ground(
 }
 
 /// Whether a condition of an action holds when the parameters are bound to these objects. The last argument is room for its atom.
+#[inline(always)]
 pub(crate) fn holds(
     state: &mut NumberedState<'_>,
     cond: &Cond,

@@ -10,6 +10,7 @@ use std::alloc::{AllocError, Global};
 use strips_task::{Action, Atom, Pattern};
 
 /// Changes a state as an action with these objects does.
+#[inline(always)]
 pub(crate) fn apply(
     alloc: Global,
     state: &mut NumberedState<'_>,
@@ -27,6 +28,7 @@ pub(crate) fn apply(
     insert_all(alloc, state, action.add.as_slice(), objects, atom)
 }
 
+#[inline(always)]
 fn remove_all(
     state: &mut NumberedState<'_>,
     patterns: &[Pattern],
@@ -43,6 +45,7 @@ fn remove_all(
     Ok(())
 }
 
+#[inline(always)]
 fn insert_all(
     alloc: Global,
     state: &mut NumberedState<'_>,

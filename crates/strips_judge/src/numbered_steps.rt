@@ -24,6 +24,7 @@ use strips_task::{Action, Atom, Cond, Task};
 /// of its effects may have happened.
 ///
 /// Takes one read of memory for each atom that was looked up before, a few more for each other one, and memory for atoms that have no number yet.
+#[inline(always)]
 pub fn take_numbered(
     alloc: Global,
     task: &Task,
@@ -74,6 +75,7 @@ pub fn code_of_numbered(
 }
 
 /// The action and the objects with these numbers, if the objects fit its parameters.
+#[inline(always)]
 fn bound<'t, 'n>(task: &'t Task, numbers: &'n [u16]) -> Option<(&'t Action, &'n [u16])>
     requires { AreWithin task.now numbers.now }
     ensures named { IfSome result (λ found. (step : StepText) → IsNumbered task.now step numbers.now
@@ -98,6 +100,7 @@ fn bound<'t, 'n>(task: &'t Task, numbers: &'n [u16]) -> Option<(&'t Action, &'n 
 }
 
 /// Whether all conditions of an action with these objects hold.
+#[inline(always)]
 fn all_hold(
     state: &mut NumberedState<'_>,
     conds: &[Cond],

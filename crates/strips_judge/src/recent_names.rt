@@ -2,8 +2,7 @@
 //!
 //! The steps of a plan name few objects, again and again. To find one in its table, a word is tested for being a name, folded, hashed and
 //! compared with a name elsewhere in memory. Here a word of at most 16 bytes is kept as it is written, in the slot of its bytes, next to its
-//! number. Of all words with the same slot, only the last one is here. As with `recent`, choosing words with the same slot only makes them be
-//! looked up.
+//! number. Of all words with the same slot, only the last one is here. Choosing words with the same slot only makes them be looked up.
 ghost use Rattle.std.specs.Prelude.{◌≡◌, ℕ, List, Option, All, IfOk, IfSome, Some, true};
 ghost use Rattle.pddl_words.specs.Words.{is_name, folded};
 ghost use Rattle.strips_judge.specs.RecentNames.{IsRecentName};
@@ -48,6 +47,7 @@ impl RecentNames {
     }
 
     /// The number of a word, if it is here.
+    #[inline(always)]
     pub(crate) fn find(&self, word: &[u8]) -> Option<u16>
         ensures { IfSome result (λ number. (number_of : List ℕ → Option ℕ) → All (IsRecentName number_of) self.now
             → (is_name word.now ≡ true) × (number_of (folded word.now) ≡ Some number)) }
@@ -62,6 +62,7 @@ impl RecentNames {
     }
 
     /// Keeps a name that was looked up with its number, in place of the word in its slot.
+    #[inline(always)]
     pub(crate) fn keep(&mut self, word: &[u8], number: u16) -> Result<(), AllocError>
         ensures { (number_of : List ℕ → Option ℕ) → is_name word.now ≡ true → number_of (folded word.now) ≡ Some number
             → All (IsRecentName number_of) self.old → All (IsRecentName number_of) self.new }
@@ -74,6 +75,7 @@ impl RecentNames {
     }
 
     /// Counts a word that was not found, and makes more slots if there are too few.
+    #[inline(always)]
     fn make_room(&mut self) -> Result<(), AllocError>
         ensures { (number_of : List ℕ → Option ℕ) → All (IsRecentName number_of) self.old → All (IsRecentName number_of) self.new }
     {

@@ -1,9 +1,9 @@
-//! How many slots a table of recently used things has.
+//! How many slots a table of recently used words has.
 //!
-//! There are none at first, so that a short plan takes no memory for them. Whenever as many things were not found as there are slots, there are four
+//! There are none at first, so that a short plan takes no memory for them. Whenever as many words were not found as there are slots, there are four
 //! times as many slots, up to a bound. No answer depends on it.
 
-/// How many things are looked up before there are slots, and how many slots there are then.
+/// How many words are looked up before there are slots, and how many slots there are then.
 const FIRST_SLOTS: usize = 1_024;
 
 /// How many times as many slots there are each time.
@@ -22,7 +22,7 @@ impl SlotCount {
         SlotCount { most, missed: 0 }
     }
 
-    /// Counts one thing that was not found among `slots` slots. Returns how many slots there should be, if there should be more.
+    /// Counts one word that was not found among `slots` slots. Returns how many slots there should be, if there should be more.
     pub(crate) fn miss(&mut self, slots: usize) -> Option<usize> {
         if self.missed < slots.max(FIRST_SLOTS) {
             self.missed += 1;

@@ -94,6 +94,7 @@ impl NumberedState<'_> {
 
     /// The number of the atom that a pattern stands for, if it has one. Takes a read of memory or two, and memory once in a long while. The last argument
     /// is room for an atom of many objects.
+    #[inline(always)]
     pub(crate) fn look_up(
         &mut self,
         pattern: &Pattern,
@@ -156,7 +157,7 @@ impl NumberedState<'_> {
     }
 
     /// The number of the atom of a key, if it has one, by the tables.
-    #[inline]
+    #[inline(always)]
     fn number_of_few(&self, key: AtomKey) -> Option<usize>
         requires { IsKeyOf (atom_of key) key }
         ensures { result ≡ number_in self.now.atoms (atom_of key) }
@@ -223,6 +224,7 @@ impl NumberedState<'_> {
     }
 
     /// The number of the atom that a pattern stands for. An atom without a number gets the next one. Whether it is true does not change.
+    #[inline(always)]
     pub(crate) fn number(
         &mut self,
         alloc: Global,
@@ -369,6 +371,7 @@ impl NumberedState<'_> {
     }
 
     /// Whether the atom that a pattern stands for is true. The last argument is room for the atom.
+    #[inline(always)]
     pub(crate) fn is_true(
         &mut self,
         pattern: &Pattern,
@@ -396,6 +399,7 @@ impl NumberedState<'_> {
     }
 
     /// Makes the atom that a pattern stands for true. Takes memory for an atom that has no number yet. The last argument is room for the atom.
+    #[inline(always)]
     pub(crate) fn insert(
         &mut self,
         alloc: Global,
@@ -413,6 +417,7 @@ impl NumberedState<'_> {
     }
 
     /// Makes the atom that a pattern stands for false. The last argument is room for the atom.
+    #[inline(always)]
     pub(crate) fn remove(
         &mut self,
         pattern: &Pattern,

@@ -56,6 +56,7 @@ impl<'t> StepNames<'t> {
     ///
     /// A name takes a hash and one read of memory if it was used recently, another one if it has at most 16 bytes, and otherwise one look-up in the
     /// task's table. Takes memory for that once.
+    #[inline(always)]
     pub fn number(&mut self, row: &[u8], numbers: &mut Vec<u16>) -> Result<bool, AllocError>
         ensures task { self.new ≡ self.old }
         ensures spelled { IfOk result (λ found. IsTrue found → IsSpelled row.now) }
@@ -74,6 +75,7 @@ impl<'t> StepNames<'t> {
     }
 
     /// The number of the action or the object that a word names, if it is a known name.
+    #[inline(always)]
     fn number_of(&mut self, is_action: bool, word: &[u8]) -> Result<Option<u16>, AllocError>
         ensures task { self.new ≡ self.old }
         ensures named { IfOk result (λ found. IfSome found (λ number. (is_name word.now ≡ true) × (number_by self.old is_action (folded word.now) ≡ Some number))) }
@@ -86,6 +88,7 @@ impl<'t> StepNames<'t> {
     }
 
     /// The number of the action that a word names.
+    #[inline(always)]
     fn action(&mut self, word: &[u8]) -> Result<Option<u16>, AllocError>
         ensures task { self.new ≡ self.old }
         ensures named { IfOk result (λ found. IfSome found (λ number. (is_name word.now ≡ true) × (number_named self.old.actions (folded word.now) ≡ Some number))) }
@@ -101,6 +104,7 @@ impl<'t> StepNames<'t> {
     }
 
     /// The number of the object that a word names.
+    #[inline(always)]
     fn object(&mut self, word: &[u8]) -> Result<Option<u16>, AllocError>
         ensures task { self.new ≡ self.old }
         ensures named { IfOk result (λ found. IfSome found (λ number. (is_name word.now ≡ true) × (number_named self.old.objects (folded word.now) ≡ Some number))) }
@@ -116,6 +120,7 @@ impl<'t> StepNames<'t> {
     }
 
     /// The number of the action that a word names, by the task's tables.
+    #[inline(always)]
     fn action_in_table(&mut self, word: &[u8]) -> Result<Option<u16>, AllocError>
         ensures task { self.new ≡ self.old }
         ensures named { IfOk result (λ found. IfSome found (λ number. (is_name word.now ≡ true) × (number_named self.old.actions (folded word.now) ≡ Some number))) }
@@ -141,6 +146,7 @@ impl<'t> StepNames<'t> {
     }
 
     /// The number of the object that a word names, by the task's tables.
+    #[inline(always)]
     fn object_in_table(&mut self, word: &[u8]) -> Result<Option<u16>, AllocError>
         ensures task { self.new ≡ self.old }
         ensures named { IfOk result (λ found. IfSome found (λ number. (is_name word.now ≡ true) × (number_named self.old.objects (folded word.now) ≡ Some number))) }

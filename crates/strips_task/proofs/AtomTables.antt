@@ -10,7 +10,7 @@ use Rattle.strips_task.specs.declared.atom_keys.AtomKey.{AtomKey}
 use Rattle.strips_task.specs.Atom.{atom_eq}
 use Rattle.strips_task.specs.AtomKeys.{IsKeyOf, atom_of, key_of}
 use Rattle.strips_task.specs.AtomNumbers.{number_in}
-use Rattle.strips_task.specs.AtomTables.{AreFound, IsAtomTable, atom_at, atoms_of, long_atom}
+use Rattle.strips_task.specs.AtomTables.{AreKept, IsAtomTable, atom_at, atoms_of, long_atom}
 use Rattle.strips_task.specs.KnownAtoms.{AreRight, IsKnown, Known, key_in}
 use Rattle.strips_task.specs.LongAtoms.{long_number}
 use Rattle.strips_task.proofs.AtomEquality.{atom_same}
@@ -75,7 +75,7 @@ atoms_of-many long more entries atom number entry within is at many =
         ∙ ap (long_atom (long ++ (atom, number) ∷ [])) at
         ∙ ap (λ o. option_map_or (λ (e : Atom × ℕ). e.0) o (record { pred = 0; args = [] })) (at_end long (atom, number))
 
-module _ (atoms : List Atom) (slots : Known) (long : List (Atom × ℕ)) (atom : Atom) (found : AreFound atoms slots long) (none : number_in atoms atom ≡ None) where
+module _ (atoms : List Atom) (slots : Known) (long : List (Atom × ℕ)) (atom : Atom) (found : AreKept atoms slots long) (none : number_in atoms atom ≡ None) where
   -- the slots are still right
   right_for_more : AreRight (λ key. number_in (atoms ++ atom ∷ []) (atom_of key)) slots
   right_for_more = λ k d lt full. index-stays (atom_eq (atom_of (key_in (get_or slots.slots k d)))) 0 _ atoms (atom ∷ []) (found.right k d lt full)
@@ -94,7 +94,7 @@ module _ (atoms : List Atom) (slots : Known) (long : List (Atom × ℕ)) (atom :
 
   -- one atom of few objects more
   found_few : (new : Known) → length atom.args ≤ 4 → ((other : AtomKey) → IsKnown slots other → IsKnown new other) → IsKnown new (key_of atom)
-      → AreRight (λ key. number_in (atoms ++ atom ∷ []) (atom_of key)) new → AreFound (atoms ++ atom ∷ []) new long
+      → AreRight (λ key. number_in (atoms ++ atom ∷ []) (atom_of key)) new → AreKept (atoms ++ atom ∷ []) new long
   found_few new are_few still here right =
       record {
         right = right;
@@ -111,7 +111,7 @@ module _ (atoms : List Atom) (slots : Known) (long : List (Atom × ℕ)) (atom :
 
   -- one atom of many objects more
   found_many : (more : List (Atom × ℕ)) → 4 < length atom.args → long_number more atom ≡ Some (length atoms)
-      → ((other : Atom) → atom_eq atom other ≡ false → long_number more other ≡ long_number long other) → AreFound (atoms ++ atom ∷ []) slots more
+      → ((other : Atom) → atom_eq atom other ≡ false → long_number more other ≡ long_number long other) → AreKept (atoms ++ atom ∷ []) slots more
   found_many more are_many here others =
       record {
         right = right_for_more;
@@ -164,7 +164,7 @@ module _ (entries : List AtomKey) (slots : Known) (long : List (Atom × ℕ)) (t
       let atoms : List Atom = atoms_of long entries in
       let few : key.head / 65536 ≤ 4 = few_said key is in
       record {
-        found = subst (λ (l : List Atom). AreFound l new long) (sym (atoms_of-few long entries key few))
+        found = subst (λ (l : List Atom). AreKept l new long) (sym (atoms_of-few long entries key few))
             (found_few atoms slots long (atom_of key) table.found none new is.few still (subst (IsKnown new) is.key_is known)
             (right (λ k. number_in (atoms ++ atom_of key ∷ []) (atom_of k)) (number_in-push_new atoms (atom_of key) (atom_of key) refl none)
             (right_for_more atoms slots long (atom_of key) table.found none)));
@@ -178,7 +178,7 @@ module _ (entries : List AtomKey) (slots : Known) (long : List (Atom × ℕ)) (t
       → IsAtomTable (entries ++ entry ∷ []) slots more
   table_many atom number more entry are_many none count is at many here others =
       record {
-        found = subst (λ (l : List Atom). AreFound l slots more) (sym (atoms_of-many long more entries atom number entry table.within is at many))
+        found = subst (λ (l : List Atom). AreKept l slots more) (sym (atoms_of-many long more entries atom number entry table.within is at many))
             (found_many (atoms_of long entries) slots long atom table.found none more are_many (here ∙ ap Some count) others);
         within = within;
       }

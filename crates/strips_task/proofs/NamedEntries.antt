@@ -1,21 +1,24 @@
--- The entry of a number, and the numbers of names when an entry is added at the end.
+-- The entry of a number, and the numbers of names when an entry is added at the end or takes another value.
 
-use Rattle.std.proofs.Common.{◌≡◌, ℕ, ◌<◌, Bool, true, false, cond, unwrap_or, ◌+◌, suc, List, [], ◌∷◌, ◌++◌, length, All, Option, None, Some, refl, ap, sym, ◌∙◌, subst, arith, slice_get, zero-add}
+use Rattle.std.proofs.Common.{◌≡◌, ℕ, ◌<◌, Bool, true, false, cond, unwrap_or, ◌+◌, suc, List, [], ◌∷◌, ◌++◌, length, All, Option, None, Some, if◌then◌else◌, is_some, true≢false, refl, ap, sym, ◌∙◌, subst, arith, slice_get, zero-add}
 use Rattle.std.specs.List.{position_from}
-use Rattle.std.specs.Map.{keys_of}
+use Rattle.std.specs.Map.{keys_of, lookup}
 use Rattle.std.specs.Str.{bytes_eq}
+use Rattle.std.proofs.lemmas.Iterator.Adapters.{position_from-zero}
 use Rattle.std.proofs.lemmas.List.{map-append}
 use Rattle.std.proofs.lemmas.Option.{slice_get_within}
 use Rattle.std.proofs.lemmas.Slice.Eq.{bytes_eq-Decides}
 use Rattle.std.specs.Option.{option_map}
+use Rattle.indexmap.specs.IndexMap.{insert_entry}
+use Rattle.indexmap.proofs.MapLemmas.{absent_from_lookup, insert_entry-absent, some_index}
 use Rattle.pddl_words.specs.Words.{is_name, folded}
 use Rattle.joined_bytes.specs.declared.short_words.ShortWord.{ShortWord}
 use Rattle.joined_bytes.specs.ShortWords.{IsWord}
 use Rattle.joined_bytes.proofs.ShortWordLaws.{one_word}
 use Rattle.strips_task.specs.declared.short_names.Numbered.{Numbered}
-use Rattle.strips_task.specs.Names.{number_named, IsStoredName}
+use Rattle.strips_task.specs.Names.{number_named, are_distinct, with_entry, IsStoredName}
 use Rattle.strips_task.specs.ShortNames.{IsNumbered, IsTable}
-use Rattle.strips_task.proofs.NameNumbers.{entries_distinct}
+use Rattle.strips_task.proofs.NameNumbers.{entries_distinct, unnamed}
 
 -- the entry with a number that a name has
 entry_from : {V : Type 0} (name : List ℕ) (at number : ℕ) (entries : List (List ℕ × V)) → position_from (bytes_eq name) at (keys_of entries) ≡ Some number
@@ -135,3 +138,107 @@ name_numbered {V} entries more name bytes value short number is new last stored 
       subst IsStoredName (sym word_is) stored,
       ap (λ (es : List (List ℕ × V)). number_named es word) is ∙ ap (number_named (entries ++ (name, value) ∷ [])) word_is ∙ named_last entries name value new ∙ ap Some (sym last),
     )
+
+-- an entry with a new name goes last
+pub inserted_new : {V : Type 0} (entries : List (List ℕ × V)) (name : List ℕ) (value : V) → number_named entries name ≡ None
+    → with_entry entries name value ≡ entries ++ (name, value) ∷ []
+inserted_new entries name value new =
+    insert_entry-absent bytes_eq name value entries (absent_from_lookup (bytes_eq name) entries (unnamed entries name new))
+
+-- where a look-up finds none, the name has no number
+pub none_looked_up : {V : Type 0} (entries : List (List ℕ × V)) (name : List ℕ) → lookup (bytes_eq name) entries ≡ None → number_named entries name ≡ None
+unfolding number_named
+none_looked_up {V} entries name h = by (number_named entries name) refl
+  where
+    by : (r : Option ℕ) → number_named entries name ≡ r → number_named entries name ≡ None
+    by None e = e
+    by (Some number) e =
+        absurd (true≢false (sym (ap is_some (position_from-zero (bytes_eq name) (keys_of entries) ∙ e)) ∙ some_index (bytes_eq name) entries ∙ ap is_some h))
+
+-- the first entry with a name has the value that a look-up finds
+value_from : {V : Type 0} (name : List ℕ) (at : ℕ) (value : V) (entries : List (List ℕ × V)) → lookup (bytes_eq name) entries ≡ Some value
+    → (k : ℕ) × (position_from (bytes_eq name) at (keys_of entries) ≡ Some (at + k)) × (slice_get entries k ≡ Some (name, value))
+value_from name at value [] h = cc
+value_from {V} name at value ((key, v) ∷ entries) h = by (value_from name (at + 1) value entries) (bytes_eq name key) refl
+  where
+    by : (lookup (bytes_eq name) entries ≡ Some value
+        → ((k : ℕ) × (position_from (bytes_eq name) (at + 1) (keys_of entries) ≡ Some (at + 1 + k)) × (slice_get entries k ≡ Some (name, value))))
+        → (test : Bool) → bytes_eq name key ≡ test
+        → (k : ℕ) × (position_from (bytes_eq name) at (keys_of ((key, v) ∷ entries)) ≡ Some (at + k)) × (slice_get ((key, v) ∷ entries) k ≡ Some (name, value))
+    by rest true e =
+        let same : name ≡ key = (bytes_eq-Decides name key).0 e in
+        let here : Some v ≡ Some value = sym (ap (λ b. cond b (Some v) (lookup (bytes_eq name) entries)) e) ∙ h in
+        let first : at ≡ at + 0 = omega arith in (
+          0,
+          ap (λ b. cond b (Some at) (position_from (bytes_eq name) (at + 1) (keys_of entries))) e ∙ ap Some first,
+          ap (λ n. Some (n, v)) (sym same) ∙ ap (option_map (λ (w : V). (name, w))) here,
+        )
+    by rest false e =
+        let there = rest (sym (ap (λ b. cond b (Some v) (lookup (bytes_eq name) entries)) e) ∙ h) in
+        let k : ℕ = there.0 in
+        let far : at + 1 + k ≡ at + suc k = omega arith in
+        (suc k, ap (λ b. cond b (Some at) (position_from (bytes_eq name) (at + 1) (keys_of entries))) e ∙ there.1 ∙ ap Some far, there.2)
+
+-- a look-up finds the value of the entry with the name's number
+pub value_looked_up : {V : Type 0} (entries : List (List ℕ × V)) (name : List ℕ) (value : V) → lookup (bytes_eq name) entries ≡ Some value
+    → (number : ℕ) × (number_named entries name ≡ Some number) × (slice_get entries number ≡ Some (name, value))
+unfolding number_named
+value_looked_up entries name value h =
+    let found = value_from name 0 value entries h in
+    (found.0, found.1 ∙ ap Some (zero-add found.0), found.2)
+
+-- an entry that has the value already stays the same
+kept_again : {V : Type 0} (entries : List (List ℕ × V)) (name : List ℕ) (value : V) → lookup (bytes_eq name) entries ≡ Some value
+    → insert_entry bytes_eq entries name value ≡ entries
+kept_again [] name value h = cc
+kept_again {V} ((key, v) ∷ entries) name value h = by (kept_again entries name value) (bytes_eq name key) refl
+  where
+    by : (lookup (bytes_eq name) entries ≡ Some value → insert_entry bytes_eq entries name value ≡ entries) → (test : Bool) → bytes_eq name key ≡ test
+        → insert_entry bytes_eq ((key, v) ∷ entries) name value ≡ (key, v) ∷ entries
+    by rest true e =
+        let here : Some v ≡ Some value = sym (ap (λ b. cond b (Some v) (lookup (bytes_eq name) entries)) e) ∙ h in
+        let same : value ≡ v = cc in
+        ap (λ b. if b then (key, value) ∷ entries else (key, v) ∷ insert_entry bytes_eq entries name value) e ∙ ap (λ w. (key, w) ∷ entries) same
+    by rest false e =
+        ap (λ b. if b then (key, value) ∷ entries else (key, v) ∷ insert_entry bytes_eq entries name value) e
+        ∙ ap (λ es. (key, v) ∷ es) (rest (sym (ap (λ b. cond b (Some v) (lookup (bytes_eq name) entries)) e) ∙ h))
+
+-- an entry that is inserted again with the value that it has, by the number of its name, stays the same
+pub inserted_again : {V : Type 0} (entries : List (List ℕ × V)) (name : List ℕ) (value : V) (number : ℕ) → number_named entries name ≡ Some number
+    → slice_get entries number ≡ Some (name, value) → with_entry entries name value ≡ entries
+inserted_again {V} entries name value number named at = kept_again entries name value (by (lookup (bytes_eq name) entries) refl)
+  where
+    by : (r : Option V) → lookup (bytes_eq name) entries ≡ r → lookup (bytes_eq name) entries ≡ Some value
+    by None e = let none : None ≡ Some number = sym (none_looked_up entries name e) ∙ named in cc
+    by (Some w) e =
+        let found = value_looked_up entries name w e in
+        let first : Some found.0 ≡ Some number = sym found.1 ∙ named in
+        let number_is : found.0 ≡ number = cc in
+        let same : Some (name, w) ≡ Some (name, value) = sym found.2 ∙ ap (slice_get entries) number_is ∙ at in
+        e ∙ ap (option_map (λ (entry : List ℕ × V). entry.1)) same
+
+-- names stay, in their order, when an entry takes another value
+pub keys_kept : {V : Type 0} (entries : List (List ℕ × V)) (name : List ℕ) (value before : V) → lookup (bytes_eq name) entries ≡ Some before
+    → keys_of (insert_entry bytes_eq entries name value) ≡ keys_of entries
+keys_kept [] name value before h = cc
+keys_kept {V} ((key, v) ∷ entries) name value before h = by (keys_kept entries name value before) (bytes_eq name key) refl
+  where
+    by : (lookup (bytes_eq name) entries ≡ Some before → keys_of (insert_entry bytes_eq entries name value) ≡ keys_of entries) → (test : Bool) → bytes_eq name key ≡ test
+        → keys_of (insert_entry bytes_eq ((key, v) ∷ entries) name value) ≡ key ∷ keys_of entries
+    by rest true e = ap (λ b. keys_of (if b then (key, value) ∷ entries else (key, v) ∷ insert_entry bytes_eq entries name value)) e
+    by rest false e =
+        ap (λ b. keys_of (if b then (key, value) ∷ entries else (key, v) ∷ insert_entry bytes_eq entries name value)) e
+        ∙ ap (λ keys. key ∷ keys) (rest (sym (ap (λ b. cond b (Some v) (lookup (bytes_eq name) entries)) e) ∙ h))
+
+-- an entry that takes another value leaves a table a table
+pub table_again : {V : Type 0} (entries more : List (List ℕ × V)) (name : List ℕ) (value before : V) (slots : List Numbered)
+    → more ≡ insert_entry bytes_eq entries name value → lookup (bytes_eq name) entries ≡ Some before → IsTable entries slots → IsTable more slots
+unfolding number_named
+table_again {V} entries more name value before slots is there table =
+    let keys : keys_of more ≡ keys_of entries = ap keys_of is ∙ keys_kept entries name value before there in
+    let numbers : number_named more ≡ number_named entries =
+    ap {B = List ℕ → Option ℕ} (λ names word. position_from (bytes_eq word) 0 names) keys in
+    record {
+      distinct = ap are_distinct keys ∙ table.distinct;
+      numbered = subst (λ (number_of : List ℕ → Option ℕ). All (IsNumbered number_of) slots) (sym numbers) table.numbered;
+    }

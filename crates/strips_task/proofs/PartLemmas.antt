@@ -2,7 +2,6 @@
 
 use Rattle.std.proofs.Common.{◌≡◌, ℕ, ◌+◌, ◌-◌, ◌<◌, ◌≤◌, zero, suc, List, [], ◌∷◌, ◌++◌, length, take, drop, refl, ap, sym, ◌∙◌, subst, arith, slice_get, Some, get_or, length-drop}
 use Rattle.std.proofs.lemmas.List.{take-append-le, drop-append-le, take_all}
-use Rattle.std.proofs.lemmas.Option.{slice_get-get_or}
 use Rattle.std.proofs.Math.Seq.{drop-append_seam}
 use Rattle.strips_task.specs.Parts.{parts_from, AreEnds}
 
@@ -63,7 +62,3 @@ parts_push xs ys start (end ∷ ends) more h e =
     let count : end - start ≤ length (drop start xs) = omega (arith, length-drop start xs) in
     (λ j. (ap (take (end - start)) (drop-append-le start xs ys starts_in) ∙ take-append-le (end - start) (drop start xs) ys count) j
     ∷ parts_push xs ys end ends more h.1 e j)
-
--- an item within the list doesn't depend on what stands past it
-pub get_or_any : (xs : List ℕ) (i d e : ℕ) → i < length xs → get_or xs i d ≡ get_or xs i e
-get_or_any xs i d e lt = let a = slice_get-get_or xs i d lt in let b = slice_get-get_or xs i e lt in cc

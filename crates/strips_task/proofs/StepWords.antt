@@ -1,6 +1,6 @@
 -- The words of a step among the words of a plan.
 
-use Rattle.std.proofs.Common.{◌≡◌, ℕ, ◌+◌, ◌-◌, ◌<◌, ◌≤◌, zero, suc, List, [], ◌∷◌, ◌++◌, length, take, drop, refl, ap, sym, ◌∙◌, arith, slice_get, Some, length-drop, length-append, append_assoc, All, map}
+use Rattle.std.proofs.Common.{◌≡◌, ℕ, ◌+◌, ◌-◌, ◌<◌, ◌≤◌, zero, suc, List, [], ◌∷◌, ◌++◌, length, take, drop, refl, ap, sym, ◌∙◌, arith, slice_get, Some, length-drop, length-append, All, map}
 use Rattle.std.proofs.lemmas.List.{take-append-le, drop-append-le, take_all, map-append}
 use Rattle.std.proofs.lemmas.List.Elements.{All-push}
 use Rattle.std.proofs.Math.Seq.{drop-append_seam}
@@ -64,13 +64,6 @@ arg_at words first end index lt le within =
     ∙ slice_get-drop words (suc first) index
     ∙ ap (slice_get words) (let e : suc first + index ≡ first + 1 + index = omega arith in e)
 
--- one more word, and one more, make an extension
-pub extends_more : (old mid : List (List ℕ)) (word : List ℕ) (new : List (List ℕ)) → IsExtension old mid → new ≡ mid ++ word ∷ [] → IsExtension old new
-extends_more old mid word new ext e = record {
-  more = ext.more ++ word ∷ [];
-  extends = e ∙ ap (λ l. l ++ word ∷ []) ext.extends ∙ append_assoc old ext.more (word ∷ []);
-}
-
 -- the words of a range stay where more words come behind them
 range_kept : (words more : List (List ℕ)) (range : StepRange) → IsStepRange (length words) range → step_at (words ++ more) range ≡ step_at words range
 range_kept words more range h =
@@ -125,11 +118,6 @@ ranges_more words new ranges after more first end h grown some ranged starts end
     (All-push (IsStepRange (length new)) ranges (record { first = first; end = end })
     (λ k d lt. let old = h k d lt in (old.0, omega (arith, old.1)))
     (omega arith, omega arith))
-
-pub ranges_extended : (words new : List (List ℕ)) (ranges : List StepRange) → All (IsStepRange (length words)) ranges → IsExtension words new
-    → All (IsStepRange (length new)) ranges
-ranges_extended words new ranges h ext =
-    λ k d lt. let old = h k d lt in (old.0, omega (arith, old.1, ap length ext.extends, length-append words ext.more))
 
 pub steps_extended : (words new : List (List ℕ)) (ranges : List StepRange) → All (IsStepRange (length words)) ranges → IsExtension words new
     → map (step_at new) ranges ≡ map (step_at words) ranges

@@ -29,12 +29,12 @@ abbrev pub atoms_of : List (Atom × ℕ) → List AtomKey → List Atom
 atoms_of long entries = map (atom_at long) entries
 
 -- each atom that has a number is found: the slots have the right numbers, and that of each atom of few objects; beside them are those of the atoms of many
-pub record AreFound (atoms : List Atom) (slots : Known) (long : List (Atom × ℕ)) : Type 0 where
+pub record AreKept (atoms : List Atom) (slots : Known) (long : List (Atom × ℕ)) : Type 0 where
   pub right : AreRight (λ key. number_in atoms (atom_of key)) slots
   pub few : (atom : Atom) (number : ℕ) → length atom.args ≤ 4 → number_in atoms atom ≡ Some number → IsKnown slots (key_of atom)
   pub many : (atom : Atom) → 4 < length atom.args → long_number long atom ≡ number_in atoms atom
 
 -- a table: each of its atoms is found, and each entry for an atom of many objects has an index among those
 pub record IsAtomTable (entries : List AtomKey) (slots : Known) (long : List (Atom × ℕ)) : Type 0 where
-  pub found : AreFound (atoms_of long entries) slots long
+  pub found : AreKept (atoms_of long entries) slots long
   pub within : All (λ entry. 4 < entry.head / 65536 → entry.objects < length long) entries

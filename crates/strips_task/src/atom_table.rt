@@ -119,6 +119,7 @@ impl AtomTable {
 
     /// How many of the atoms of these keys are surely not here, as one read of memory for each tells: at least so many slots will be wanted. The reads come
     /// directly one after the other, so that the processor waits for several of them at the same time. No answer depends on it.
+    #[inline(always)]
     pub fn surely_new(&self, keys: &[AtomKey]) -> usize
         ensures { result ≤ length keys.now }
     {
@@ -178,7 +179,9 @@ impl AtomTable {
         Ok(number)
     }
 
-    /// Adds the atom of a key at the end, unless it is here, and answers its number.
+    /// Adds the atom of a key at the end, unless it is here, and answers its number. If there is no room for one atom more and no memory, it is refused
+    /// even if the atom is here.
+    #[inline(always)]
     pub fn insert_few(&mut self, key: AtomKey) -> Result<u32, AllocError>
         requires { IsKeyOf (atom_of key) key }
         ensures ok { OnOk result (self.new ≡ insert_key atom_eq self.old (atom_of key)) }
@@ -227,6 +230,7 @@ impl AtomTable {
     }
 
     /// The number that comes next, if it has 32 bits.
+    #[inline(always)]
     fn next_number(&self) -> Result<u32, AllocError>
         ensures { IfOk result (λ number. number ≡ length self.now) }
     {

@@ -72,6 +72,7 @@ impl InitialAtoms {
     }
 
     /// Adds the atom of a key at the end, with one hash.
+    #[inline(always)]
     pub fn push_few(&mut self, key: AtomKey) -> Result<(), AllocError>
         requires { IsKeyOf (atom_of key) key }
         ensures ok { OnOk result (self.new ≡ self.old ++ atom_of key ∷ []) }

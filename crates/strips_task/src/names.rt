@@ -40,6 +40,7 @@ impl Model for Name {
 impl Name {
     /// The name that a word of a text stands for: the same bytes with the letters `A` to `Z` in lower case
     /// (PDDL 2.1, Fox and Long 2003: case is not significant).
+    #[inline(always)]
     pub fn from_word(alloc: Global, word: &[u8]) -> Result<Name, AllocError>
         requires { IsTrue (is_name word.now) }
         ensures { IfOk result (λ name. name ≡ folded word.now) }
@@ -50,6 +51,7 @@ impl Name {
     }
 
     /// The bytes of the name, in lower case.
+    #[inline(always)]
     pub fn as_bytes(&self) -> &[u8]
         ensures bytes { result.now ≡ self.now }
         ensures in_lower_case { folded self.now ≡ self.now }

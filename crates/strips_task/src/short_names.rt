@@ -143,10 +143,11 @@ impl ShortNames {
         )
     }
 
-    /// Makes twice as many slots if there are fewer than two for each of `names` names and one more.
+    /// Makes room for one more name, and twice as many slots if there are fewer than two for each of `names` names and one more.
     pub(crate) fn make_room(&mut self, names: usize) -> Result<(), AllocError>
         ensures { self.new ≡ self.old }
     {
+        self.names.reserve(1)?;
         if names < self.slots.len() / 2 {
             return Ok(());
         }
@@ -176,6 +177,7 @@ impl ShortNames {
     }
 
     /// Keeps a name with its number, if there is memory for it.
+    #[inline(always)]
     pub(crate) fn keep(&mut self, name: ShortWord, number: usize)
         ensures { (number_of : List ℕ → Option ℕ) → ((word : List ℕ) → IsWord name word → IsStoredName word × (number_of word ≡ Some number))
             → All (IsNumbered number_of) self.old → All (IsNumbered number_of) self.new }
@@ -227,6 +229,7 @@ fn put_all(slots: &mut Vec<Slot>, names: &[Numbered]) {
 }
 
 /// Puts the index of a name with a hash into the first of its slots that is free. If none is, or the index is too large for a slot, it is left out.
+#[inline(always)]
 fn put(slots: &mut Vec<Slot>, hash: u64, index: usize) {
     if slots.len() < WAYS || index >= u16::MAX as usize {
         return;
@@ -240,6 +243,7 @@ fn put(slots: &mut Vec<Slot>, hash: u64, index: usize) {
 }
 
 /// The index of the first slot of a hash that is free, if one is.
+#[inline(always)]
 fn free_slot(slots: &[Slot], hash: u64) -> Option<usize>
     requires { 8 ≤ length slots.now }
     ensures { IfSome result (λ index. index < length slots.now) }

@@ -1,14 +1,14 @@
 //! Tables of things that have names: objects, predicates and actions.
 //!
 //! The number of an entry is its index in the table. An entry is found by its number or by the bytes of its name. A look-up takes no memory. A name
-//! of at most 16 bytes is mostly found by one read of memory, among the short names. For any other word, the bytes are hashed once and compared with
+//! of at most 16 bytes is mostly found by two reads of memory, among the short names. For any other word, the bytes are hashed once and compared with
 //! a name elsewhere in memory.
-ghost use Rattle.std.specs.Prelude.{◌≡◌, ◌+◌, ◌<◌, ℕ, List, [], ◌∷◌, ◌++◌, true, length, slice_get, IsTrue, IfSome, OnOk, OnErr, IfErr, Some, None};
+ghost use Rattle.std.specs.Prelude.{◌≡◌, ◌+◌, ◌<◌, ℕ, List, [], ◌∷◌, ◌++◌, true, length, slice_get, IsTrue, IfOk, IfNone, IfSome, OnOk, OnErr, IfErr, Some, None};
 ghost use Rattle.pddl_words.specs.Words.{is_name, folded};
 ghost use Rattle.std.specs.Map.{keys_of, values_of};
 ghost use Rattle.std.specs.Map.Iter.{ShowsInOrder, deref};
 ghost use Rattle.std.specs.Option.{option_copied};
-ghost use Rattle.strips_task.specs.Names.{number_named, are_distinct};
+ghost use Rattle.strips_task.specs.Names.{number_named, are_distinct, with_entry};
 
 use crate::short_names::ShortNames;
 use crate::{Name, NameKey, Seed};
@@ -90,7 +90,7 @@ impl<V> NameTable<V> {
     }
 
     /// The number of the entry whose name the word spells in upper or lower case, if it is among the short names. If there is none, the name may be in
-    /// the table all the same, so it is looked up in lower case by `number_of`. Takes one read of memory for most names, and writes no bytes.
+    /// the table all the same, so it is looked up in lower case by `number_of`. Takes two reads of memory for most names, and writes no bytes.
     #[inline(always)]
     pub fn number_of_spelling(&self, word: &[u8]) -> Option<usize>
         ensures spelled { IfSome result (λ number. (is_name word.now ≡ true) × (number_named self.now (folded word.now) ≡ Some number)) }
@@ -117,6 +117,7 @@ impl<V> NameTable<V> {
     }
 
     /// The name and the value of the entry with a number.
+    #[inline(always)]
     pub fn get(&self, number: usize) -> (&Name, &V)
         requires { number < length self.now }
         ensures { slice_get self.now number ≡ Some (result.0.now, result.1.now) }
@@ -125,6 +126,7 @@ impl<V> NameTable<V> {
     }
 
     /// The value of the entry with a number, if there is one.
+    #[inline(always)]
     pub fn value(&self, number: usize) -> Option<&V>
         ensures { option_copied result ≡ slice_get (values_of self.now) number }
     {
@@ -154,34 +156,54 @@ impl<V: Drop> NameTable<V> {
         self.entries.reserve(count)
     }
 
-    /// Adds an entry at the end. Its name must be new, which `number_of` finds out. If memory runs out, the name and the value are given back.
-    pub fn push(&mut self, name: Name, value: V) -> Result<(), AllocFailed<(Name, V)>>
-        requires new_name { number_named self.old name ≡ None }
-        ensures ok { OnOk result (self.new ≡ self.old ++ (name, value) ∷ []) }
+    /// Gives a name a value, with one hash. An entry that has the name keeps its number, and its value before is given back. A new name goes last. If memory
+    /// runs out, the name and the value are given back.
+    pub fn insert(&mut self, name: Name, value: V) -> Result<Option<V>, AllocFailed<(Name, V)>>
+        ensures entries { OnOk result (self.new ≡ with_entry self.old name value) }
+        ensures absent { IfOk result (λ before. IfNone before (number_named self.old name ≡ None)) }
+        ensures present { IfOk result (λ before. IfSome before (λ before. (number : ℕ) × (number_named self.old name ≡ Some number)
+            × (slice_get self.old number ≡ Some (name, before)))) }
         ensures err { OnErr result (self.new ≡ self.old) }
         ensures value_returned { IfErr result (λ failed. failed.value ≡ (name, value)) }
     {
         match self.short_names.make_room(self.entries.len()) {
-            Ok(()) => self.push_entry(name, value),
+            Ok(()) => self.insert_entry(name, value),
             Err(AllocError) => Err(AllocFailed {
                 value: (name, value),
             }),
         }
     }
 
-    /// Adds an entry, as `push` does, and keeps its name among the short names if they have room for it.
-    fn push_entry(&mut self, name: Name, value: V) -> Result<(), AllocFailed<(Name, V)>>
-        requires new_name { number_named self.old name ≡ None }
-        ensures ok { OnOk result (self.new ≡ self.old ++ (name, value) ∷ []) }
+    /// Gives a name a value, as `insert` does, and keeps a new name among the short names if they have room for it.
+    #[inline(always)]
+    fn insert_entry(&mut self, name: Name, value: V) -> Result<Option<V>, AllocFailed<(Name, V)>>
+        ensures entries { OnOk result (self.new ≡ with_entry self.old name value) }
+        ensures absent { IfOk result (λ before. IfNone before (number_named self.old name ≡ None)) }
+        ensures present { IfOk result (λ before. IfSome before (λ before. (number : ℕ) × (number_named self.old name ≡ Some number)
+            × (slice_get self.old number ≡ Some (name, before)))) }
         ensures err { OnErr result (self.new ≡ self.old) }
         ensures value_returned { IfErr result (λ failed. failed.value ≡ (name, value)) }
     {
         let short = ShortWord::of(name.as_bytes());
         let number = self.entries.len();
-        self.entries.insert(name, value)?;
+        if let Some(before) = self.entries.insert(name, value)? {
+            return Ok(Some(before));
+        }
         if let Some(short) = short {
             self.short_names.keep(short, number);
         }
+        Ok(None)
+    }
+
+    /// Adds an entry at the end. Its name must be new, which `number_of` finds out. If memory runs out, the name and the value are given back.
+    #[tactic(auto, using(crate::proofs::NamedEntries::inserted_new))]
+    pub fn push(&mut self, name: Name, value: V) -> Result<(), AllocFailed<(Name, V)>>
+        requires new_name { number_named self.old name ≡ None }
+        ensures ok { OnOk result (self.new ≡ self.old ++ (name, value) ∷ []) }
+        ensures err { OnErr result (self.new ≡ self.old) }
+        ensures value_returned { IfErr result (λ failed. failed.value ≡ (name, value)) }
+    {
+        self.insert(name, value)?;
         Ok(())
     }
 }

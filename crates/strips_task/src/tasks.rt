@@ -110,6 +110,7 @@ impl Task {
     }
 
     /// The number of the type of the object with a number.
+    #[inline(always)]
     pub fn object_type(&self, number: u16) -> u16
         requires { number < length self.now.objects }
         ensures type_number { slice_get (values_of self.now.objects) number ≡ Some result }
@@ -127,6 +128,7 @@ impl Task {
     }
 
     /// The action with a number.
+    #[inline(always)]
     pub fn action(&self, number: u16) -> &Action
         requires { number < length self.now.actions }
         ensures action { slice_get (values_of self.now.actions) number ≡ Some result.now }
@@ -135,8 +137,8 @@ impl Task {
         self.parts.actions.get(usize::from(number)).1
     }
 
-    /// The number of the action with a name, by the bytes as they are: a word that is not in lower case has none. Takes one
-    /// read of memory for most names of at most 16 bytes ([`NameTable::number_of`]).
+    /// The number of the action with a name, by the bytes as they are: a word that is not in lower case has none. Takes two
+    /// reads of memory for most names of at most 16 bytes ([`NameTable::number_of`]).
     #[inline]
     pub fn action_named(&self, word: &[u8]) -> Option<u16>
         ensures number { result ≡ number_named self.now.actions word.now }
@@ -149,7 +151,7 @@ impl Task {
     }
 
     /// The number of the action whose name the word spells in upper or lower case. If there is none, the action may be known all the same, so it is looked
-    /// up in lower case by `action_named`. Takes one read of memory for most names of at most 16 bytes ([`NameTable::number_of_spelling`]).
+    /// up in lower case by `action_named`. Takes two reads of memory for most names of at most 16 bytes ([`NameTable::number_of_spelling`]).
     #[inline(always)]
     pub fn action_spelled(&self, word: &[u8]) -> Option<u16>
         ensures spelled { IfSome result (λ number. (is_name word.now ≡ true) × (number_named self.now.actions (folded word.now) ≡ Some number)) }
@@ -161,8 +163,8 @@ impl Task {
         }
     }
 
-    /// The number of the object with a name, by the bytes as they are: a word that is not in lower case has none. Takes one
-    /// read of memory for most names of at most 16 bytes ([`NameTable::number_of`]).
+    /// The number of the object with a name, by the bytes as they are: a word that is not in lower case has none. Takes two
+    /// reads of memory for most names of at most 16 bytes ([`NameTable::number_of`]).
     #[inline]
     pub fn object_named(&self, word: &[u8]) -> Option<u16>
         ensures number { result ≡ number_named self.now.objects word.now }
@@ -175,7 +177,7 @@ impl Task {
     }
 
     /// The number of the object whose name the word spells in upper or lower case. If there is none, the object may be known all the same, so it is looked
-    /// up in lower case by `object_named`. Takes one read of memory for most names of at most 16 bytes ([`NameTable::number_of_spelling`]).
+    /// up in lower case by `object_named`. Takes two reads of memory for most names of at most 16 bytes ([`NameTable::number_of_spelling`]).
     #[inline(always)]
     pub fn object_spelled(&self, word: &[u8]) -> Option<u16>
         ensures spelled { IfSome result (λ number. (is_name word.now ≡ true) × (number_named self.now.objects (folded word.now) ≡ Some number)) }
@@ -189,6 +191,7 @@ impl Task {
 
     /// Whether the first type is below the second: they are the same, or the second is the parent of the first, or its parent's parent, and so on
     /// (PDDL 2.1, Fox and Long 2003, section 2). Takes one read of a table.
+    #[inline(always)]
     pub fn is_subtype(&self, sub: u16, sup: u16) -> bool
         requires sub_known { sub < length self.now.parents }
         requires sup_known { sup < length self.now.parents }

@@ -324,6 +324,7 @@ fn objects_fit_types(parts: &TaskParts, objects: &[u16], allowed: &[Alternatives
 
 /// Whether there is an object with a number, and it fits an argument that may be of these types. Takes no memory.
 #[tactic(auto, using(crate::proofs::WellFormedTests::object_fitting, crate::proofs::WellFormedTests::object_unknown))]
+#[inline(always)]
 pub fn object_fits(parents: &TypeList, objects: &NameTable<u16>, number: u16, types: &[u16]) -> bool
     ensures { result ≡ is_fitting parents.now (term_types objects.now [] (Object number)) types.now }
 {

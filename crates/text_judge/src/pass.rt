@@ -58,6 +58,7 @@ pub(crate) fn pass(
 }
 
 /// Goes on by a step, or by a stamp or a number alone, or returns how the pass ends here.
+#[inline(always)]
 pub(crate) fn advance(
     alloc: Global,
     judge: &mut Judge<'_>,
@@ -77,6 +78,7 @@ pub(crate) fn advance(
 }
 
 /// Takes the next step by its words, or returns how the pass ends here.
+#[inline(always)]
 fn take_next(
     alloc: Global,
     judge: &mut Judge<'_>,
@@ -105,6 +107,7 @@ fn take_next(
 /// Takes the next step, if the bytes between its parentheses are its names with single spaces between them, and it is applicable. A step that the
 /// judge knows is found by those bytes as a whole. Before and after a step, it passes a stamp or a number instead. Returns whether it did either;
 /// otherwise the walk stays where it is.
+#[inline(always)]
 fn go_on(alloc: Global, judge: &mut Judge<'_>, walk: &mut PlanSteps<'_>) -> Result<bool, AllocError>
     requires { AreTogether walk.old judge.old }
     ensures task { judge.new.task ≡ judge.old.task }

@@ -14,6 +14,7 @@ use std::alloc::Global;
 use strips_task::{Alternatives, MOST_PREDICATES, Name, NameTable, Seq};
 
 /// The name that a word stands for.
+#[inline(always)]
 pub(crate) fn name(alloc: Global, word: NameWord<'_>) -> Result<Name, ReadFault>
     ensures { ReadsName result (folded word.entry.text.now) }
 {

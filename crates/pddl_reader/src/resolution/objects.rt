@@ -1,6 +1,7 @@
 //! Constants and objects are declared with their types.
 
-ghost use Rattle.std.specs.Prelude.{◌<◌, ◌≤◌, length, None};
+ghost use Rattle.std.specs.Prelude.{◌≡◌, ◌<◌, ◌≤◌, length, None};
+ghost use Rattle.pddl_words.specs.Words.{folded};
 ghost use Rattle.strips_task.specs.WellFormed.{most_types};
 ghost use Rattle.std.specs.Map.{keys_of};
 ghost use Rattle.pddl_syntax.specs.Forms.{name_forms, name_group_form, name_groups};
@@ -11,7 +12,7 @@ ghost use Rattle.pddl_syntax.specs.Reading.{Gives, GivesOption, Puts};
 use crate::resolution::names::{name, number_of};
 use pddl_syntax::{FaultKind, NameGroup, NameWord, ReadFault};
 use std::alloc::Global;
-use strips_task::{MOST_OBJECTS, NameTable};
+use strips_task::{MOST_OBJECTS, Name, NameTable};
 
 /// A number that no type has. Objects of an unknown type are declared with it first, since a fault of theirs is reported before that of the
 /// type's name.
@@ -33,8 +34,32 @@ pub(crate) fn type_number(
     }
 }
 
+/// Declares an object that is declared already with the same type. No other fits in.
+#[inline(never)]
+#[tactic(auto, using(crate::proofs::ObjectSteps::object_steps))]
+fn declare_again(
+    objects: &NameTable<u16>,
+    name: &Name,
+    word: NameWord<'_>,
+    kind: u16,
+) -> Result<(), ReadFault>
+    requires full { 65535 ≤ length objects.now }
+    requires name { name.now ≡ folded word.text.now }
+    ensures { Puts result (object_declared kind objects.now word.entry.text.now) objects.now }
+{
+    let Some(number) = objects.number_of(name.as_bytes()) else {
+        return Err(ReadFault::new(FaultKind::TooMany, word.span));
+    };
+    if *objects.get(number).1 == kind {
+        Ok(())
+    } else {
+        Err(ReadFault::new(FaultKind::Repeated, word.span))
+    }
+}
+
 /// Declares an object with its type.
 #[tactic(auto, using(crate::proofs::ObjectSteps::object_steps))]
+#[inline(always)]
 fn declare_object(
     alloc: Global,
     objects: &mut NameTable<u16>,
@@ -44,17 +69,14 @@ fn declare_object(
     ensures { Puts result (object_declared kind objects.old word.entry.text.now) objects.new }
 {
     let name = name(alloc, word)?;
-    if let Some(number) = objects.number_of(name.as_bytes()) {
-        if *objects.get(number).1 == kind {
-            return Ok(());
-        }
-        return Err(ReadFault::new(FaultKind::Repeated, word.span));
-    }
     if objects.len() >= MOST_OBJECTS {
-        return Err(ReadFault::new(FaultKind::TooMany, word.span));
+        return declare_again(objects, &name, word, kind);
     }
-    objects.push(name, kind)?;
-    Ok(())
+    match objects.insert(name, kind)? {
+        None => Ok(()),
+        Some(before) if before == kind => Ok(()),
+        Some(_) => Err(ReadFault::new(FaultKind::Repeated, word.span)),
+    }
 }
 
 /// Declares objects with one type.

@@ -54,6 +54,7 @@ impl RowNumbers {
     }
 
     /// Begins another row.
+    #[inline(always)]
     fn begin(&mut self)
         ensures { self.new ≡ [] }
     {
@@ -62,6 +63,7 @@ impl RowNumbers {
     }
 
     /// Adds the number of the next name.
+    #[inline(always)]
     fn push(&mut self, number: u16) -> Result<(), AllocError>
         ensures { OnOk result (self.new ≡ self.old ++ number ∷ []) }
     {
@@ -70,6 +72,7 @@ impl RowNumbers {
     }
 
     /// Whether the row has no name yet.
+    #[inline(always)]
     fn is_empty(&self) -> bool
         ensures { IsTrue result ↔ (self.now ≡ []) }
     {
@@ -77,6 +80,7 @@ impl RowNumbers {
     }
 
     /// The numbers.
+    #[inline(always)]
     fn as_slice(&self) -> &[u16]
         ensures { result.now ≡ self.now }
     {
@@ -84,6 +88,7 @@ impl RowNumbers {
     }
 
     /// The number at the place of the next name in the row before, or 0 if that was shorter.
+    #[inline(always)]
     fn near(&self) -> usize {
         match self.before.get(self.row.len()) {
             Some(number) => usize::from(*number),
@@ -94,6 +99,7 @@ impl RowNumbers {
 
 /// The number of the predicate that a word names as it is written. Then it is a name.
 #[tactic(auto, using(crate::proofs::TableSteps::named_as_written))]
+#[inline(always)]
 fn predicate_as_written(known: &Declared<'_>, word: &[u8], near: usize) -> Option<u16>
     ensures { IfSome result (λ number. (is_name word.now ≡ true) × (row_number (known_form known.now) true word.now ≡ Some number)) }
 {
@@ -105,6 +111,7 @@ fn predicate_as_written(known: &Declared<'_>, word: &[u8], near: usize) -> Optio
 
 /// The number of the object that a word names as it is written. Then it is a name.
 #[tactic(auto, using(crate::proofs::TableSteps::named_as_written))]
+#[inline(always)]
 fn object_as_written(known: &Declared<'_>, word: &[u8], near: usize) -> Option<u16>
     ensures { IfSome result (λ number. (is_name word.now ≡ true) × (row_number (known_form known.now) false word.now ≡ Some number)) }
 {
@@ -115,6 +122,7 @@ fn object_as_written(known: &Declared<'_>, word: &[u8], near: usize) -> Option<u
 }
 
 /// The number of the predicate or of the object that a word of a row names as it is written.
+#[inline(always)]
 fn number_as_written(known: &Declared<'_>, is_first: bool, word: &[u8], near: usize) -> Option<u16>
     ensures { IfSome result (λ number. (is_name word.now ≡ true) × (row_number (known_form known.now) is_first word.now ≡ Some number)) }
 {
@@ -127,6 +135,7 @@ fn number_as_written(known: &Declared<'_>, is_first: bool, word: &[u8], near: us
 
 /// Finds the numbers of the names of a row: the predicate's, and then those of the objects. Returns whether all words are known names as they are
 /// written.
+#[inline(always)]
 fn find_numbers(
     known: &Declared<'_>,
     row: &[u8],
@@ -147,6 +156,7 @@ fn find_numbers(
 }
 
 /// Whether there are as many objects as arguments, and they fit them one by one.
+#[inline(always)]
 fn all_fit(known: &Declared<'_>, objects: &[u16], argument_types: &[Alternatives]) -> bool
     ensures { result ≡ (nat_eq (length objects.now) (length argument_types.now)
         && list_all (λ p. is_fitting known.now.parents.now (term_types known.now.objects.now [] (Object p.0)) p.1) (zip objects.now argument_types.now)) }
@@ -155,18 +165,22 @@ fn all_fit(known: &Declared<'_>, objects: &[u16], argument_types: &[Alternatives
 }
 
 /// Whether each object fits the argument beside it.
+#[inline(always)]
 fn each_fits(known: &Declared<'_>, objects: &[u16], argument_types: &[Alternatives]) -> bool
+    requires { length objects.now ≡ length argument_types.now }
     ensures { result ≡ list_all (λ p. is_fitting known.now.parents.now (term_types known.now.objects.now [] (Object p.0)) p.1) (zip objects.now argument_types.now) }
 {
-    objects.iter().zip(argument_types).all(|(object, types)| object_fits(
-        known.parents,
-        known.objects,
-        *object,
-        types.as_slice(),
-    ))
+    for index in 0..objects.len() {
+        let types = argument_types[index].as_slice();
+        if !object_fits(known.parents, known.objects, objects[index], types) {
+            return false;
+        }
+    }
+    true
 }
 
 /// The predicate and the objects with these numbers, if the objects fit its arguments.
+#[inline(always)]
 fn fitting<'n>(known: &Declared<'_>, numbers: &'n [u16]) -> Option<(u16, &'n [u16])>
     ensures { IfSome result (λ found. (row : List ℕ) → row_numbers (known_form known.now) (words_of row) ≡ map Some numbers.now
         → ground_of (known_form known.now) (atom_spelled row) ≡ Some (record { pred = found.0; args = found.1.now })) }
@@ -185,6 +199,7 @@ fn fitting<'n>(known: &Declared<'_>, numbers: &'n [u16]) -> Option<(u16, &'n [u1
 
 /// The key of the atom that a row stands for, if its words are known names as they are written, and its objects fit and are at most four. The last
 /// argument is room for numbers.
+#[inline(always)]
 fn row_key(
     known: &Declared<'_>,
     row: &[u8],
@@ -247,6 +262,7 @@ pub(crate) fn next_atom(
 
 /// The key of the atom that the next literal stands for, if it is written as a row, has no fault and at most four objects. Otherwise no literal is
 /// passed.
+#[inline(always)]
 fn next_key(
     known: &Declared<'_>,
     literals: &mut Literals<'_>,

@@ -84,6 +84,7 @@ impl<'a> Literals<'a> {
     }
 
     /// The next literal as a row of bytes, if it may be an initial atom that is written as names with a single space between each two.
+    #[inline(always)]
     pub fn row(&self) -> Option<InitialRow<'a>>
         ensures { IfSome result (λ row. row.before ≡ self.now) }
     {
@@ -105,6 +106,7 @@ impl<'a> Literals<'a> {
     }
 
     /// Passes the next literal, which the words of its row must spell: all of them are names.
+    #[inline(always)]
     pub fn pass(&mut self, row: InitialRow<'a>)
         requires next { row.before ≡ self.old }
         requires spelled { AreNames row.bytes }
@@ -150,6 +152,7 @@ impl<'a> Model for InitialRow<'a> {
 
 impl<'a> InitialRow<'a> {
     /// The bytes.
+    #[inline(always)]
     pub fn bytes(&self) -> &'a [u8]
         ensures { result.now ≡ self.now.bytes }
     {
@@ -157,6 +160,7 @@ impl<'a> InitialRow<'a> {
     }
 
     /// The literals after it, if its words are names.
+    #[inline(always)]
     fn literals_after(self) -> Literals<'a>
         requires { AreNames self.bytes }
         ensures { self.entry.before ≡ atom_literal true (atom_spelled self.entry.bytes) ∷ result }

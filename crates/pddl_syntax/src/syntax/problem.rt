@@ -36,6 +36,7 @@ fn init_item(dialect: Dialect, walk: &mut Walk<'_>) -> Result<(), ReadFault>
 }
 
 /// Steps over the initial atom that follows, if it is written as names with a single space between each two. Returns whether it was.
+#[inline(always)]
 fn pass_row(walk: &mut Walk<'_>) -> bool
     ensures atom { IsTrue result → PassesAtom (here walk.old.cursor) (here walk.new.cursor) }
     ensures other { result ≡ false → here walk.new.cursor ≡ here walk.old.cursor }

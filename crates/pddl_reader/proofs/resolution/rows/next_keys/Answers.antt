@@ -1,4 +1,4 @@
-use Rattle.std.proofs.Common.{◌++◌, [], ◌∷◌, All, List, Option, IfSome, map, sym, subst}
+use Rattle.std.proofs.Common.{[], ◌∷◌, All, List, Option, IfSome, map, sym, subst}
 use Rattle.std.proofs.lemmas.List.{map-append}
 use Rattle.std.proofs.lemmas.List.Elements.{All-push}
 use Rattle.strips_task.specs.declared.atoms.Atom.{Atom}
