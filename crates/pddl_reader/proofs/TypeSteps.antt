@@ -1,11 +1,13 @@
 -- Types declared and ordered, one equation for each case.
 
-use Rattle.std.proofs.Common.{◌≡◌, ℕ, ◌+◌, ◌<◌, ◌≤◌, ◌++◌, Bool, true, false, ◌||◌, nat_lt, is_some, List, [], ◌∷◌, length, map, drop, Option, Some, None, if◌then◌else◌, refl, arith, length-append, append_assoc, add-one, suc, zero}
+use Rattle.std.proofs.Common.{◌≡◌, ℕ, ◌+◌, ◌<◌, ◌≤◌, ◌++◌, Bool, true, false, ◌||◌, nat_lt, is_some, List, [], ◌∷◌, length, map, drop, Option, Some, None, if◌then◌else◌, refl, ap, sym, ◌∙◌, arith, length-append, append_assoc, add-one, suc, zero}
 use Rattle.std.proofs.lemmas.List.{drop_all, append-nil}
 use Rattle.std.proofs.lemmas.Bool.{le-ltb, lt-ltb, ltb-true}
+use Rattle.std.proofs.lemmas.Slice.Eq.{bytes_eq-Decides}
 use Rattle.std.specs.List.{slice_get, list_any}
 use Rattle.std.specs.Str.{bytes_eq}
 use Rattle.pddl_words.specs.Words.{folded}
+use Rattle.pddl_words.specs.Kinds.{is_same_word}
 use Rattle.strips_task.specs.Names.{number_named}
 use Rattle.pddl_syntax.specs.declared.syntax.NameGroup as groups
 use Rattle.pddl_syntax.specs.declared.walk.NameWord.{NameWord}
@@ -18,6 +20,7 @@ use Rattle.pddl_syntax.specs.Optional.{guard, through}
 use Rattle.pddl_syntax.specs.Syntax.{NameGroup}
 use Rattle.pddl_reader.specs.TypeOrder.{TypeNames, TypeParents, numbered, under, counts_as_parent, declared_under, tables_of, type_declared, parent_numbered, group_declared, object_alone, types_declared, parent_name, parent_number, parents_of, is_tree, ordered, types_of}
 use Rattle.pddl_reader.specs.TypeCycles.{is_under_itself, numbers_cycle, names_cycle, declares_cycle}
+use Rattle.pddl_reader.specs.Tables.{value_named}
 use Rattle.pddl_reader.proofs.Items.{item_steps}
 use Rattle.pddl_reader.proofs.TableSteps.{value_unnamed, value_numbered}
 use Rattle.pddl_syntax.proofs.Guards.{guard_held}
@@ -67,7 +70,22 @@ pub under_new : (dialect : Dialect) (parents : TypeParents) (name parent : List 
 unfolding declared_under under
 under_new dialect parents name parent counts h = rw (counts, value_unnamed parents name h) refl
 
-pub ruleset under_steps = (under_idle, under_again, under_otherwise, under_new)
+pub found_under : (parents : TypeParents) (word parent key known : List ℕ) (number : ℕ) → number_named parents (folded word) ≡ Some number →
+    slice_get parents number ≡ Some (key, known) → folded known ≡ known → is_same_word known parent ≡ true → value_named parents (folded word) ≡ Some (folded parent)
+found_under parents word parent key known number h e lower same =
+    value_numbered parents (folded word) key number known h e ∙ ap Some (sym lower ∙ (bytes_eq-Decides (folded known) (folded parent)).0 same)
+
+-- a type that is under this parent already stays there, whether the declaration counts or not
+pub under_same : (dialect : Dialect) (parents : TypeParents) (name parent : List ℕ) → value_named parents name ≡ Some parent →
+    declared_under dialect parents name parent ≡ Some parents
+unfolding declared_under under guard
+under_same dialect parents name parent h = rw (h, (bytes_eq-Decides parent parent).1 refl) (by (counts_as_parent dialect parent))
+  where
+    by : (counts : Bool) → (if counts then Some parents else Some parents) ≡ Some parents
+    by true = refl
+    by false = refl
+
+pub ruleset under_steps = (under_same, under_idle, under_again, under_otherwise, under_new)
 
 pub type_unordered : (dialect : Dialect) (parent : List ℕ) (tables : TypeTables) (word : List ℕ) → declared_under dialect tables.parents (folded word) (folded parent) ≡ None →
     type_declared dialect parent tables word ≡ None

@@ -56,5 +56,5 @@ pub use compare::{is_plan_of, same_plans};
 pub use parts::{PartEnd, Parts, part_from};
 pub use pddl_tokens::Group;
 pub use read::read_plan;
-pub use step_at::read_step_at;
+pub use step_at::{FoundStep, find_step_at};
 pub use walk::{PlanSteps, StepWords, TextStep};

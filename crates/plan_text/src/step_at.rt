@@ -1,34 +1,37 @@
 //! One step of a plan text.
 
-ghost use Rattle.std.specs.Prelude.{◌≡◌, [], IfOk};
 ghost use Rattle.plan_text.specs.PlanReading.{plan_of};
-ghost use Rattle.plan_text.specs.StepAt.{step_at, IsStepAt};
+ghost use Rattle.plan_text.specs.StepAt.{step_at, IsWhere};
 
-use crate::walk::{PlanSteps, TextStep};
-use std::alloc::AllocError;
-use strips_task::OpenSteps;
+use crate::walk::{PlanSteps, StepWords, TextStep};
 
-/// Reads the step of a plan text with this index, counted from 0, into an empty `step`. Returns whether the plan has such a step; an
-/// unreadable plan has none.
+/// A step where it is written in a plan text.
+#[derive(Debug, Drop)]
+pub struct FoundStep<'a> {
+    /// Its words.
+    pub words: StepWords<'a>,
+    /// The bytes between its parentheses, if they are its names with a single space between each two.
+    pub key: Option<&'a [u8]>,
+}
+
+/// Finds the step of a plan text with this index, counted from 0. An unreadable plan has none.
 ///
-/// The text is read to its end, and no other step is kept. The only error is running out of memory.
-pub fn read_step_at(text: &[u8], index: usize, step: &mut OpenSteps) -> Result<bool, AllocError>
-    requires fresh { step.old ≡ record { steps = []; words = [] } }
-    ensures { IfOk result (λ found. IsStepAt found (step_at (plan_of text.now) index) step.new) }
+/// The text is read to its end. Takes no memory.
+pub fn find_step_at(text: &[u8], index: usize) -> Option<FoundStep<'_>>
+    ensures { IsWhere result (step_at (plan_of text.now) index) }
 {
-    let Some(mut walk) = PlanSteps::new(text) else {
-        return Ok(false);
-    };
+    let mut walk = PlanSteps::new(text)?;
+    let mut found = None;
     'steps: loop {
         let is_here = walk.count() == index;
         match walk.next_step() {
-            TextStep::Step { words, key: _ } => {
+            TextStep::Step { words, key } => {
                 if is_here {
-                    words.push_to(step)?;
+                    found = Some(FoundStep { words, key });
                 }
             }
-            TextStep::End => return Ok(index < walk.count()),
-            TextStep::Unreadable { line: _ } => return Ok(false),
+            TextStep::End => return found,
+            TextStep::Unreadable { line: _ } => return None,
         }
     }
 }

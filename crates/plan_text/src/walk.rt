@@ -1,6 +1,6 @@
 //! A walk over the steps of a plan text, none of which is kept.
 
-ghost use Rattle.std.specs.Prelude.{◌≡◌, ◌<◌, ◌≤◌, ◌^◌, [], ◌∷◌, ◌++◌, length, map, ℕ, List, false, IsTrue, MatchOption, IfSome, IfOk};
+ghost use Rattle.std.specs.Prelude.{◌≡◌, ◌<◌, ◌≤◌, ◌^◌, [], ◌∷◌, ◌++◌, length, map, take, ℕ, List, false, IsTrue, MatchOption, IfSome, IfOk};
 ghost use Rattle.pddl_words.specs.Words.{is_name, folded};
 ghost use Rattle.pddl_tokens.specs.declared.spans.Span.{Span};
 ghost use Rattle.pddl_tokens.specs.declared.spans.TokenKind.TheVariants.{Left};
@@ -125,6 +125,18 @@ impl<'a> StepWords<'a> {
         step.close_step()?;
         Ok(())
     }
+
+    /// Reads the first words, at most `most` of them, into an empty step, as `push_to` reads all. The only error is running out of memory.
+    pub fn push_front_to(&self, most: usize, step: &mut OpenSteps) -> Result<(), AllocError>
+        requires fresh { step.old ≡ record { steps = []; words = [] } }
+        requires some { 0 < length self.now }
+        requires one { 0 < most }
+        ensures { IfOk result (λ _. step.new ≡ record { steps = step_of (map folded (take most self.now)) ∷ []; words = [] }) }
+    {
+        push_front(self.fork(), most, step)?;
+        step.close_step()?;
+        Ok(())
+    }
 }
 
 /// Reads words into an open step, in lower case.
@@ -132,6 +144,19 @@ fn push_words(mut words: StepWords<'_>, step: &mut OpenSteps) -> Result<(), Allo
     ensures { IfOk result (λ _. step.new ≡ record { steps = step.old.steps; words = step.old.words ++ map folded words.entry }) }
 {
     'words: while let Some(word) = words.next() {
+        step.push_word(word)?;
+    }
+    Ok(())
+}
+
+/// Reads the first words, at most `most` of them, into an open step, in lower case.
+fn push_front(mut words: StepWords<'_>, most: usize, step: &mut OpenSteps) -> Result<(), AllocError>
+    ensures { IfOk result (λ _. step.new ≡ record { steps = step.old.steps; words = step.old.words ++ map folded (take most words.entry) }) }
+{
+    'words: for _ in 0..most {
+        let Some(word) = words.next() else {
+            return Ok(());
+        };
         step.push_word(word)?;
     }
     Ok(())

@@ -1,2 +1,3 @@
 pub mod CostTexts
 pub mod Rendering
+pub mod RowTexts

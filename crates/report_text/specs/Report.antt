@@ -63,6 +63,14 @@ why_text task step (UnknownObject arg) = codes "unknown object " ++ name_at step
 why_text task step (WrongType arg) = name_at step.args (arg - 1) ++ codes " has the wrong type"
 why_text task step (Missing conds) = codes "missing" ++ conditions_text task conds
 
+-- what is wrong with a step, whatever the step is, if that names none of its arguments
+abbrev pub plain_why_text : TaskParts → Why → List ℕ
+plain_why_text task UnknownAction = codes "unknown action"
+plain_why_text task WrongCount = codes "wrong number of arguments"
+plain_why_text task (UnknownObject arg) = []
+plain_why_text task (WrongType arg) = []
+plain_why_text task (Missing conds) = codes "missing" ++ conditions_text task conds
+
 -- a failing step and what is wrong with it
 abbrev pub failure_text : TaskParts → Option StepText → Why → List ℕ
 failure_text task None why = []

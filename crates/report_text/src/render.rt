@@ -1,13 +1,18 @@
 //! The text of atoms, steps, verdicts and findings, as reports show them.
 //!
 //! Each function adds its piece at the end of the text. Names come from the task, by number.
-ghost use Rattle.std.specs.Prelude.{◌≡◌, ◌++◌, ◌-◌, OnOk, Some, map};
+ghost use Rattle.std.specs.Prelude.{◌≡◌, ◌<◌, ◌++◌, ◌-◌, OnOk, IfSome, Some, length, map, slice_get};
+ghost use Rattle.std.specs.Option.{option_copied};
+ghost use Rattle.pddl_words.specs.SpacedWords.{words_of};
+ghost use Rattle.pddl_words.specs.Words.{folded};
 ghost use Rattle.plan_text.specs.PlanReading.{plan_of};
 ghost use Rattle.plan_text.specs.StepAt.{step_at};
 ghost use Rattle.std.specs.Map.{keys_of};
-ghost use Rattle.report_text.specs.Report.{name_at, spaced, atom_text, formula_text, condition_text, conditions_text, step_text, why_text, failure_text, verdict_text, judged_text};
+ghost use Rattle.report_text.specs.Report.{name_at, spaced, atom_text, formula_text, condition_text, conditions_text, step_text, why_text, plain_why_text, failure_text, verdict_text, judged_text};
 ghost use Rattle.report_text.specs.Format.{failure_in};
 ghost use Rattle.report_text.specs.Report.{as_judged};
+ghost use Rattle.strips_task.specs.Spelled.{IsSpelled, step_spelled};
+ghost use Rattle.strips_task.specs.Steps.{step_of};
 ghost use Rattle.strips_task.specs.StepView.{step_shown};
 
 use crate::costs::push_cost;
@@ -16,7 +21,8 @@ use crate::json::push_failure_members;
 use crate::table::push_failure_fields;
 use crate::text::Text;
 use intake_rules::Finding;
-use plan_text::read_step_at;
+use pddl_words::RowWords;
+use plan_text::{FoundStep, find_step_at};
 use std::alloc::AllocError;
 use strips_judge::{Verdict, Why};
 use strips_task::{Atom, GroundCond, GroundFormula, OpenSteps, Plan, StepView, Task};
@@ -143,8 +149,6 @@ fn push_why(text: &mut Text, task: &Task, step: &StepView, why: &Why) -> Result<
     ensures { OnOk result (text.new ≡ text.old ++ why_text task.now (step_shown step.now) why.now) }
 {
     match why {
-        Why::UnknownAction => text.push(b"unknown action"),
-        Why::WrongCount => text.push(b"wrong number of arguments"),
         Why::UnknownObject { arg } => {
             text.push(b"unknown object ")?;
             push_argument(text, step, *arg)?;
@@ -155,11 +159,64 @@ fn push_why(text: &mut Text, task: &Task, step: &StepView, why: &Why) -> Result<
             text.push(b" has the wrong type")?;
             Ok(())
         }
+        _ => push_plain_why(text, task, why),
+    }
+}
+
+/// Adds what is wrong with a step, whatever the step is, unless that names one of its arguments; then it adds nothing.
+fn push_plain_why(text: &mut Text, task: &Task, why: &Why) -> Result<(), AllocError>
+    ensures { OnOk result (text.new ≡ text.old ++ plain_why_text task.now why.now) }
+{
+    match why {
+        Why::UnknownAction => text.push(b"unknown action"),
+        Why::WrongCount => text.push(b"wrong number of arguments"),
+        Why::UnknownObject { .. } => Ok(()),
+        Why::WrongType { .. } => Ok(()),
         Why::Missing(conds) => {
             text.push(b"missing")?;
             push_conditions(text, task, conds.as_slice())
         }
     }
+}
+
+/// Adds what is wrong with the step that a row spells.
+fn push_why_of_row(text: &mut Text, task: &Task, row: &[u8], why: &Why) -> Result<(), AllocError>
+    ensures { OnOk result (text.new ≡ text.old ++ why_text task.now (step_spelled row.now) why.now) }
+{
+    match why {
+        Why::UnknownObject { arg } => {
+            text.push(b"unknown object ")?;
+            push_argument_of_row(text, row, *arg)
+        }
+        Why::WrongType { arg } => {
+            push_argument_of_row(text, row, *arg)?;
+            text.push(b" has the wrong type")
+        }
+        _ => push_plain_why(text, task, why),
+    }
+}
+
+/// Adds the name of an argument of the step that a row spells, counted from 1; a number that no argument has adds nothing.
+fn push_argument_of_row(text: &mut Text, row: &[u8], number: u32) -> Result<(), AllocError>
+    ensures { OnOk result (text.new ≡ text.old ++ name_at (step_spelled row.now).args (number - 1)) }
+{
+    match word_at(row, number.max(1)) {
+        Some(word) => text.push_folded(word),
+        None => Ok(()),
+    }
+}
+
+/// The word of a row with an index, counted from 0.
+fn word_at<'a>(row: &'a [u8], index: u32) -> Option<&'a [u8]>
+    ensures { option_copied result ≡ slice_get (words_of row.now) index }
+{
+    let mut words = RowWords::new(row);
+    let mut before = index;
+    while before > 0 {
+        let _passed = words.next()?;
+        before -= 1;
+    }
+    words.next()
 }
 
 /// Adds a failing step, and what is wrong with it.
@@ -238,11 +295,48 @@ fn push_failure_of_text(
 ) -> Result<(), AllocError>
     ensures { OnOk result (text.new ≡ text.old ++ failure_in format task.now (step_at (plan_of bytes.now) index) why.now) }
 {
-    let mut step = OpenSteps::new(text.alloc());
-    if read_step_at(bytes, index, &mut step)? {
-        push_failure_in(text, format, task, &step.get(0), why)?;
+    match find_step_at(bytes, index) {
+        Some(found) => push_failure_of_found(text, format, task, &found, why),
+        None => Ok(()),
     }
-    Ok(())
+}
+
+/// Adds a failing step where it is written, and what is wrong with it, in a format. A row of names is copied as a whole where it is to be a row.
+fn push_failure_of_found(
+    text: &mut Text,
+    format: Format,
+    task: &Task,
+    found: &FoundStep<'_>,
+    why: &Why,
+) -> Result<(), AllocError>
+    requires some { 0 < length found.now.words }
+    requires spelled { IfSome (option_copied found.now.key) (λ row. IsSpelled row × (step_spelled row ≡ step_of (map folded found.now.words))) }
+    ensures { OnOk result (text.new ≡ text.old ++ failure_in format task.now (Some (step_of (map folded found.now.words))) why.now) }
+{
+    match (format, found.key) {
+        (Format::Lines, Some(row)) => push_failure_of_row(text, task, row, why),
+        _ => {
+            let mut step = OpenSteps::new(text.alloc());
+            found.words.push_to(&mut step)?;
+            push_failure_in(text, format, task, &step.get(0), why)
+        }
+    }
+}
+
+/// Adds a failing step that a row spells, and what is wrong with it.
+fn push_failure_of_row(
+    text: &mut Text,
+    task: &Task,
+    row: &[u8],
+    why: &Why,
+) -> Result<(), AllocError>
+    requires spelled { IsSpelled row.now }
+    ensures { OnOk result (text.new ≡ text.old ++ failure_text task.now (Some (step_spelled row.now)) why.now) }
+{
+    text.push(b" (")?;
+    text.push_folded(row)?;
+    text.push(b"): ")?;
+    push_why_of_row(text, task, row, why)
 }
 
 /// Adds what is found about a plan: its verdict, and its cost if it is valid and costs are counted.

@@ -1,5 +1,6 @@
 //! Text that is made piece by piece.
 ghost use Rattle.std.specs.Prelude.{◌≡◌, ◌++◌, [], ℕ, List, OnOk, decimal};
+ghost use Rattle.pddl_words.specs.Words.{folded};
 
 use itoa::Buffer;
 use std::alloc::{AllocError, Global};
@@ -38,6 +39,17 @@ impl Text {
     {
         self.bytes.extend_from_slice(bytes)?;
         Ok(())
+    }
+
+    /// Adds bytes at the end, in lower case.
+    pub fn push_folded(&mut self, bytes: &[u8]) -> Result<(), AllocError>
+        ensures { OnOk result (self.new ≡ self.old ++ folded bytes.now) }
+    {
+        if bytes.iter().any(|b| b.is_ascii_uppercase()) {
+            let lower = bytes.to_ascii_lowercase(self.alloc())?;
+            return self.push(lower.as_slice());
+        }
+        self.push(bytes)
     }
 
     /// Adds a number in decimal digits.

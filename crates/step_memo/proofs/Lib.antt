@@ -1,2 +1,3 @@
 pub mod KnownLaws
 pub mod TakenLaws
+pub mod ManyArguments

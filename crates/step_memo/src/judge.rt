@@ -1,5 +1,5 @@
 //! A judge of many plans of one task, which takes their steps one by one and keeps what it learns of them.
-ghost use Rattle.std.specs.Prelude.{◌≡◌, ◌+◌, ◌<◌, ◌∷◌, [], ◌++◌, List, length, IsTrue, false, IfOk, OnOk, IfSome, IfNone};
+ghost use Rattle.std.specs.Prelude.{◌≡◌, ◌+◌, ◌<◌, ◌∷◌, [], ◌++◌, ℕ, List, length, IsTrue, false, Some, IfOk, OnOk, IfSome, IfNone};
 ghost use Rattle.strips_task.specs.declared.plans.Plan.TheVariants.{Steps};
 ghost use Rattle.strips_task.specs.declared.steps.StepText.{StepText};
 ghost use Rattle.strips_task.specs.declared.steps.TheConstants.{MOST_STEPS};
@@ -7,6 +7,7 @@ ghost use Rattle.strips_task.specs.Spelled.{IsSpelled, step_spelled};
 ghost use Rattle.strips_task.specs.StepView.{step_shown};
 ghost use Rattle.strips_judge.specs.NumberedState.{state_of};
 ghost use Rattle.strips_judge.specs.State.{is_in};
+ghost use Rattle.strips_judge.specs.Step.{fault};
 ghost use Rattle.strips_judge.specs.declared.verdict.Verdict.TheVariants.{Fails};
 ghost use Rattle.plan_cost.specs.declared.costs.Cost.TheVariants.{NotCounted};
 ghost use Rattle.plan_cost.specs.Assessments.{assessment};
@@ -24,7 +25,7 @@ use std::marker::Model;
 use strips_judge::{
     Atom, CodeBuffer, NumberedState, Scratch, StepNames, Why, judge_goal, take_step,
 };
-use strips_task::StepView;
+use strips_task::{StepView, Task};
 
 /// How many atoms besides the initial ones may have numbers that are kept from one plan to the next, with all that was learned.
 pub const MOST_LATER: usize = 131_072;
@@ -235,6 +236,15 @@ impl<'t> Judge<'t> {
         Ok(None)
     }
 
+    /// Why a step of the action of this name, in lower case, is not applicable if it has more arguments than any action has parameters. Takes one
+    /// look-up of the name.
+    pub fn refusal_of_many(&self, action: &[u8]) -> Why
+        ensures { (args : List (List ℕ)) (steps rest : List StepText) → 32 < length args → HasTaken self.now steps
+            → assessment self.now.task (Steps (steps ++ record { action = action.now; args = args } ∷ rest)) ≡ record { verdict = Fails (length steps + 1) result; cost = NotCounted } }
+    {
+        fault_of_many(&self.task.task, action)
+    }
+
     /// The assessment of the plan of the steps that were taken: whether the goal holds after them, and what they cost. Takes memory for the
     /// conditions of the goal that do not hold.
     pub fn finish(&self, alloc: Global) -> Result<Assessment, AllocError>
@@ -251,5 +261,19 @@ impl<'t> Judge<'t> {
         ensures { result ≡ state_of self.now.state atom.now }
     {
         self.state.contains(atom)
+    }
+}
+
+/// What is wrong with a step of the action of this name that has more arguments than any action has parameters.
+fn fault_of_many(task: &Task, action: &[u8]) -> Why
+    ensures { (args : List (List ℕ)) → 32 < length args → fault task.now (record { action = action.now; args = args }) ≡ Some result }
+{
+    match task.action_named(action) {
+        Some(number) => {
+            // The action has at most 32 parameters.
+            let _action = task.action(number);
+            Why::WrongCount
+        }
+        None => Why::UnknownAction,
     }
 }

@@ -1,3 +1,4 @@
 pub mod Histories
 pub mod Judged
 pub mod Pairs
+pub mod StepFronts

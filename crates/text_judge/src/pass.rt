@@ -1,10 +1,11 @@
 //! One pass over a text: a walk over its steps, and a judge that takes each.
-ghost use Rattle.std.specs.Prelude.{◌≡◌, ◌<◌, ◌++◌, ◌∷◌, [], List, None, Option, length, map, false, IsTrue, IfOk, IfNone, IfSome, MatchOption};
+ghost use Rattle.std.specs.Prelude.{◌≡◌, ◌<◌, ◌≤◌, ◌++◌, ◌∷◌, [], List, None, Option, length, map, false, IsTrue, IfOk, IfNone, IfSome, MatchOption};
 ghost use Rattle.pddl_words.specs.Words.{folded};
 ghost use Rattle.strips_task.specs.declared.plans.Plan.TheVariants.{Steps, Unreadable};
 ghost use Rattle.strips_task.specs.declared.steps.StepText.{StepText};
 ghost use Rattle.strips_task.specs.declared.steps.TheConstants.{MOST_STEPS};
 ghost use Rattle.strips_task.specs.Steps.{step_of};
+ghost use Rattle.strips_task.specs.StepView.{step_shown};
 ghost use Rattle.plan_text.specs.PlanReading.{plan_of};
 ghost use Rattle.plan_text.specs.Walks.{HasPassed};
 ghost use Rattle.step_memo.specs.Judging.{HasTaken};
@@ -14,7 +15,13 @@ use plan_text::{PlanSteps, StepWords, TextStep};
 use std::alloc::{AllocError, Global};
 use step_memo::Judge;
 use strips_judge::Why;
-use strips_task::OpenSteps;
+use strips_task::{MOST_VARIABLES, OpenSteps, StepView};
+
+/// How many words of a step are read: with more arguments than an action has parameters, no step is applicable.
+const MOST_WORDS: usize = MOST_VARIABLES + 2;
+
+/// The most bytes that are looked up as a whole. A longer step is read by its words, which takes no longer.
+const LONGEST_ROW: usize = 4096;
 
 /// How a pass over a text ended.
 #[derive(Drop)]
@@ -120,6 +127,9 @@ fn go_on(alloc: Global, judge: &mut Judge<'_>, walk: &mut PlanSteps<'_>) -> Resu
     let Some(group) = walk.next_group() else {
         return Ok(walk.pass_number());
     };
+    if group.key.len() > LONGEST_ROW {
+        return Ok(false);
+    }
     if judge.take_known(group.key) {
         walk.skip(group);
         return Ok(true);
@@ -146,8 +156,20 @@ fn take_words(
         → FailsNext judge.old.task steps (step_of (map folded words.entry)) why)) }
 {
     step.clear();
-    words.push_to(step)?;
-    judge.take(alloc, step.get(0))
+    words.push_front_to(MOST_WORDS, step)?;
+    let front = step.get(0);
+    if has_too_many(front) {
+        return Ok(Some(judge.refusal_of_many(front.action())));
+    }
+    judge.take(alloc, front)
+}
+
+/// Whether a step has more arguments than any action has parameters.
+fn has_too_many(step: StepView<'_>) -> bool
+    ensures many { IsTrue result → 32 < length (step_shown step.entry).args }
+    ensures few { result ≡ false → length (step_shown step.entry).args ≤ 32 }
+{
+    step.arg_count() > MOST_VARIABLES
 }
 
 /// Walks to the end of a text, and returns the line of its first fault, if it has one.

@@ -1,8 +1,9 @@
 //! Constants and objects are declared with their types.
 
-ghost use Rattle.std.specs.Prelude.{◌≡◌, ◌<◌, ◌≤◌, length, None};
+ghost use Rattle.std.specs.Prelude.{◌≡◌, ◌<◌, ◌≤◌, length, Some, None};
 ghost use Rattle.pddl_words.specs.Words.{folded};
 ghost use Rattle.strips_task.specs.WellFormed.{most_types};
+ghost use Rattle.strips_task.specs.Names.{number_named};
 ghost use Rattle.std.specs.Map.{keys_of};
 ghost use Rattle.pddl_syntax.specs.Forms.{name_forms, name_group_form, name_groups};
 ghost use Rattle.pddl_reader.specs.Objects.{object_declared, objects_from, objects_grouped, type_number};
@@ -34,10 +35,30 @@ pub(crate) fn type_number(
     }
 }
 
-/// Declares an object that is declared already with the same type. No other fits in.
+/// Declares the object with a number again, which changes nothing. It may have no other type.
+#[tactic(auto, using(crate::proofs::ObjectSteps::object_steps))]
+#[inline(always)]
+fn declare_again(
+    objects: &NameTable<u16>,
+    number: usize,
+    word: NameWord<'_>,
+    kind: u16,
+) -> Result<(), ReadFault>
+    requires named { number_named objects.now (folded word.text.now) ≡ Some number }
+    requires within { number < length objects.now }
+    ensures { Puts result (object_declared kind objects.now word.entry.text.now) objects.now }
+{
+    if *objects.get(number).1 == kind {
+        Ok(())
+    } else {
+        Err(ReadFault::new(FaultKind::Repeated, word.span))
+    }
+}
+
+/// Declares an object where no other fits in: only one that is declared already.
 #[inline(never)]
 #[tactic(auto, using(crate::proofs::ObjectSteps::object_steps))]
-fn declare_again(
+fn declare_in_full(
     objects: &NameTable<u16>,
     name: &Name,
     word: NameWord<'_>,
@@ -47,17 +68,13 @@ fn declare_again(
     requires name { name.now ≡ folded word.text.now }
     ensures { Puts result (object_declared kind objects.now word.entry.text.now) objects.now }
 {
-    let Some(number) = objects.number_of(name.as_bytes()) else {
-        return Err(ReadFault::new(FaultKind::TooMany, word.span));
-    };
-    if *objects.get(number).1 == kind {
-        Ok(())
-    } else {
-        Err(ReadFault::new(FaultKind::Repeated, word.span))
+    match objects.number_of(name.as_bytes()) {
+        Some(number) => declare_again(objects, number, word, kind),
+        None => Err(ReadFault::new(FaultKind::TooMany, word.span)),
     }
 }
 
-/// Declares an object with its type.
+/// Declares an object with its type. One that is declared again is mostly found without a name of its own.
 #[tactic(auto, using(crate::proofs::ObjectSteps::object_steps))]
 #[inline(always)]
 fn declare_object(
@@ -68,9 +85,12 @@ fn declare_object(
 ) -> Result<(), ReadFault>
     ensures { Puts result (object_declared kind objects.old word.entry.text.now) objects.new }
 {
+    if let Some(number) = objects.number_of_spelling(word.text) {
+        return declare_again(objects, number, word, kind);
+    }
     let name = name(alloc, word)?;
     if objects.len() >= MOST_OBJECTS {
-        return declare_again(objects, &name, word, kind);
+        return declare_in_full(objects, &name, word, kind);
     }
     match objects.insert(name, kind)? {
         None => Ok(()),

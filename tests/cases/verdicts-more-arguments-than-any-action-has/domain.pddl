@@ -1,0 +1,6 @@
+(define (domain bells)
+  (:requirements :strips :typing)
+  (:types bell hand)
+  (:constants treble - bell left - hand)
+  (:predicates (rung ?bell - bell))
+  (:action ring :parameters (?bell - bell) :effect (rung ?bell)))

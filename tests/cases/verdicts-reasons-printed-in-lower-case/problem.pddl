@@ -1,0 +1,2 @@
+(define (problem bells-1) (:domain bells)
+  (:goal (rung treble)))
