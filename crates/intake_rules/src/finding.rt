@@ -1,12 +1,12 @@
 //! A job with its verdict and its cost.
-ghost use Rattle.std.specs.Prelude.{◌≡◌, IfOk};
+ghost use Rattle.std.specs.Prelude.{◌≡◌, IfErr, IfOk};
 ghost use Rattle.plan_cost.specs.Assessments.{assessment};
 ghost use Rattle.plan_cost.specs.CompactCosts.{IsCompact};
 ghost use Rattle.intake_rules.specs.Findings.{IsRight};
 
 use crate::Job;
 use plan_cost::{Assessment, CompactCost, CostedTask, assess};
-use std::alloc::{AllocError, Global};
+use std::alloc::{AllocError, AllocFailed, Global};
 use strips_judge::Verdict;
 use submitted_plan::{Form, SubmittedPlan};
 use text_judge::{MOST_JUDGES, TextJudge};
@@ -51,6 +51,29 @@ impl Finding {
             verdict,
             cost: CompactCost::new(cost),
         })
+    }
+
+    /// Judges a job as [`judge_by`](Finding::judge_by) does, and puts the job itself into the finding, so its plan gets no other owner. Plans of one
+    /// file count their owners in one place, where the threads that judge them would wait for each other. If memory runs out, the job is given back.
+    #[tactic(auto, unfolding(crate::specs::Findings::verdict_of, crate::specs::Findings::counted_cost))]
+    pub fn judge_own(
+        alloc: Global,
+        judge: &mut TextJudge<'_>,
+        job: Job,
+    ) -> Result<Finding, AllocFailed<Job>>
+        ensures right { IfOk result (λ finding. IsRight judge.old finding) }
+        ensures job { IfOk result (λ finding. finding.job ≡ job) }
+        ensures task { judge.new ≡ judge.old }
+        ensures given_back { IfErr result (λ failed. failed.value ≡ job) }
+    {
+        match assess_by(alloc, judge, &job.plan) {
+            Ok(Assessment { verdict, cost }) => Ok(Finding {
+                job,
+                verdict,
+                cost: CompactCost::new(cost),
+            }),
+            Err(AllocError) => Err(AllocFailed { value: job }),
+        }
     }
 }
 

@@ -61,8 +61,9 @@ pub(crate) fn start_all<'s, E, G: Gate + Sync>(
     ensures view { OnOk result (owner.new.view ≡ with_all_out owner.old.view workers) }
 {
     let judges = workers + 1;
-    for _ in 0..workers {
-        let seat = owner.seat(bench);
+    for number in 0..workers {
+        let mut seat = owner.seat(bench);
+        seat.begin_apart(bench, number + 1, judges);
         let promise = WorksAt {
             bench: Snapshot::of(bench),
             gate: Snapshot::of(gate),
@@ -111,7 +112,8 @@ pub(crate) fn take_part<G: Gate>(
     ensures view { (more : List ℕ) × (owner.new.view ≡ with_more_finished owner.old.view more) }
     ensures held { IfSome result (G.may_hold gate.now) }
 {
-    let seat = owner.seat(bench);
+    let mut seat = owner.seat(bench);
+    seat.begin_apart(bench, 0, judges);
     let Ended { seat, refused } = whole_work(alloc, bench, seat, task, gate, judges);
     owner.hand_in(bench, seat);
     first_held(None, refused)

@@ -12,6 +12,10 @@ use bench_rule::{BenchSeat, steps};
 use intake_rules::Finding;
 use std::marker::Model;
 
+/// How many neighbouring slots a seat tries before it leaves some to others. The words of eight slots share a line of the processor's cache, and
+/// threads that write to the same line wait for each other.
+const BLOCK: u32 = 64;
+
 /// The seat of a worker, for one thread. Contracts see at which bench it is, and what it knows.
 ///
 /// If it is dropped, it stays out forever, and so do the slots that it holds.
@@ -21,6 +25,8 @@ pub struct WorkerSeat {
     held: u32,
     /// The slot at which the next round begins.
     next: u32,
+    /// How many slots the seat leaves to other seats behind each block.
+    others: u32,
 }
 
 impl Model for WorkerSeat {
@@ -44,6 +50,7 @@ impl WorkerSeat {
             seat,
             held: 0,
             next: 0,
+            others: 0,
         }
     }
 
@@ -56,8 +63,37 @@ impl WorkerSeat {
             seat,
             held: _,
             next: _,
+            others: _,
         } = self;
         seat
+    }
+
+    /// Lets the seat begin at the block with this number, counted from 0, as one of so many seats that each begin at another block. Only speed
+    /// depends on where a round begins.
+    pub(crate) fn begin_apart(&mut self, bench: &Bench, number: u32, seats: u32)
+        requires { SitsAt bench.now self.old }
+        ensures { self.new ≡ self.old }
+    {
+        let first = number.saturating_mul(BLOCK);
+        self.next = if first < bench.slots() { first } else { 0 };
+        self.others = seats.saturating_sub(1).saturating_mul(BLOCK);
+    }
+
+    /// The slot at which the next round begins after a job was found in this one: the next slot or, behind the last of a block, the first of the
+    /// next block that the other seats leave to this one.
+    fn slot_behind(&self, bench: &Bench, slot: u32) -> u32
+        requires seat { SitsAt bench.now self.now }
+        requires slot { slot < bench.now.setting.slots }
+        ensures { result ≤ bench.now.setting.slots }
+    {
+        let slots = bench.slots();
+        let next = slot + 1;
+        let next = if next % BLOCK == 0 {
+            next.saturating_add(self.others)
+        } else {
+            next
+        };
+        if next < slots { next } else { 0 }
     }
 
     /// How many tickets of the seat are not used up.
@@ -67,8 +103,9 @@ impl WorkerSeat {
         self.held
     }
 
-    /// Takes a job that waits. Goes round all slots once, from where the seat last found a job, and tries each one that it sees waiting. It may find
-    /// none although a job waits: a slot that it has passed may begin to wait, and another seat may be faster.
+    /// Takes a job that waits. Goes round all slots once and tries each one that it sees waiting. It begins behind the job that it last found or, if
+    /// that was at the end of a block, at the next block that other seats leave to it. It may find none although a job waits: a slot that it has
+    /// passed may begin to wait, and another seat may be faster.
     pub fn take(&mut self, bench: &Bench) -> Option<Ticket>
         requires { SitsAt bench.now self.old }
         ensures seat { SitsAt bench.now self.new }
@@ -108,7 +145,7 @@ impl WorkerSeat {
         }
         let job = steps::take(bench.words(), &mut self.seat, slot)?;
         self.held += 1;
-        self.next = slot;
+        self.next = self.slot_behind(bench, slot);
         Some(Ticket { slot, job })
     }
 
@@ -121,7 +158,20 @@ impl WorkerSeat {
         ensures finished { self.new.view ≡ with_finished self.old.view ticket.slot }
         ensures count { length self.new.view.finished ≤ bench.now.setting.slots }
     {
-        steps::finish(bench.words(), &mut self.seat, ticket.slot, finding);
+        let Ticket { slot, job: _ } = ticket;
+        self.finish_at(bench, slot, finding);
+    }
+
+    /// Finishes the job of a slot that the seat holds with its right finding.
+    pub(crate) fn finish_at(&mut self, bench: &Bench, slot: u32, finding: Finding)
+        requires seat { SitsAt bench.now self.old }
+        requires held { HoldsJob slot finding.job self.old.view.held }
+        requires finding { IsRight bench.now.setting.task.value finding }
+        ensures seat { SitsAt bench.now self.new }
+        ensures finished { self.new.view ≡ with_finished self.old.view slot }
+        ensures count { length self.new.view.finished ≤ bench.now.setting.slots }
+    {
+        steps::finish(bench.words(), &mut self.seat, slot, finding);
         self.held -= 1;
     }
 

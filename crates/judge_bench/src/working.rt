@@ -8,7 +8,7 @@ ghost use Rattle.judge_bench.specs.Work.{Worked};
 use crate::{Bench, Gate, Ticket, WorkerSeat};
 use intake_rules::Finding;
 use plan_cost::CostedTask;
-use std::alloc::{AllocError, Global};
+use std::alloc::{AllocError, AllocFailed, Global};
 use std::{hint, thread};
 use text_judge::{MOST_JUDGES, TextJudge};
 
@@ -151,13 +151,14 @@ fn judge_one<G: Gate>(
         seat.hand_back(bench, ticket);
         return Err(WorkFault::Held(number));
     }
-    match Finding::judge_by(alloc, judge, ticket.job()) {
+    let Ticket { slot, job } = ticket;
+    match Finding::judge_own(alloc, judge, job) {
         Ok(finding) => {
-            seat.finish(bench, ticket, finding);
+            seat.finish_at(bench, slot, finding);
             Ok(())
         }
-        Err(AllocError) => {
-            seat.hand_back(bench, ticket);
+        Err(AllocFailed { value: job }) => {
+            seat.hand_back(bench, Ticket { slot, job });
             Err(WorkFault::OutOfMemory)
         }
     }

@@ -20,6 +20,7 @@ pub mod KnownTerms
 pub mod DeclarationSteps
 pub mod FunctionSteps
 pub mod ActionMeaning
+pub mod AgainSteps
 pub mod WellFormedDomains
 pub mod WellFormedTasks
 pub mod DomainMeaning

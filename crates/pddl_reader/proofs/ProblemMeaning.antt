@@ -1,6 +1,6 @@
 -- What the syntax of a problem stands for, one equation for each case.
 
-use Rattle.std.proofs.Common.{◌≡◌, ℕ, Bool, List, [], ◌∷◌, Option, Some, None, unwrap_or, refl}
+use Rattle.std.proofs.Common.{◌≡◌, ℕ, ◌++◌, Bool, true, List, [], ◌∷◌, Option, Some, None, map, unwrap_or, refl, ap, sym, ◌∙◌}
 use Rattle.std.proofs.lemmas.List.{append-nil}
 use Rattle.std.specs.Global.{Vec}
 use Rattle.strips_task.specs.declared.atoms.Atom.{Atom}
@@ -14,7 +14,8 @@ use Rattle.pddl_syntax.specs.declared.syntax.NameGroup as groups
 use Rattle.pddl_reader.specs.declared.resolution.initial.InitialState.{InitialState}
 use Rattle.pddl_reader.specs.Declarations.{Known, ground_of, object_number}
 use Rattle.pddl_reader.specs.Domain.{DomainValue}
-use Rattle.pddl_reader.specs.Problem.{vocabulary_in, ground_equality_by, ground_condition_of, ground_conditions_of, initial_of, costed_value, task_with, domain_extended, problem_within, problem_of}
+use Rattle.pddl_reader.specs.Rows.{BeginWithAtoms}
+use Rattle.pddl_reader.specs.Problem.{vocabulary_in, ground_condition, ground_equality_by, ground_condition_of, ground_conditions_of, initial_of, costed_value, task_with, domain_extended, problem_within, problem_of}
 use Rattle.pddl_syntax.specs.Syntax.{AtomForm, EqualityForm, AmountForm, ValueForm, LiteralForm, atom_literal, equality_literal, increase_literal, value_literal}
 use Rattle.pddl_syntax.proofs.ListsOf.{with_item, item_none, item_some, front_none, with_front-followed_by}
 
@@ -66,6 +67,30 @@ conditions_item front known l ls = with_front-followed_by front (ground_conditio
 pub conditions_end : (front : List GroundCond) (known : Known) → with_front front (ground_conditions_of known []) ≡ Some front
 unfolding ground_conditions_of with_front
 conditions_end front known = rw append-nil refl
+
+-- a literal that is an atom stands for the condition on its ground atom
+atom_item : (front : List GroundCond) (known : Known) (form : AtomForm) (atom : Atom) (others : List LiteralForm) → ground_of known form ≡ Some atom →
+    with_front front (ground_conditions_of known (atom_literal true form ∷ others))
+    ≡ with_front (front ++ ground_condition true atom ∷ []) (ground_conditions_of known others)
+atom_item front known form atom others h =
+    conditions_item front known (atom_literal true form) others
+    ∙ ap (λ item. with_item front item (ground_conditions_of known others)) (condition_some known true form atom h)
+    ∙ item_some front (ground_condition true atom) (ground_conditions_of known others)
+
+atoms_items : (front : List GroundCond) (known : Known) (forms : List AtomForm) (atom : Atom) (others : List LiteralForm) →
+    map (ground_of known) forms ≡ map Some (atom ∷ []) →
+    with_front front (ground_conditions_of known (map (atom_literal true) forms ++ others))
+    ≡ with_front (front ++ ground_condition true atom ∷ []) (ground_conditions_of known others)
+atoms_items front known [] atom others e = cc
+atoms_items front known (form ∷ []) atom others e = let h : ground_of known form ≡ Some atom = cc in atom_item front known form atom others h
+atoms_items front known (form ∷ next ∷ forms) atom others e = cc
+
+-- literals that begin with an atom stand for the condition on it, and then for the conditions of the others
+pub conditions_atom : (front : List GroundCond) (known : Known) (literals others : List LiteralForm) (atom : Atom) →
+    BeginWithAtoms known literals (atom ∷ []) others →
+    with_front (front ++ ground_condition true atom ∷ []) (ground_conditions_of known others) ≡ with_front front (ground_conditions_of known literals)
+conditions_atom front known literals others atom begin =
+    sym (ap (λ ls. with_front front (ground_conditions_of known ls)) begin.first ∙ atoms_items front known begin.forms atom others begin.stand_for)
 
 pub ruleset conditions_steps = (front_none, conditions_item, conditions_end, item_none, item_some)
 

@@ -1,4 +1,4 @@
--- Initial atoms that are written as names with a single space between each two.
+-- Initial atoms, and atoms of the goal, that are written as names with a single space between each two.
 
 use Rattle.std.specs.Prelude.{◌≡◌, ℕ, Bool, true, false, List, [], ◌∷◌, ◌++◌, Option, Some, map}
 use Rattle.pddl_words.specs.Words.{folded}
@@ -17,7 +17,7 @@ abbrev pub row_numbers : Known → List (List ℕ) → List (Option ℕ)
 row_numbers known [] = []
 row_numbers known (predicate ∷ terms) = row_number known true predicate ∷ map (row_number known false) terms
 
--- the first of the literals are initial atoms, which stand for these ground atoms
+-- the first of the literals are atoms, which stand for these ground atoms
 pub record BeginWithAtoms (known : Known) (literals : List LiteralForm) (atoms : List Atom) (others : List LiteralForm) : Type 0 where
   pub forms : List AtomForm
   pub first : literals ≡ map (atom_literal true) forms ++ others

@@ -1,9 +1,11 @@
 //! The third layer: names are looked up, and the domain and the task are made.
 //!
 //! Tables are filled in text order, so that a name's number is its index among those declared. Most look-ups are one or two reads of memory. Initial
-//! atoms, which are the most numerous, are looked up in rows, as they are written.
+//! atoms, which are the most numerous, and atoms of the goal are looked up in rows, as they are written. A literal of an action that is written as the
+//! one before it is not looked up again.
 
 pub(crate) mod actions;
+pub(crate) mod again;
 pub(crate) mod atoms;
 pub(crate) mod domain;
 pub(crate) mod functions;

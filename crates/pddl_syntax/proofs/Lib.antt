@@ -23,5 +23,6 @@ pub mod Memory
 pub mod FunctionSteps
 pub mod KnownSteps
 pub mod DialectLaws
+pub mod AtomRows
 pub mod RowSteps
 pub mod ReservedWords

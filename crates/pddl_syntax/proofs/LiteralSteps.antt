@@ -36,7 +36,7 @@ joined_joined (Some xs) None c = refl
 joined_joined (Some xs) (Some ys) None = refl
 joined_joined (Some xs) (Some ys) (Some zs) = rw append_assoc refl
 
-is_first : (a b : Option (List LiteralForm)) → IsSome (joined a b) → IsSome a
+pub is_first : (a b : Option (List LiteralForm)) → IsSome (joined a b) → IsSome a
 unfolding joined
 is_first None b h = cc
 is_first (Some xs) b h = refl
@@ -221,7 +221,7 @@ absurd_and dialect w f l e h = none_some (literal_of (scope_at dialect context.I
     none_some (Some m) e h = cc
 
 -- an initial atom is a formula, which gives it alone
-pub initial_formula : (dialect : Dialect) (k : Trees) (l : LiteralForm) → init_item_in dialect k ≡ Some l → formula_in (scope_at dialect context.Initial) k ≡ Some (l ∷ [])
+initial_formula : (dialect : Dialect) (k : Trees) (l : LiteralForm) → init_item_in dialect k ≡ Some l → formula_in (scope_at dialect context.Initial) k ≡ Some (l ∷ [])
 unfolding init_item_in formula_in
 initial_formula dialect none l h = cc
 initial_formula dialect (word w f) l h = by (is_and w) refl

@@ -4,14 +4,14 @@ ghost use Rattle.std.specs.Prelude.{◌≡◌, true, false};
 ghost use Rattle.pddl_words.specs.Words.{is_name};
 ghost use Rattle.pddl_syntax.specs.Keywords.{is_change, is_connective, is_quantifier, is_comparison, is_other_reserved};
 ghost use Rattle.pddl_syntax.specs.Levels.{here};
-ghost use Rattle.pddl_syntax.specs.Rows.{AreNames, heads_atom};
+ghost use Rattle.pddl_syntax.specs.Rows.{are_terms, atom_spelled, heads_atom, is_atom_row};
 ghost use Rattle.pddl_syntax.specs.Trees.{begins_with_list};
 ghost use Rattle.pddl_syntax.specs.Heads.{is_and, is_dash, is_either, is_keyword, is_term, is_variable, equals_head, has_changes, has_functions, formula_head, literal_head, name_head, reserved_head, domain_section, action_part, problem_section};
 
 use crate::dialect::Dialect;
 use crate::walk::Walk;
 use pddl_tokens::{WordKind, same_folded, word_kind};
-use pddl_words::first_word_len;
+use pddl_words::{RowWords, first_word_len};
 
 /// What a word heads where a formula, an effect, an initial atom, a function or the declaration of a predicate or a function is due.
 #[derive(Clone, Copy, Debug)]
@@ -403,12 +403,12 @@ fn is_comparison(word: &[u8]) -> bool
         || same_folded(word, b">=")
 }
 
-/// Whether the first word of a row of names is not reserved. The row is then an atom, wherever numbers are not changed. Of a row that is not names the
-/// answer says nothing, so that no byte is read twice.
-#[tactic(auto, unfolding(crate::specs::Rows::heads_atom), using(crate::proofs::RowSteps::first_word, crate::proofs::RowSteps::first_is_name))]
+/// Whether the first word of a row is not reserved, if it is a name. A row of terms is then an atom. If the first word is no name, the answer says
+/// nothing, so that no byte is read twice.
+#[tactic(auto, unfolding(crate::specs::Rows::heads_atom), using(crate::proofs::RowSteps::first_word))]
 #[inline(always)]
 pub(crate) fn heads_atom(row: &[u8]) -> bool
-    ensures { AreNames row.now → result ≡ heads_atom row.now }
+    ensures { is_name (atom_spelled row.now).predicate ≡ true → result ≡ heads_atom row.now }
 {
     let word = &row[..first_word_len(row)];
     if !looks_reserved(word) {
@@ -421,4 +421,28 @@ pub(crate) fn heads_atom(row: &[u8]) -> bool
         FormulaHead::Reserved => false,
         FormulaHead::Other => false,
     }
+}
+
+/// Whether the first word of a row is a name, and each other one a name or a variable.
+#[tactic(auto, unfolding(crate::specs::Rows::is_atom_row, crate::specs::Rows::atom_spelled), using(pddl_tokens::proofs::PlainRows::row_has_words))]
+pub(crate) fn is_atom_row(row: &[u8]) -> bool
+    ensures { result ≡ is_atom_row row.now }
+{
+    let mut words = RowWords::new(row);
+    let Some(predicate) = words.next() else {
+        return false;
+    };
+    is_name(predicate) && are_terms(words)
+}
+
+/// Whether each word is a name or a variable.
+fn are_terms(mut words: RowWords<'_>) -> bool
+    ensures { result ≡ are_terms words.entry }
+{
+    'words: while let Some(word) = words.next() {
+        if !is_term(Context::Precondition, word) {
+            return false;
+        }
+    }
+    true
 }

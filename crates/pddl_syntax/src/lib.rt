@@ -24,7 +24,7 @@ pub use dialect::Dialect;
 pub use fault::{FaultKind, ReadFault};
 pub use heads::is_variable;
 pub use syntax::domain::domain_text;
-pub use syntax::literals::{InitialRow, Literals};
+pub use syntax::literals::{AtomRow, Literals};
 pub use syntax::problem::problem_text;
 pub use syntax::variables::VariableList;
 pub use syntax::{

@@ -5,11 +5,12 @@
 
 ghost use Rattle.std.specs.Prelude.{◌≡◌, ◌<◌, ◌^◌, IfSome, IsSome, IsTrue, None};
 ghost use Rattle.pddl_words.specs.Words.{is_name};
+ghost use Rattle.pddl_tokens.specs.Groups.{IsPlain};
 ghost use Rattle.pddl_tokens.specs.Tokens.{pieces};
 ghost use Rattle.pddl_syntax.specs.Trees.{begins_with_list, text_fault};
 ghost use Rattle.pddl_syntax.specs.Levels.{here, levels};
 ghost use Rattle.pddl_syntax.specs.Sizes.{ahead};
-ghost use Rattle.pddl_syntax.specs.Rows.{AreNames, ComesNext, PassesRow};
+ghost use Rattle.pddl_syntax.specs.Rows.{ComesNext, PassesRow};
 
 use pddl_tokens::{Cursor, Group, Span, TokenKind};
 
@@ -124,7 +125,7 @@ impl<'a> Walk<'a> {
 
     /// The list that may follow, as the bytes between its parentheses.
     ///
-    /// These bytes were not read yet. They are the next list only if they are known to be names with a single space between each two.
+    /// These bytes were not read yet. They are the next list only if they are known to be words with a single space between each two.
     pub(crate) fn next_group(&self) -> Option<Group<'a>>
         ensures { IfSome result (λ group. ComesNext self.now.cursor group) }
     {
@@ -134,7 +135,7 @@ impl<'a> Walk<'a> {
     /// Steps over the list that follows, which the key of its group must spell.
     pub(crate) fn pass(&mut self, group: Group<'a>)
         requires next { ComesNext self.old.cursor group }
-        requires spelled { AreNames group.key.now }
+        requires spelled { IsPlain group.key.now }
         ensures { PassesRow group.entry.key.now (here self.old.cursor) (here self.new.cursor) }
     {
         self.cursor = group.rest;

@@ -13,6 +13,5 @@ mod PlanLaws
 mod OnlyPlan
 mod WholeSteps
 mod WalkSteps
-mod StepFinds
 mod Extensions
 mod Comparisons

@@ -18,8 +18,8 @@ use Rattle.plan_text.specs.declared.walk.Inside.TheVariants as i
 use Rattle.plan_text.specs.PlanGrammar.{left, right, word, symbol_of}
 use Rattle.plan_text.specs.PlanReading.{plan_from, read_on, at_end, unreadable}
 use Rattle.plan_text.specs.PlanSteps.{IsReady, ReadsBetween}
-use Rattle.plan_text.specs.Walks.{Walk, RestsAt, GoesBehind, GoesOn, reading_behind, words_before}
-use Rattle.plan_text.specs.WalkFinds.{IsOpened, IsStuck, IsOpening, IsClosed, IsBroken, IsInside, ended, reading_inside}
+use Rattle.plan_text.specs.Walks.{Walk, RestsAt, GoesBehind, reading_behind, words_before}
+use Rattle.plan_text.specs.WalkFinds.{IsNumberRead, IsOpened, IsStuck, IsOpening, IsClosed, IsBroken, IsInside, ended, reading_inside}
 use Rattle.plan_text.specs.Wants.{takes_name}
 use Rattle.plan_text.proofs.Runs.{read_name}
 use Rattle.plan_text.proofs.Steps.{plan_end, plan_bad, plan_goes_on, plan_refused, unnamed_refused}
@@ -69,16 +69,14 @@ way_starts text first count old within rests = record {
   same = λ steps counted. refl;
 }
 
-pub way_goes_on : (text : List ℕ) (first now next : Expected) (count : ℕ) (old rest : List Piece) (kind : TokenKind) (span : Span) (bytes : List ℕ) → IsOnTheWay text first now count old (token kind span bytes ∷ rest) → ReadsBetween (Some next) now count (symbol_of kind bytes) → takes_name next.want ≡ false → IsOnTheWay text first next count old rest
-way_goes_on text first now next count old rest kind span bytes way reads outside = record {
-  outside = outside;
-  ready = λ steps counted. (reads (plan_with steps) counted (way.ready steps counted)).1;
-  within = way.within.1;
-  shorter = omega (arith, way.shorter);
-  same = λ steps counted.
-      way.same steps counted
-      ∙ plan_goes_on text (reading_behind now.want now.least_stamp steps) kind span bytes rest _ (reads (plan_with steps) counted (way.ready steps counted)).0;
-}
+pub way_at : (text : List ℕ) (first : Expected) (count : ℕ) (old rest : List Piece) → AreWithin (length text) old → RestsAt first.want count → old ≡ rest → IsOnTheWay text first first count old rest
+way_at text first count old rest within rests is = subst (λ (ps : List Piece). IsOnTheWay text first first count old ps) is (way_starts text first count old within rests)
+
+pub way_rests : (text : List ℕ) (first now : Expected) (count : ℕ) (old rest : List Piece) → IsOnTheWay text first now count old rest → RestsAt now.want count
+way_rests text first now count old rest way =
+    let some : List StepText = replicate count (step_of []) in
+    let sized : length some ≡ count = length-replicate count (step_of []) in
+    ready_rests now.want count some way.outside (way.ready some sized) sized
 
 -- where a name may come and no word is open, a step was just opened
 just_opened : (want : Want) (steps : List StepText) → takes_name want ≡ true → IsReady want (plan_with steps) → (want ≡ Action) × (length steps < MOST_STEPS)
@@ -258,22 +256,12 @@ number_rests now next count kind bytes rests reads outside =
 pub rest_within : (size : ℕ) (old rest : List Piece) (kind : TokenKind) (span : Span) (bytes : List ℕ) → old ≡ token kind span bytes ∷ rest → AreWithin size old → AreWithin size rest
 rest_within size old rest kind span bytes first within = (subst (AreWithin size) first within).1
 
-passes_token : (text : List ℕ) (now next : Expected) (count : ℕ) (old rest : List Piece) (kind : TokenKind) (span : Span) (bytes : List ℕ) → old ≡ token kind span bytes ∷ rest → RestsAt now.want count → ReadsBetween (Some next) now count (symbol_of kind bytes) → takes_name next.want ≡ false → GoesOn (record { text = text; rest = old; want = now.want; least = now.least_stamp; count = count }) (record { text = text; rest = rest; want = next.want; least = next.least_stamp; count = count })
-passes_token text now next count old rest kind span bytes first rests reads outside = record {
-  text = refl;
-  passed = λ steps before. record {
-    counted = before.counted;
-    few = before.few;
-    rests = number_rests now next count kind bytes rests reads outside;
-    same =
-        sym (ap (plan_from text (reading_behind now.want now.least_stamp steps)) first
-        ∙ plan_goes_on text (reading_behind now.want now.least_stamp steps) kind span bytes rest _ (reads (plan_with steps) before.counted (rests_ready now.want count steps rests before.counted)).0)
-        ∙ before.same;
-  };
+pub number_read : (text : List ℕ) (now next : Expected) (count : ℕ) (old rest : List Piece) (kind : TokenKind) (span : Span) (bytes : List ℕ) → old ≡ token kind span bytes ∷ rest → AreWithin (length text) old → RestsAt now.want count → ReadsBetween (Some next) now count (symbol_of kind bytes) → takes_name next.want ≡ false → IsNumberRead text now count next old rest
+number_read text now next count old rest kind span bytes first within rests reads outside = record {
+  rests = number_rests now next count kind bytes rests reads outside;
+  shorter = omega (arith, ap (λ (ps : List Piece). length ps) first);
+  within = rest_within (length text) old rest kind span bytes first within;
+  same = λ steps counted.
+      ap (plan_from text (reading_behind now.want now.least_stamp steps)) first
+      ∙ plan_goes_on text (reading_behind now.want now.least_stamp steps) kind span bytes rest _ (reads (plan_with steps) counted (rests_ready now.want count steps rests counted)).0;
 }
-
--- no step is passed by it
-pub passes_number : (walk : Walk) (text : List ℕ) (now next : Expected) (count : ℕ) (old rest : List Piece) (kind : TokenKind) (span : Span) (bytes : List ℕ) → ◌≡◌ {A = Walk} (record { text = text; rest = old; want = now.want; least = now.least_stamp; count = count }) walk → old ≡ token kind span bytes ∷ rest → RestsAt now.want count → ReadsBetween (Some next) now count (symbol_of kind bytes) → takes_name next.want ≡ false → GoesOn walk (record { text = text; rest = rest; want = next.want; least = next.least_stamp; count = count })
-passes_number walk text now next count old rest kind span bytes is first rests reads outside =
-    subst (λ (w : Walk). GoesOn w (record { text = text; rest = rest; want = next.want; least = next.least_stamp; count = count })) is
-    (passes_token text now next count old rest kind span bytes first rests reads outside)

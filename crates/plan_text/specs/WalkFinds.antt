@@ -18,13 +18,17 @@ use Rattle.plan_text.specs.declared.want.Want.TheVariants as w
 use Rattle.plan_text.specs.declared.want.Expected.{Expected}
 use Rattle.plan_text.specs.declared.walk.Opening.{Opening}
 use Rattle.plan_text.specs.declared.walk.Opening.TheVariants as o
+use Rattle.plan_text.specs.declared.walk.Between.{Between}
+use Rattle.plan_text.specs.declared.walk.Between.TheVariants as b
+use Rattle.plan_text.specs.declared.walk.Onward.{Onward}
+use Rattle.plan_text.specs.declared.walk.Onward.TheVariants as n
 use Rattle.plan_text.specs.declared.walk.Inside.{Inside}
 use Rattle.plan_text.specs.declared.walk.Inside.TheVariants as i
 use Rattle.plan_text.specs.declared.walk.TextStep.{TextStep}
 use Rattle.plan_text.specs.declared.walk.TextStep.TheVariants as t
 use Rattle.plan_text.specs.PlanGrammar.{symbol_of}
 use Rattle.plan_text.specs.PlanReading.{Reading, plan_from, plan_of, read_on, unreadable}
-use Rattle.plan_text.specs.Walks.{Walk, RestsAt, HasPassed, GoesBehind, reading_behind, words_before}
+use Rattle.plan_text.specs.Walks.{Walk, RestsAt, HasPassed, GoesBehind, GoesOn, reading_behind, words_before}
 use Rattle.strips_task.specs.declared.steps.TheConstants.{MOST_STEPS}
 
 -- a step may come next, and if its key is plain, this group comes next
@@ -45,6 +49,11 @@ abbrev pub IsFound : TextStep → Walk → Walk → Type 0
 IsFound (t.Step words key) old new = IsStepFound old new words (option_copied key)
 IsFound t.End old new = (new ≡ old) × ((steps : List StepText) → HasPassed old steps → plan_of old.text ≡ Steps steps)
 IsFound (t.Unreadable line) old new = (new ≡ old) × ((steps : List StepText) → HasPassed old steps → plan_of old.text ≡ Unreadable line)
+
+-- a stamp or a number was passed and no step, or what was found
+abbrev pub IsOnward : Onward → Walk → Walk → Type 0
+IsOnward n.Number old new = GoesOn old new × (length new.rest < length old.rest)
+IsOnward (n.Found found) old new = IsFound found old new
 
 -- a step was opened: its stamp, if it has one, and its `(` were read
 pub record IsOpened (text : List ℕ) (expected : Expected) (count least : ℕ) (old new : List Piece) : Type 0 where
@@ -68,6 +77,20 @@ IsOpening o.End text expected count old new =
     (steps : List StepText) → length steps ≡ count → plan_from text (reading_behind expected.want expected.least_stamp steps) old ≡ Steps steps
 IsOpening (o.Fault offset) text expected count old new = IsStuck text expected count offset old
 IsOpening (o.Open least) text expected count old new = IsOpened text expected count least old new
+
+-- a stamp or a number was read, after which `next` may come, and this is what is left
+pub record IsNumberRead (text : List ℕ) (expected : Expected) (count : ℕ) (next : Expected) (old new : List Piece) : Type 0 where
+  pub rests : RestsAt next.want count
+  pub shorter : length new < length old
+  pub within : AreWithin (length text) new
+  pub same :
+      (steps : List StepText) → length steps ≡ count
+      → plan_from text (reading_behind expected.want expected.least_stamp steps) old ≡ plan_from text (reading_behind next.want next.least_stamp steps) new
+
+-- what comes next after `count` steps, where `old` and `new` are the pieces that are left before and after it
+abbrev pub IsBetweenSteps : Between → List ℕ → Expected → ℕ → List Piece → List Piece → Type 0
+IsBetweenSteps (b.Number next) text expected count old new = IsNumberRead text expected count next old new
+IsBetweenSteps (b.Over opening) text expected count old new = IsOpening opening text expected count old new
 
 -- what the end of a text of this length means if no step is open
 abbrev pub ended : Want → ℕ → Opening

@@ -57,4 +57,4 @@ pub use parts::{PartEnd, Parts, part_from};
 pub use pddl_tokens::Group;
 pub use read::read_plan;
 pub use step_at::{FoundStep, find_step_at};
-pub use walk::{PlanSteps, StepWords, TextStep};
+pub use walk::{Onward, PlanSteps, StepWords, TextStep};

@@ -10,8 +10,8 @@ ghost use Rattle.strips_task.specs.declared.plans.Plan.TheVariants.{Unreadable};
 ghost use Rattle.strips_task.specs.Spelled.{IsSpelled, step_spelled};
 ghost use Rattle.strips_task.specs.Steps.{step_of};
 ghost use Rattle.plan_text.specs.PlanReading.{plan_of};
-ghost use Rattle.plan_text.specs.Walks.{HasPassed, GoesBehind, GoesOn, RestsAt, words_before};
-ghost use Rattle.plan_text.specs.WalkFinds.{ComesNext, IsFound, IsOpened, IsOpening, IsInside, IsEnding, ended};
+ghost use Rattle.plan_text.specs.Walks.{HasPassed, GoesBehind, RestsAt, words_before};
+ghost use Rattle.plan_text.specs.WalkFinds.{ComesNext, IsBetweenSteps, IsFound, IsOnward, IsOpened, IsOpening, IsInside, IsEnding, ended};
 ghost use Rattle.strips_task.specs.declared.steps.TheConstants.{MOST_STEPS};
 
 use crate::between::read_between;
@@ -68,6 +68,15 @@ pub enum TextStep<'a> {
         /// The line of the first fault, counted from 1.
         line: u32,
     },
+}
+
+/// How a walk goes on.
+#[derive(Debug, Drop)]
+pub enum Onward<'a> {
+    /// It has passed a stamp or a number in brackets, and no step.
+    Number,
+    /// It has found a step, the end of the text or a fault.
+    Found(TextStep<'a>),
 }
 
 /// The words of a step as they are in its text. Contracts see those that are left.
@@ -223,29 +232,6 @@ impl<'a> PlanSteps<'a> {
         self.count += 1;
     }
 
-    /// Passes the bracketed number or the stamp that comes next, if one may come and does. Returns whether it did; otherwise the walk stays
-    /// where it is.
-    #[inline(always)]
-    pub fn pass_number(&mut self) -> bool
-        ensures on { GoesOn self.old self.new }
-        ensures shorter { IsTrue result → length self.new.rest < length self.old.rest }
-        ensures stays { result ≡ false → self.new ≡ self.old }
-    {
-        let mut cursor = self.cursor.fork();
-        let Ok(Some(token)) = cursor.next() else {
-            return false;
-        };
-        let Some(next) = read_between(self.count, self.expected, token.kind, token.text) else {
-            return false;
-        };
-        if next.want.takes_name() {
-            return false;
-        }
-        self.cursor = cursor;
-        self.expected = next;
-        true
-    }
-
     /// Reads to the end of the next step, including its stamp. At the end of the text and at a fault the walk stays where it is, so each further
     /// call gives the same answer.
     #[inline(always)]
@@ -258,6 +244,22 @@ impl<'a> PlanSteps<'a> {
             }
         }
         self.read_step()
+    }
+
+    /// Reads on token by token to the end of the stamp or the number that comes next. If none does, reads to the end of the next step, as
+    /// [`next_step`](PlanSteps::next_step) does.
+    pub fn read_on(&mut self) -> Onward<'a>
+        ensures { IsOnward result self.old self.new }
+    {
+        let mut cursor = self.cursor.fork();
+        match next_between(self.text, &mut cursor, self.expected, self.count) {
+            Between::Number { next } => {
+                self.cursor = cursor;
+                self.expected = next;
+                Onward::Number
+            }
+            Between::Over { opening } => Onward::Found(self.find(cursor, opening)),
+        }
     }
 
     /// Passes the step that a group spells.
@@ -281,7 +283,17 @@ impl<'a> PlanSteps<'a> {
         ensures { IsFound result self.old self.new }
     {
         let mut cursor = self.cursor.fork();
-        match open_step(self.text, &mut cursor, self.expected, self.count) {
+        let opening = open_step(self.text, &mut cursor, self.expected, self.count);
+        self.find(cursor, opening)
+    }
+
+    /// What the walk finds, if this is how the next step opens, and the cursor is behind its `(`.
+    fn find(&mut self, cursor: Cursor<'a>, opening: Opening) -> TextStep<'a>
+        requires { IsOpening opening self.old.text (record { want = self.old.want; least_stamp = self.old.least }) self.old.count
+            self.old.rest cursor }
+        ensures { IsFound result self.old self.new }
+    {
+        match opening {
             Opening::End => TextStep::End,
             Opening::Fault { offset } => TextStep::Unreadable {
                 line: line_of(self.text, offset),
@@ -343,6 +355,15 @@ enum Opening {
     Open { least_stamp: u64 },
 }
 
+/// What comes next between two steps.
+#[derive(Clone, Copy)]
+enum Between {
+    /// A stamp or a number in brackets, and what may come behind it.
+    Number { next: Expected },
+    /// Neither.
+    Over { opening: Opening },
+}
+
 /// Reads up to the `(` of the next step, after `steps` steps.
 fn open_step(text: &[u8], cursor: &mut Cursor<'_>, mut expected: Expected, steps: usize) -> Opening
     requires short { length text.now < 2 ^ 31 }
@@ -351,24 +372,38 @@ fn open_step(text: &[u8], cursor: &mut Cursor<'_>, mut expected: Expected, steps
     ensures { IsOpening result text.now expected steps cursor.old cursor.new }
 {
     'tokens: loop {
-        match cursor.next() {
-            Ok(None) => return ended(expected.want, text),
-            Ok(Some(token)) => match read_between(steps, expected, token.kind, token.text) {
-                Some(next) => {
-                    if next.want.takes_name() {
-                        return Opening::Open {
-                            least_stamp: next.least_stamp,
-                        };
-                    }
-                    expected = next;
-                }
-                None => return Opening::Fault {
-                    offset: token.span.start,
-                },
-            },
-            Err(byte) => return Opening::Fault { offset: byte.at },
+        match next_between(text, cursor, expected, steps) {
+            Between::Number { next } => expected = next,
+            Between::Over { opening } => return opening,
         }
     }
+}
+
+/// Reads the next token, after `steps` steps: a stamp, a number, or the `(` of the next step.
+fn next_between(text: &[u8], cursor: &mut Cursor<'_>, expected: Expected, steps: usize) -> Between
+    requires short { length text.now < 2 ^ 31 }
+    requires within { AreWithin (length text.now) cursor.old }
+    requires rests { RestsAt expected.want steps }
+    ensures { IsBetweenSteps result text.now expected steps cursor.old cursor.new }
+{
+    let opening = match cursor.next() {
+        Ok(None) => ended(expected.want, text),
+        Ok(Some(token)) => match read_between(steps, expected, token.kind, token.text) {
+            Some(next) => {
+                if !next.want.takes_name() {
+                    return Between::Number { next };
+                }
+                Opening::Open {
+                    least_stamp: next.least_stamp,
+                }
+            }
+            None => Opening::Fault {
+                offset: token.span.start,
+            },
+        },
+        Err(byte) => Opening::Fault { offset: byte.at },
+    };
+    Between::Over { opening }
 }
 
 /// What the end of a text means if no step is open.

@@ -34,7 +34,7 @@ byte_more b bytes (word ∷ words) true some is same =
 byte_more b bytes (word ∷ words) false some is same = ap (λ (l : List ℕ). to_ascii_lowercase b ∷ l) same
 
 -- a row in lower case is the names of the step that it spells
-pub row_names : (row : List ℕ) → names_text (step_spelled row) ≡ folded row
+row_names : (row : List ℕ) → names_text (step_spelled row) ≡ folded row
 unfolding step_of
 row_names [] = refl
 row_names (b ∷ bytes) = byte_more b bytes (words_of bytes) (is_space b) (some_words bytes) refl (row_names bytes)

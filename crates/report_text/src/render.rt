@@ -330,7 +330,6 @@ fn push_failure_of_row(
     row: &[u8],
     why: &Why,
 ) -> Result<(), AllocError>
-    requires spelled { IsSpelled row.now }
     ensures { OnOk result (text.new ≡ text.old ++ failure_text task.now (Some (step_spelled row.now)) why.now) }
 {
     text.push(b" (")?;

@@ -1,5 +1,5 @@
 //! One pass over a text: a walk over its steps, and a judge that takes each.
-ghost use Rattle.std.specs.Prelude.{◌≡◌, ◌<◌, ◌≤◌, ◌++◌, ◌∷◌, [], List, None, Option, length, map, false, IsTrue, IfOk, IfNone, IfSome, MatchOption};
+ghost use Rattle.std.specs.Prelude.{◌≡◌, ◌≢◌, ◌<◌, ◌≤◌, ◌++◌, ◌∷◌, [], List, None, Option, length, map, false, IsTrue, IfOk, IfNone, IfSome, MatchOption};
 ghost use Rattle.pddl_words.specs.Words.{folded};
 ghost use Rattle.strips_task.specs.declared.plans.Plan.TheVariants.{Steps, Unreadable};
 ghost use Rattle.strips_task.specs.declared.steps.StepText.{StepText};
@@ -9,9 +9,11 @@ ghost use Rattle.strips_task.specs.StepView.{step_shown};
 ghost use Rattle.plan_text.specs.PlanReading.{plan_of};
 ghost use Rattle.plan_text.specs.Walks.{HasPassed};
 ghost use Rattle.step_memo.specs.Judging.{HasTaken};
+ghost use Rattle.plan_text.specs.WalkFinds.{IsOnward};
+ghost use Rattle.text_judge.specs.declared.pass.Tried.{Tried};
 ghost use Rattle.text_judge.specs.Passes.{AreTogether, EndsPass, FailsNext, GoOn, GoOnOrEnd};
 
-use plan_text::{PlanSteps, StepWords, TextStep};
+use plan_text::{Onward, PlanSteps, StepWords, TextStep};
 use std::alloc::{AllocError, Global};
 use step_memo::Judge;
 use strips_judge::Why;
@@ -20,7 +22,7 @@ use strips_task::{MOST_VARIABLES, OpenSteps, StepView};
 /// How many words of a step are read: with more arguments than an action has parameters, no step is applicable.
 const MOST_WORDS: usize = MOST_VARIABLES + 2;
 
-/// The most bytes that are looked up as a whole. A longer step is read by its words, which takes no longer.
+/// The most bytes that are looked up as a whole. A longer step is read by its first words.
 const LONGEST_ROW: usize = 4096;
 
 /// How a pass over a text ended.
@@ -55,10 +57,11 @@ pub(crate) fn pass(
     ensures passed { IfOk result (λ passed. EndsPass passed walk.new judge.new) }
 {
     'steps: loop {
-        if go_on(alloc, judge, walk)? {
+        let tried = go_on(alloc, judge, walk)?;
+        if let Tried::Taken = tried {
             continue 'steps;
         }
-        if let Some(passed) = take_next(alloc, judge, step, walk)? {
+        if let Some(passed) = take_next(alloc, judge, step, walk, tried)? {
             return Ok(passed);
         }
     }
@@ -78,19 +81,31 @@ pub(crate) fn advance(
     ensures next { IfOk result (λ passed. (steps : List StepText) → HasPassed walk.old steps → HasTaken judge.old steps → GoOnOrEnd passed walk.new judge.new steps) }
     ensures shorter { IfOk result (λ passed. passed ≡ None → length walk.new.rest < length walk.old.rest) }
 {
-    if go_on(alloc, judge, walk)? {
-        return Ok(None);
+    match go_on(alloc, judge, walk)? {
+        Tried::Taken => Ok(None),
+        tried => take_next(alloc, judge, step, walk, tried),
     }
-    take_next(alloc, judge, step, walk)
 }
 
-/// Takes the next step by its words, or returns how the pass ends here.
+/// What came of trying to take the next step by its bytes.
+#[derive(Clone, Copy)]
+enum Tried {
+    /// It was taken.
+    Taken,
+    /// It was not, though it may be one.
+    NotTaken,
+    /// No list was seen to come next.
+    NoGroup,
+}
+
+/// Takes the next step by its words, or passes a stamp or a number, or returns how the pass ends here. Taking the step by its bytes was tried before.
 #[inline(always)]
 fn take_next(
     alloc: Global,
     judge: &mut Judge<'_>,
     step: &mut OpenSteps,
     walk: &mut PlanSteps<'_>,
+    tried: Tried,
 ) -> Result<Option<Passed>, AllocError>
     requires { AreTogether walk.old judge.old }
     ensures task { judge.new.task ≡ judge.old.task }
@@ -98,10 +113,13 @@ fn take_next(
     ensures next { IfOk result (λ passed. (steps : List StepText) → HasPassed walk.old steps → HasTaken judge.old steps → GoOnOrEnd passed walk.new judge.new steps) }
     ensures shorter { IfOk result (λ passed. passed ≡ None → length walk.new.rest < length walk.old.rest) }
 {
-    match walk.next_step() {
-        TextStep::End => Ok(Some(Passed::All)),
-        TextStep::Unreadable { line } => Ok(Some(Passed::Unreadable { line })),
-        TextStep::Step { words, .. } => match take_words(alloc, judge, step, words)? {
+    match read_next(walk, tried) {
+        Onward::Number => Ok(None),
+        Onward::Found(TextStep::End) => Ok(Some(Passed::All)),
+        Onward::Found(TextStep::Unreadable { line }) => Ok(Some(Passed::Unreadable { line })),
+        Onward::Found(TextStep::Step { words, .. }) => match take_words(
+            alloc, judge, step, words,
+        )? {
             None => Ok(None),
             Some(why) => Ok(Some(Passed::Fails {
                 step: walk.count() as u32,
@@ -111,34 +129,49 @@ fn take_next(
     }
 }
 
-/// Takes the next step, if the bytes between its parentheses are its names with single spaces between them, and it is applicable. A step that the
-/// judge knows is found by those bytes as a whole. Before and after a step, it passes a stamp or a number instead. Returns whether it did either;
-/// otherwise the walk stays where it is.
+/// Reads the next step, or a stamp or a number before it, in the way that is faster after trying to take the step by its bytes.
 #[inline(always)]
-fn go_on(alloc: Global, judge: &mut Judge<'_>, walk: &mut PlanSteps<'_>) -> Result<bool, AllocError>
+fn read_next<'a>(walk: &mut PlanSteps<'a>, tried: Tried) -> Onward<'a>
+    ensures { IsOnward result walk.old walk.new }
+{
+    match tried {
+        Tried::NoGroup => walk.read_on(),
+        Tried::Taken | Tried::NotTaken => Onward::Found(walk.next_step()),
+    }
+}
+
+/// Takes the next step, if it begins right here, the bytes between its parentheses are its names with single spaces between them, and it is applicable.
+/// A step that the judge knows is found by those bytes as a whole. If the step is not taken, the walk stays where it
+/// is.
+#[inline(always)]
+fn go_on(
+    alloc: Global,
+    judge: &mut Judge<'_>,
+    walk: &mut PlanSteps<'_>,
+) -> Result<Tried, AllocError>
     requires { AreTogether walk.old judge.old }
     ensures task { judge.new.task ≡ judge.old.task }
     ensures text { walk.new.text ≡ walk.old.text }
-    ensures next { IfOk result (λ goes_on. (steps : List StepText) → HasPassed walk.old steps → HasTaken judge.old steps → GoOn walk.new judge.new steps) }
-    ensures together { IfOk result (λ goes_on. AreTogether walk.new judge.new) }
-    ensures shorter { IfOk result (λ goes_on. IsTrue goes_on → length walk.new.rest < length walk.old.rest) }
-    ensures stays { IfOk result (λ goes_on. goes_on ≡ false → walk.new ≡ walk.old) }
+    ensures next { IfOk result (λ tried. (steps : List StepText) → HasPassed walk.old steps → HasTaken judge.old steps → GoOn walk.new judge.new steps) }
+    ensures together { IfOk result (λ tried. AreTogether walk.new judge.new) }
+    ensures shorter { IfOk result (λ tried. tried ≡ Tried.Taken → length walk.new.rest < length walk.old.rest) }
+    ensures stays { IfOk result (λ tried. tried ≢ Tried.Taken → walk.new ≡ walk.old) }
 {
     let Some(group) = walk.next_group() else {
-        return Ok(walk.pass_number());
+        return Ok(Tried::NoGroup);
     };
     if group.key.len() > LONGEST_ROW {
-        return Ok(false);
+        return Ok(Tried::NotTaken);
     }
     if judge.take_known(group.key) {
         walk.skip(group);
-        return Ok(true);
+        return Ok(Tried::Taken);
     }
     if !judge.take_row(alloc, group.key)? {
-        return Ok(false);
+        return Ok(Tried::NotTaken);
     }
     walk.skip(group);
-    Ok(true)
+    Ok(Tried::Taken)
 }
 
 /// Takes a step of these words, or returns why it is not applicable.

@@ -9,6 +9,7 @@ ghost use Rattle.pddl_syntax.specs.Forms.{action_forms, action_syntax_form, atom
 ghost use Rattle.pddl_syntax.specs.Reading.{Gives, Puts};
 ghost use Rattle.pddl_reader.specs.Domain.{action_by, action_doing, action_meant, actions_from, changed, effects_of, no_actions, with_action_of, with_change, with_effect};
 
+use crate::resolution::again::{NextRow, next_row, repeat_addition, repeat_condition};
 use crate::resolution::atoms::pattern;
 use crate::resolution::functions::put_increase;
 use crate::resolution::literals::unsupported;
@@ -79,22 +80,35 @@ fn condition(
     }
 }
 
-/// The conditions that literals of an action stand for.
+/// The conditions that literals of an action stand for. A literal that is written as the one before it is not looked up again.
 #[tactic(auto, using(crate::proofs::DeclarationSteps::conditions_steps))]
-fn conditions(
+fn conditions<'a>(
     alloc: Global,
     known: &Declared<'_>,
     parameters: &ActionParameters<'_>,
-    mut literals: Literals<'_>,
+    mut literals: Literals<'a>,
 ) -> Result<Seq<Cond>, ReadFault>
     requires { length parameters.now.names.items ≤ most_variables }
     ensures { Gives (λ conditions. conditions) result (conditions_of (known_form known.now) (parameters_form parameters.now) literals.entry) }
 {
     let mut conditions = Seq::new(alloc);
-    'conditions: while let Some(literal) = literals.next(alloc)? {
-        conditions.push(condition(alloc, known, parameters, &literal)?)?;
+    let mut before: Option<&'a [u8]> = None;
+    'conditions: loop {
+        let row = match next_row(&literals, before) {
+            NextRow::Again(row) => {
+                literals.pass(row);
+                repeat_condition(alloc, &mut conditions)?;
+                continue 'conditions;
+            }
+            NextRow::Atom(bytes) => Some(bytes),
+            NextRow::Other => None,
+        };
+        match literals.next(alloc)? {
+            Some(literal) => conditions.push(condition(alloc, known, parameters, &literal)?)?,
+            None => return Ok(conditions),
+        }
+        before = row;
     }
-    Ok(conditions)
 }
 
 /// Appends a pattern to those that are added (`positive`) or to those that are deleted.
@@ -164,13 +178,13 @@ fn put_effect(
     }
 }
 
-/// The effects that literals of an action stand for.
-#[tactic(auto, using(crate::proofs::Through::through_steps, crate::proofs::ActionMeaning::effects_steps))]
-fn effect(
+/// The effects that literals of an action stand for. A literal that is written as the one before it is not looked up again.
+#[tactic(auto, using(crate::proofs::Through::through_steps, crate::proofs::ActionMeaning::effects_steps, crate::proofs::AgainSteps::effect_added))]
+fn effect<'a>(
     alloc: Global,
     vocabulary: &Vocabulary<'_>,
     parameters: &ActionParameters<'_>,
-    mut literals: Literals<'_>,
+    mut literals: Literals<'a>,
 ) -> Result<Effects, ReadFault>
     requires { length parameters.now.names.items ≤ most_variables }
     ensures { Gives (λ effects. effects) result (effects_of (vocabulary_form vocabulary.now) (parameters_form parameters.now) literals.entry) }
@@ -180,10 +194,23 @@ fn effect(
         del: Seq::new(alloc),
         increases: Increases::new(alloc),
     };
-    'effects: while let Some(literal) = literals.next(alloc)? {
-        put_effect(alloc, vocabulary, parameters, &mut effects, &literal)?;
+    let mut before: Option<&'a [u8]> = None;
+    'effects: loop {
+        let row = match next_row(&literals, before) {
+            NextRow::Again(row) => {
+                literals.pass(row);
+                repeat_addition(alloc, &mut effects.add)?;
+                continue 'effects;
+            }
+            NextRow::Atom(bytes) => Some(bytes),
+            NextRow::Other => None,
+        };
+        match literals.next(alloc)? {
+            Some(literal) => put_effect(alloc, vocabulary, parameters, &mut effects, &literal)?,
+            None => return Ok(effects),
+        }
+        before = row;
     }
-    Ok(effects)
 }
 
 /// The precondition and the effects of an action.

@@ -17,6 +17,7 @@ use crate::resolution::initial::{InitialState, initial};
 use crate::resolution::literals::unsupported;
 use crate::resolution::names::name;
 use crate::resolution::parts::{part_items, part_literals};
+use crate::resolution::rows::{RowNumbers, next_atom};
 use crate::resolution::tables::Declared;
 use crate::resolution::terms::object;
 use pddl_syntax::{EqualitySyntax, LiteralSyntax, Literals, ProblemSyntax, ReadFault};
@@ -65,7 +66,7 @@ fn ground_condition(
     }
 }
 
-/// The ground conditions that literals of a problem stand for.
+/// The ground conditions that literals of a problem stand for. Atoms that are rows of names are looked up as they are written.
 #[tactic(auto, using(crate::proofs::ProblemMeaning::conditions_steps))]
 fn ground_conditions(
     alloc: Global,
@@ -75,10 +76,20 @@ fn ground_conditions(
     ensures { Gives (λ conditions. conditions) result (ground_conditions_of (known_form known.now) literals.entry) }
 {
     let mut conditions = Seq::new(alloc);
-    'conditions: while let Some(literal) = literals.next(alloc)? {
-        conditions.push(ground_condition(alloc, known, &literal)?)?;
+    let mut numbers = RowNumbers::new(alloc);
+    'conditions: loop {
+        if let Some(atom) = next_atom(alloc, known, &mut literals, &mut numbers)? {
+            conditions.push(GroundCond {
+                positive: true,
+                formula: GroundFormula::Atom(atom),
+            })?;
+            continue 'conditions;
+        }
+        match literals.next(alloc)? {
+            Some(literal) => conditions.push(ground_condition(alloc, known, &literal)?)?,
+            None => return Ok(conditions),
+        }
     }
-    Ok(conditions)
 }
 
 /// What a problem gives besides its objects: its name, the initial state and the goal.

@@ -1,6 +1,6 @@
-//! Initial atoms that are written as names with a single space between each two.
+//! Initial atoms, and atoms of the goal, that are written as names with a single space between each two.
 //!
-//! Nearly all initial atoms are, and a problem may have hundreds of thousands. They are not read word by word: the names of such a row are looked
+//! Nearly all of them are, and a problem may have hundreds of thousands. They are not read word by word: the names of such a row are looked
 //! up as they are written, and a word that is found is a name. Any other literal is read as its syntax, and so is one with a fault.
 
 ghost use Rattle.std.specs.Prelude.{◌≡◌, ◌++◌, [], ◌∷◌, ◌↔◌, ◌&&◌, nat_eq, length, map, true, false, All, IfNone, IfOk, IfSome, IsTrue, List, OnOk, Some, ℕ};
@@ -241,6 +241,7 @@ fn row_atom(
 }
 
 /// The atom that the next literal stands for, if it is written as a row and has no fault. Otherwise no literal is passed.
+#[tactic(auto, using(pddl_syntax::proofs::AtomRows::names_are_atom_row))]
 pub(crate) fn next_atom(
     alloc: Global,
     known: &Declared<'_>,
@@ -262,6 +263,7 @@ pub(crate) fn next_atom(
 
 /// The key of the atom that the next literal stands for, if it is written as a row, has no fault and at most four objects. Otherwise no literal is
 /// passed.
+#[tactic(auto, using(pddl_syntax::proofs::AtomRows::names_are_atom_row))]
 #[inline(always)]
 fn next_key(
     known: &Declared<'_>,

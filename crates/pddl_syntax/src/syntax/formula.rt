@@ -1,15 +1,17 @@
 //! Steps over literals, formulas and effects, and tests them. That takes no memory.
 
-ghost use Rattle.std.specs.Prelude.{◌≡◌};
+ghost use Rattle.std.specs.Prelude.{◌≡◌, false, IsTrue};
 ghost use Rattle.pddl_syntax.specs.Levels.{here};
 ghost use Rattle.pddl_syntax.specs.Reading.{PassesList, ReadsList, TakesWord};
 ghost use Rattle.pddl_syntax.specs.Heads.{is_term};
+ghost use Rattle.pddl_syntax.specs.Rows.{PassesAtom};
 ghost use Rattle.pddl_syntax.specs.Syntax.{number_of};
 ghost use Rattle.pddl_syntax.specs.Presence.{are_conjuncts, is_equality, are_words, is_amount, is_formula, is_function, is_increase, is_literal, is_negated, is_negated_in, is_target, is_value};
 
 use crate::fault::{FaultKind, ReadFault};
 use crate::heads::{
-    Context, FormulaHead, LiteralHead, Scope, formula_head, is_and, is_term, literal_head,
+    Context, FormulaHead, LiteralHead, Scope, formula_head, heads_atom, is_and, is_term,
+    literal_head,
 };
 use crate::syntax::lists::{enter_list, leave_list};
 use crate::syntax::refusals::{function_fault, name_fault};
@@ -202,6 +204,25 @@ pub(crate) fn literal(walk: &mut Walk<'_>, scope: Scope, head: Word<'_>) -> Resu
     }
 }
 
+/// Steps over the atom that follows, if it is written as names with a single space between each two. Returns whether it was.
+#[inline(always)]
+pub(crate) fn pass_row(walk: &mut Walk<'_>) -> bool
+    ensures atom { IsTrue result → PassesAtom (here walk.old.cursor) (here walk.new.cursor) }
+    ensures other { result ≡ false → here walk.new.cursor ≡ here walk.old.cursor }
+{
+    let Some(group) = walk.next_group() else {
+        return false;
+    };
+    if !group.are_names() {
+        return false;
+    }
+    if !heads_atom(group.key) {
+        return false;
+    }
+    walk.pass(group);
+    true
+}
+
 /// Steps over what is in the parentheses of a formula or an effect.
 #[cycle(formulas)]
 #[tactic(auto, using(crate::proofs::FormulaSteps::formula_steps))]
@@ -222,11 +243,14 @@ pub(crate) fn formula(walk: &mut Walk<'_>, scope: Scope) -> Result<(), ReadFault
 
 /// Steps over the formulas after `and`.
 #[cycle(formulas)]
-#[tactic(auto, using(crate::proofs::FormulaSteps::conjunct_steps))]
+#[tactic(auto, using(crate::proofs::FormulaSteps::conjunct_steps, crate::proofs::RowSteps::atom_steps))]
 fn conjuncts(walk: &mut Walk<'_>, scope: Scope) -> Result<(), ReadFault>
     ensures { PassesList result (are_conjuncts scope) (here walk.old.cursor) (here walk.new.cursor) }
 {
     'conjuncts: loop {
+        if pass_row(walk) {
+            continue 'conjuncts;
+        }
         match walk.next() {
             Item::Close(_) => return Ok(()),
             Item::Open(_) => formula(walk, scope)?,

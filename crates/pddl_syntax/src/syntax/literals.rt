@@ -1,16 +1,16 @@
 //! The literals of formulas, effects and initial atoms. Only where they begin is kept, and they are read again one by one.
 
-ghost use Rattle.std.specs.Prelude.{◌≡◌, ◌+◌, ◌<◌, ◌^◌, [], ◌∷◌, true, IfSome, IsSome, Some};
+ghost use Rattle.std.specs.Prelude.{◌≡◌, ◌+◌, ◌<◌, ◌^◌, List, [], ◌∷◌, true, IfSome, IsSome, IsTrue, Some};
 ghost use Rattle.pddl_syntax.specs.Levels.{here};
 ghost use Rattle.pddl_syntax.specs.Sizes.{ahead};
 ghost use Rattle.pddl_syntax.specs.Reading.{ReadsList};
 ghost use Rattle.pddl_syntax.specs.Remaining.{ReadsNext, TakesNext, literals_in, remaining};
-ghost use Rattle.pddl_syntax.specs.Syntax.{atom_literal, formula_in};
-ghost use Rattle.pddl_syntax.specs.Rows.{AreNames, atom_spelled};
+ghost use Rattle.pddl_syntax.specs.Syntax.{LiteralForm, atom_literal, formula_in};
+ghost use Rattle.pddl_syntax.specs.Rows.{atom_spelled, is_atom_row};
 
 use crate::dialect::Dialect;
 use crate::fault::ReadFault;
-use crate::heads::{Context, Scope, heads_atom, is_and};
+use crate::heads::{Context, Scope, heads_atom, is_and, is_atom_row};
 use crate::syntax::LiteralSyntax;
 use crate::syntax::formula::formula;
 use crate::syntax::known::literal;
@@ -83,33 +83,30 @@ impl<'a> Literals<'a> {
         }
     }
 
-    /// The next literal as a row of bytes, if it may be an initial atom that is written as names with a single space between each two.
+    /// The next literal as a row of bytes, if it may be an atom that is written as words with a single space between each two.
     #[inline(always)]
-    pub fn row(&self) -> Option<InitialRow<'a>>
+    pub fn row(&self) -> Option<AtomRow<'a>>
         ensures { IfSome result (λ row. row.before ≡ self.now) }
     {
         if self.depth != 1 {
             return None;
         }
-        let Context::Initial = self.scope.context else {
-            return None;
-        };
         let group = self.walk.next_group()?;
         if !heads_atom(group.key) {
             return None;
         }
-        Some(InitialRow {
+        Some(AtomRow {
             walk: self.walk.fork(),
-            dialect: self.scope.dialect,
+            scope: self.scope,
             group,
         })
     }
 
-    /// Passes the next literal, which the words of its row must spell: all of them are names.
+    /// Passes the next literal, which the words of its row must spell: the first is a name, and each other one a name or a variable.
     #[inline(always)]
-    pub fn pass(&mut self, row: InitialRow<'a>)
+    pub fn pass(&mut self, row: AtomRow<'a>)
         requires next { row.before ≡ self.old }
-        requires spelled { AreNames row.bytes }
+        requires spelled { is_atom_row row.bytes ≡ true }
         ensures { self.old ≡ atom_literal true (atom_spelled row.entry.bytes) ∷ self.new }
     {
         *self = row.literals_after();
@@ -124,33 +121,32 @@ impl<'a> Literals<'a> {
     }
 }
 
-/// The bytes between the parentheses of a literal, which may be names with a single space between each two.
+/// The bytes between the parentheses of a literal, which may be words with a single space between each two.
 ///
-/// If all words are names, the first is the predicate of an initial atom and the others are its terms.
+/// If the first word is a name, and each other one a name or a variable, the first is the predicate of an atom and the others are its terms.
 #[derive(Drop)]
-pub struct InitialRow<'a> {
+pub struct AtomRow<'a> {
     walk: Walk<'a>,
-    dialect: Dialect,
+    scope: Scope,
     group: Group<'a>,
 }
 
-impl<'a> Model for InitialRow<'a> {
+impl<'a> Model for AtomRow<'a> {
     ghost use Rattle.std.specs.Prelude.{◌≡◌, [], true, IsSome, unwrap_or};
-    ghost use Rattle.pddl_syntax.specs.declared.heads.Context.TheVariants.{Initial};
-    ghost use Rattle.pddl_syntax.specs.Heads.{scope_at};
+    ghost use Rattle.pddl_words.specs.Words.{is_name};
     ghost use Rattle.pddl_syntax.specs.Levels.{here};
     ghost use Rattle.pddl_syntax.specs.Remaining.{remaining};
-    ghost use Rattle.pddl_syntax.specs.Rows.{AreNames, ComesNext, RowAhead, heads_atom};
+    ghost use Rattle.pddl_syntax.specs.Rows.{ComesNext, RowAhead, atom_spelled, heads_atom};
 
     ghost Value = { RowAhead };
 
-    ghost view = { λ r. record { bytes = r.group.key.now; before = unwrap_or (remaining (scope_at r.dialect Initial) 1 (here r.walk.cursor)) [] } };
+    ghost view = { λ r. record { bytes = r.group.key.now; before = unwrap_or (remaining r.scope 1 (here r.walk.cursor)) [] } };
 
-    ghost invariant = { λ r. IsSome (remaining (scope_at r.dialect Initial) 1 (here r.walk.cursor)) × ComesNext r.walk.cursor r.group
-        × (AreNames r.group.key.now → heads_atom r.group.key.now ≡ true) };
+    ghost invariant = { λ r. IsSome (remaining r.scope 1 (here r.walk.cursor)) × ComesNext r.walk.cursor r.group
+        × (is_name (atom_spelled r.group.key.now).predicate ≡ true → heads_atom r.group.key.now ≡ true) };
 }
 
-impl<'a> InitialRow<'a> {
+impl<'a> AtomRow<'a> {
     /// The bytes.
     #[inline(always)]
     pub fn bytes(&self) -> &'a [u8]
@@ -159,20 +155,25 @@ impl<'a> InitialRow<'a> {
         self.group.key
     }
 
-    /// The literals after it, if its words are names.
+    /// Whether the first word is a name, and each other one a name or a variable. Then they spell the literal. Takes one pass over the bytes.
+    pub fn is_atom(&self) -> bool
+        ensures is { result ≡ is_atom_row self.now.bytes }
+        ensures spells { IsTrue result → (rest : List LiteralForm) × (self.now.before ≡ atom_literal true (atom_spelled self.now.bytes) ∷ rest) }
+    {
+        is_atom_row(self.group.key)
+    }
+
+    /// The literals after it, if its words spell it.
     #[inline(always)]
     fn literals_after(self) -> Literals<'a>
-        requires { AreNames self.bytes }
+        requires { is_atom_row self.bytes ≡ true }
         ensures { self.entry.before ≡ atom_literal true (atom_spelled self.entry.bytes) ∷ result }
     {
         let mut walk = self.walk;
         walk.pass(self.group);
         Literals {
             walk,
-            scope: Scope {
-                dialect: self.dialect,
-                context: Context::Initial,
-            },
+            scope: self.scope,
             depth: 1,
         }
     }

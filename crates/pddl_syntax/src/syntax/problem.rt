@@ -1,18 +1,17 @@
 //! Problems: a name, and sections in any order, each at most once; `:domain` and `:goal` must be given.
 
-ghost use Rattle.std.specs.Prelude.{◌≡◌, false, IsTrue, None};
+ghost use Rattle.std.specs.Prelude.{◌≡◌, None};
 ghost use Rattle.pddl_syntax.specs.Levels.{here, trees};
 ghost use Rattle.pddl_syntax.specs.Trees.{text_fault};
 ghost use Rattle.pddl_syntax.specs.Reading.{Gives, PassesList, ReadsInto, ReadsList};
 ghost use Rattle.pddl_syntax.specs.Forms.{problem_sections_form, problem_syntax_form};
 ghost use Rattle.pddl_syntax.specs.Syntax.{goal_of, init_item_in, is_problem_section_given, lists_of, no_problem_sections, problem_in, problem_section_by, problem_section_in, problem_sections_of, problem_syntax};
 ghost use Rattle.pddl_syntax.specs.Presence.{are_initial, is_init_item};
-ghost use Rattle.pddl_syntax.specs.Rows.{PassesAtom};
 
 use crate::dialect::Dialect;
 use crate::fault::{FaultKind, ReadFault};
-use crate::heads::{Context, ProblemSection, Scope, heads_atom, problem_section};
-use crate::syntax::formula::literal;
+use crate::heads::{Context, ProblemSection, Scope, problem_section};
+use crate::syntax::formula::{literal, pass_row};
 use crate::syntax::lists::{enter_list, expect_word, header, leave_list, lone_name};
 use crate::syntax::literals::{Literals, kept_literals};
 use crate::syntax::refusals::keyword_fault;
@@ -33,25 +32,6 @@ fn init_item(dialect: Dialect, walk: &mut Walk<'_>) -> Result<(), ReadFault>
         Item::Open(span) => Err(ReadFault::new(FaultKind::Expected, span)),
         Item::Close(span) => Err(ReadFault::new(FaultKind::Expected, span)),
     }
-}
-
-/// Steps over the initial atom that follows, if it is written as names with a single space between each two. Returns whether it was.
-#[inline(always)]
-fn pass_row(walk: &mut Walk<'_>) -> bool
-    ensures atom { IsTrue result → PassesAtom (here walk.old.cursor) (here walk.new.cursor) }
-    ensures other { result ≡ false → here walk.new.cursor ≡ here walk.old.cursor }
-{
-    let Some(group) = walk.next_group() else {
-        return false;
-    };
-    if !group.are_names() {
-        return false;
-    }
-    if !heads_atom(group.key) {
-        return false;
-    }
-    walk.pass(group);
-    true
 }
 
 /// Steps over the initial atoms and values.

@@ -6,12 +6,12 @@ use Rattle.judge_bench.specs.Workers.{AllWorkAt}
 use Rattle.judge_bench.proofs.crew.start_all.Given as goal
 
 -- So far so many workers were started.
-abbrev pub invariant-loop : goal.invariant-loop
-invariant-loop g l = record {
+abbrev pub invariant-loop-number : goal.invariant-loop-number
+invariant-loop-number g l = record {
   sits : SitsAt l.bench l.owner;
   crew : AllWorkAt l.bench l.gate l.crew.items;
-  count : vec_len l.crew ≡ l.counter;
-  length_is : length l.crew.items ≡ l.counter;
+  count : vec_len l.crew ≡ l.number;
+  length_is : length l.crew.items ≡ l.number;
   room : vec_capacity l.crew ≡ vec_capacity l.initial.crew;
-  view : l.owner.view ≡ with_all_out l.initial.owner.view l.counter;
+  view : l.owner.view ≡ with_all_out l.initial.owner.view l.number;
 }

@@ -1,0 +1,33 @@
+use Rattle.std.proofs.Common.{◌≡◌, ℕ, true, List, [], ◌∷◌, unwrap_or, sym, ap, ◌∙◌, arith}
+use Rattle.pddl_syntax.specs.Levels.{here}
+use Rattle.pddl_syntax.specs.Remaining.{remaining}
+use Rattle.pddl_syntax.specs.Syntax.{atom_literal}
+use Rattle.pddl_syntax.specs.Rows.{RowAhead, atom_spelled, is_atom_row}
+use Rattle.pddl_syntax.proofs.AtomRows.{atom_row_is_plain, first_of_atom_row}
+use Rattle.pddl_syntax.proofs.RowSteps.{row_goes_on, row_first, less_ahead}
+use Rattle.pddl_syntax.proofs.syntax.literals.AtomRow.literals_after.Goals as goal
+
+pub pass-requires-clause-spelled : goal.pass-requires-clause-spelled
+pass-requires-clause-spelled c =
+    let row = c.self.inside.group.key.now in
+    let spelled : is_atom_row row ≡ true = ap is_atom_row (ap (λ (r : RowAhead). r.bytes) c.self.view_is) ∙ c.requires in
+    atom_row_is_plain row spelled
+
+pub invariant_of-result : goal.invariant_of-result
+invariant_of-result c =
+    let inside = c.self.inside in
+    let row = inside.group.key.now in
+    let spelled : is_atom_row row ≡ true = ap is_atom_row (ap (λ (r : RowAhead). r.bytes) c.self.view_is) ∙ c.requires in (
+      row_goes_on inside.scope row (here inside.walk.cursor) (here c.pass.new.self.cursor) (c.self.invariant.2 (first_of_atom_row row spelled)) c.pass.ensures c.self.invariant.0,
+      omega (arith, inside.walk.short, less_ahead row (here inside.walk.cursor) (here c.pass.new.self.cursor) c.pass.ensures),
+    )
+
+pub returns : goal.returns
+returns c =
+    let inside = c.self.inside in
+    let row = inside.group.key.now in
+    let bytes = ap (λ (r : RowAhead). r.bytes) c.self.view_is in
+    let spelled : is_atom_row row ≡ true = ap is_atom_row bytes ∙ c.requires in
+    sym (ap (λ (r : RowAhead). r.before) c.self.view_is)
+    ∙ row_first inside.scope row (here inside.walk.cursor) (here c.pass.new.self.cursor) (c.self.invariant.2 (first_of_atom_row row spelled)) c.pass.ensures c.self.invariant.0
+    ∙ ap (λ (b : List ℕ). atom_literal true (atom_spelled b) ∷ unwrap_or (remaining inside.scope 1 (here c.pass.new.self.cursor)) []) bytes
