@@ -1,52 +1,22 @@
 -- Rows whose first word is a name, and whose other words are names or variables.
 
-use Rattle.std.proofs.Common.{◌≡◌, ◌≢◌, ℕ, Bool, true, false, List, [], ◌∷◌, refl, sym, ap, ◌∙◌, subst, ⊎_elim, arith}
+use Rattle.std.proofs.Common.{◌≡◌, ◌≢◌, ℕ, Bool, true, List, [], ◌∷◌, refl, ap, ◌∙◌, ⊎_elim, arith}
 use Rattle.std.specs.Prelude.{◌==◌, ◌&&◌, All, IsTrue}
-use Rattle.std.specs.Char.{is_ascii_alphabetic}
 use Rattle.std.specs.Cmp.{unsigned_Decides}
 use Rattle.std.specs.List.{list_all}
 use Rattle.std.proofs.lemmas.Bool.{and_parts, or_cases}
-use Rattle.std.proofs.lemmas.List.Elements.{All-nil, All-cons, All-head}
-use Rattle.std.proofs.lemmas.List.Splits.{slice_split_none}
+use Rattle.std.proofs.lemmas.List.Elements.{All-nil, All-cons}
 use Rattle.pddl_words.specs.Kinds.{is_marked_name, kind_of_word}
-use Rattle.pddl_words.specs.SpacedWords.{is_space, words_of}
-use Rattle.pddl_words.specs.Words.{is_name, is_name_byte}
+use Rattle.pddl_words.specs.SpacedWords.{words_of}
+use Rattle.pddl_words.specs.Words.{is_name}
 use Rattle.pddl_tokens.specs.Bytes.{class_of, is_word_byte}
 use Rattle.pddl_tokens.specs.Groups.{is_word, IsPlain}
-use Rattle.pddl_tokens.proofs.NamesArePlain.{names_are_plain}
+use Rattle.pddl_tokens.proofs.NamesArePlain.{name_is_word}
 use Rattle.pddl_tokens.proofs.PlainRows.{row_has_words}
 use Rattle.pddl_syntax.specs.declared.heads.Context.{Context}
 use Rattle.pddl_syntax.specs.declared.heads.Context.TheVariants as context
 use Rattle.pddl_syntax.specs.Heads.{is_term, is_variable}
 use Rattle.pddl_syntax.specs.Rows.{AreNames, are_terms, atom_of_words, atom_spelled, is_atom_row}
-
--- a byte that passes a test is no space, if a space does not pass it
-no_space : (test : ℕ → Bool) (b : ℕ) → test 32 ≡ false → test b ≡ true → is_space b ≡ false
-no_space test b other is = by (is_space b) (unsigned_Decides b 32).0
-  where
-    by : (space : Bool) → (space ≡ true → b ≡ 32) → space ≡ false
-    by true space = sym is ∙ ap test (space refl) ∙ other
-    by false space = refl
-
-no_spaces : (bytes : List ℕ) → list_all is_name_byte bytes ≡ true → All (λ b. is_space b ≡ false) bytes
-no_spaces [] all = All-nil (λ b. is_space b ≡ false)
-no_spaces (b ∷ bytes) all =
-    let (first, others) = and_parts (is_name_byte b) (list_all is_name_byte bytes) all in
-    All-cons (λ b. is_space b ≡ false) b bytes (no_space is_name_byte b refl first) (no_spaces bytes others)
-
--- a name is a row of one word
-name_alone : (word : List ℕ) → is_name word ≡ true → words_of word ≡ word ∷ []
-unfolding is_name
-name_alone [] is = absurd cc
-name_alone (b ∷ bytes) is =
-    let (first, others) = and_parts (is_ascii_alphabetic b) (list_all is_name_byte bytes) is in
-    slice_split_none is_space (b ∷ bytes) (All-cons (λ b. is_space b ≡ false) b bytes (no_space is_ascii_alphabetic b refl first) (no_spaces bytes others))
-
-name_is_word : (word : List ℕ) → is_name word ≡ true → is_word word ≡ true
-name_is_word word is =
-    let alone = name_alone word is in
-    let names : list_all is_name (words_of word) ≡ true = rw (alone, is) refl in
-    All-head (λ w. IsTrue (is_word w)) word [] (subst (All (λ w. IsTrue (is_word w))) alone (names_are_plain word names))
 
 word_bytes : (word : List ℕ) → is_word word ≡ true → list_all is_word_byte word ≡ true
 word_bytes [] is = refl

@@ -12,3 +12,4 @@ mod FirstRight
 mod NameLanes
 mod NamePairs
 mod Spaces
+mod CommentRuns

@@ -1,18 +1,19 @@
 -- A row is names where each byte goes on behind the byte before it, and the last byte is no space.
 
-use Rattle.std.proofs.Common.{◌≡◌, ◌≢◌, ℕ, ◌+◌, ◌<◌, ◌-◌, ◌≤◌, suc, zero, Bool, true, false, List, [], ◌∷◌, length, get_or, refl, sym, ap, ap₂, ◌∙◌, subst, arith, add-one, ⊎_elim}
+use Rattle.std.proofs.Common.{◌≡◌, ◌≢◌, ℕ, ◌+◌, ◌<◌, ◌-◌, ◌≤◌, suc, zero, Bool, true, false, List, [], ◌∷◌, drop, take, length, get_or, refl, sym, ap, ap₂, ◌∙◌, subst, arith, add-one, ⊎_elim}
 use Rattle.std.specs.Prelude.{◌&&◌, ◌||◌, ◌==◌, not}
 use Rattle.std.specs.Char.{is_ascii_alphabetic}
 use Rattle.std.specs.Int.{is_in_range}
 use Rattle.std.specs.List.{list_all}
 use Rattle.std.proofs.lemmas.Bool.{eqb-true, eqb-false, ne_eqb, eq-eqb, and_from, and_left, and_right, or_right, cases_eq, cases_lt}
-use Rattle.std.proofs.lemmas.List.{get_or-take, get_or_append_left, get_or_at}
+use Rattle.std.proofs.lemmas.List.{get_or-drop, get_or-take, get_or_append_left, get_or_at}
 use Rattle.pddl_words.specs.SpacedWords.{is_space, words_of}
 use Rattle.pddl_words.specs.Words.{is_name, is_name_byte}
 use Rattle.pddl_words.proofs.NameRows.{names_from, from_start, at_end, no_letter, letter, space, name_byte, other_byte}
 use Rattle.pddl_tokens.specs.Groups.{BeginsWithList}
 use Rattle.pddl_tokens.specs.Pairs.{begins_name, goes_on}
 use Rattle.pddl_tokens.proofs.NameLanes.{GoesOnTo}
+use Rattle.pddl_tokens.proofs.Steps.{rest_whole}
 
 -- single bytes
 
@@ -141,34 +142,50 @@ left_stops before = refl
 same_pair : (list key : List ℕ) (k : ℕ) → BeginsWithList list key → k < length key → goes_on (get_or list k 0) (get_or list (k + 1) 0) ≡ goes_on (get_or (40 ∷ key) k 0) (get_or key k 0)
 same_pair list key k begins lt = ap₂ goes_on (key_at list key k begins (omega arith)) (next_at list key k begins lt)
 
+-- each of so many bytes behind the first goes on behind the one before it
+abbrev pub AllGoOn : List ℕ → ℕ → Type 0
+AllGoOn list size = (k : ℕ) → k < size → goes_on (get_or list k 0) (get_or list (k + 1) 0) ≡ true
+
 -- no key that goes on ends with a `(`
-last_no_left : (list : List ℕ) (size : ℕ) → 0 < size → size < 32 → GoesOnTo list size → get_or list size 0 ≢ 40
-last_no_left list size some few seen is =
+last_no_left : (list : List ℕ) (size : ℕ) → 0 < size → AllGoOn list size → get_or list size 0 ≢ 40
+last_no_left list size some all is =
     let back : size - 1 + 1 ≡ size = omega arith in
-    let goes : goes_on (get_or list (size - 1) 0) (get_or list (size - 1 + 1) 0) ≡ true = seen.before (size - 1) (omega arith) (omega arith) in
+    let goes : goes_on (get_or list (size - 1) 0) (get_or list (size - 1 + 1) 0) ≡ true = all (size - 1) (omega arith) in
     let left : get_or list (size - 1 + 1) 0 ≡ 40 = ap (λ (j : ℕ). get_or list j 0) back ∙ is in
     let no : goes_on (get_or list (size - 1) 0) 40 ≡ true = ap (goes_on (get_or list (size - 1) 0)) (sym left) ∙ goes in
     absurd (cc (left_stops (get_or list (size - 1) 0)))
 
 -- all of the key goes on, and it ends with no space
-names_seen : (list key : List ℕ) (at : ℕ) → BeginsWithList list key → 0 < length key → length key < 32 → GoesOnTo list at → at ≡ length key → get_or list (length key) 0 ≢ 32 → true ≡ list_all is_name (words_of key)
-names_seen list key at begins some few seen is other =
-    let whole : GoesOnTo list (length key) = subst (GoesOnTo list) is seen in
+names_seen : (list key : List ℕ) → BeginsWithList list key → 0 < length key → AllGoOn list (length key) → get_or list (length key) 0 ≢ 32 → true ≡ list_all is_name (words_of key)
+names_seen list key begins some all other =
     let last : get_or list (length key) 0 ≡ get_or (40 ∷ key) (length key) 0 = key_at list key (length key) begins (omega arith) in
-    let end : begins_name (get_or list (length key) 0) ≡ false = begins_none _ other (last_no_left list (length key) some few whole) in
+    let end : begins_name (get_or list (length key) 0) ≡ false = begins_none _ other (last_no_left list (length key) some all) in
     row_by key true (
-    each_goes 40 key (λ k lt. sym (same_pair list key k begins lt) ∙ whole.before k (omega arith) lt) (ap begins_name (sym last) ∙ end)
+    each_goes 40 key (λ k lt. sym (same_pair list key k begins lt) ∙ all k lt) (ap begins_name (sym last) ∙ end)
     )
 
 space_seen : (list key : List ℕ) → BeginsWithList list key → get_or list (length key) 0 ≡ 32 → false ≡ list_all is_name (words_of key)
 space_seen list key begins is =
     row_by key false (ends_open 40 key (space_begins _ (sym (key_at list key (length key) begins (omega arith)) ∙ is)))
 
+-- a byte of the key does not go on
+pub one_seen : (list key : List ℕ) (k : ℕ) → BeginsWithList list key → k < length key → goes_on (get_or list k 0) (get_or list (k + 1) 0) ≡ false → false ≡ list_all is_name (words_of key)
+one_seen list key k begins lt stops = row_by key false (one_stops 40 key k lt (sym (same_pair list key k begins lt) ∙ stops))
+
+-- where all of the key goes on, it is names unless it ends with a space
+pub all_seen : (list key : List ℕ) → BeginsWithList list key → 0 < length key → AllGoOn list (length key) → not (get_or list (length key) 0 == 32) ≡ list_all is_name (words_of key)
+all_seen list key begins some all =
+    let last = get_or list (length key) 0 in
+    ⊎_elim
+    (λ (space : last ≡ 32). ap not (eq-eqb last 32 space) ∙ space_seen list key begins space)
+    (λ (other : last ≢ 32). ap not (ne_eqb last 32 other) ∙ names_seen list key begins some all other)
+    (cases_eq last 32)
+
 -- what goes on is shorter or longer than the key
 pub other_len : (list key : List ℕ) (at : ℕ) → BeginsWithList list key → length key < 32 → GoesOnTo list at → at ≢ length key → false ≡ list_all is_name (words_of key)
 other_len list key at begins few seen other =
     ⊎_elim
-    (λ (lt : at < length key). row_by key false (one_stops 40 key at lt (sym (same_pair list key at begins lt) ∙ seen.end (omega arith))))
+    (λ (lt : at < length key). one_seen list key at begins lt (seen.end (omega arith)))
     (λ (le : length key ≤ at).
     let goes : goes_on (get_or list (length key) 0) (get_or list (length key + 1) 0) ≡ true = seen.before (length key) few (omega arith) in
     let no : goes_on (get_or list (length key) 0) 41 ≡ true = ap (goes_on (get_or list (length key) 0)) (sym (right_at list key begins)) ∙ goes in
@@ -177,8 +194,12 @@ other_len list key at begins few seen other =
 
 pub same_len : (list key : List ℕ) (at : ℕ) → BeginsWithList list key → 0 < length key → length key < 32 → GoesOnTo list at → at ≡ length key → not (get_or list (length key) 0 == 32) ≡ list_all is_name (words_of key)
 same_len list key at begins some few seen is =
-    let last = get_or list (length key) 0 in
-    ⊎_elim
-    (λ (space : last ≡ 32). ap not (eq-eqb last 32 space) ∙ space_seen list key begins space)
-    (λ (other : last ≢ 32). ap not (ne_eqb last 32 other) ∙ names_seen list key at begins some few seen is other)
-    (cases_eq last 32)
+    let whole : GoesOnTo list (length key) = subst (GoesOnTo list) is seen in
+    all_seen list key begins some (λ k lt. whole.before k (omega arith) lt)
+
+-- the bytes behind an offset
+pub moved : (list : List ℕ) (at k : ℕ) → let behind = take (length list - at) (drop at list) in goes_on (get_or behind k 0) (get_or behind (k + 1) 0) ≡ goes_on (get_or list (at + k) 0) (get_or list (at + k + 1) 0)
+moved list at k =
+    let next : at + (k + 1) ≡ at + k + 1 = omega arith in
+    ap (λ (behind : List ℕ). goes_on (get_or behind k 0) (get_or behind (k + 1) 0)) (rest_whole list at)
+    ∙ ap₂ goes_on (get_or-drop at list k 0) (get_or-drop at list (k + 1) 0 ∙ ap (λ (j : ℕ). get_or list j 0) next)

@@ -60,7 +60,8 @@ name_bytes (b ∷ bytes) all =
     let (first, others) = and_parts (is_name_byte b) (list_all is_name_byte bytes) all in
     ap (λ (t : Bool). t && list_all is_word_byte bytes) (name_byte b first) ∙ name_bytes bytes others
 
-name_is_word : (word : List ℕ) → is_name word ≡ true → is_word word ≡ true
+-- a name is a word
+pub name_is_word : (word : List ℕ) → is_name word ≡ true → is_word word ≡ true
 unfolding is_name
 name_is_word [] is = absurd cc
 name_is_word (b ∷ bytes) is =

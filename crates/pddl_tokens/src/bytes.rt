@@ -2,7 +2,7 @@
 
 ghost use Rattle.std.specs.Prelude.{◌≡◌};
 ghost use Rattle.pddl_tokens.specs.Bytes.{class_of, is_word_byte};
-ghost use Rattle.pddl_tokens.specs.Cut.{is_blank_class, is_comment_byte};
+ghost use Rattle.pddl_tokens.specs.Cut.{is_blank_class};
 
 /// What a byte means outside comments.
 #[derive(Clone, Copy, Debug, PartialEq, Eq)]
@@ -64,13 +64,6 @@ pub(crate) fn is_word_byte(b: u8) -> bool
     ensures { result ≡ is_word_byte b }
 {
     matches!(class_of(b), ByteClass::WordByte)
-}
-
-/// Whether a comment goes on with this byte.
-pub(crate) fn is_comment_byte(b: u8) -> bool
-    ensures { result ≡ is_comment_byte b }
-{
-    !matches!(class_of(b), ByteClass::LineEnd)
 }
 
 /// Whether a byte outside comments only separates tokens.

@@ -70,17 +70,48 @@ pub(crate) fn spaces_from(text: &[u8], at: usize) -> usize
 
 /// Whether the key of a list is names, with a single space between each two.
 ///
-/// A key of at most 31 bytes is seen at once, if the text goes on far enough.
+/// A key of at most 31 bytes is seen at once, if the text goes on far enough, and a longer one 32 bytes at a time.
 #[inline(always)]
 pub(crate) fn are_names_in(list: &[u8], key: &[u8]) -> bool
     requires { BeginsWithList list.now key.now }
     ensures { result ≡ list_all is_name (words_of key.now) }
 {
     let size = key.len();
-    if size == 0 || size >= LANES || list.len() <= LANES {
+    if size >= LANES {
+        return are_many_names(list, key);
+    }
+    if size == 0 || list.len() <= LANES {
         return are_names(key);
     }
     names_len(list) == size && list[size] != b' '
+}
+
+/// Whether the key of a list is names, as above, if it has at least 32 bytes. The last 32 are looked at together, also those that were seen before.
+fn are_many_names(list: &[u8], key: &[u8]) -> bool
+    requires begins { BeginsWithList list.now key.now }
+    requires many { 32 ≤ length key.now }
+    ensures { result ≡ list_all is_name (words_of key.now) }
+{
+    let size = key.len();
+    let last = size - LANES;
+    let mut at = 0;
+    'vectors: while at < last {
+        if !all_go_on(list, at) {
+            return false;
+        }
+        at += LANES;
+    }
+    all_go_on(list, last) && list[size] != b' '
+}
+
+/// Whether each of the 32 bytes behind the one at `at` goes on as names.
+#[inline(always)]
+fn all_go_on(list: &[u8], at: usize) -> bool
+    requires { at + 32 < length list.now }
+    ensures all { result ≡ true → (k : ℕ) → at ≤ k → k < at + 32 → goes_on (slice_index list.now k) (slice_index list.now (k + 1)) ≡ true }
+    ensures other { result ≡ false → (k : ℕ) × (at ≤ k) × (k < at + 32) × (goes_on (slice_index list.now k) (slice_index list.now (k + 1)) ≡ false) }
+{
+    names_len(&list[at..]) >= LANES
 }
 
 /// How many of the 32 bytes behind the first go on as names, up to the first that does not. If each does, the answer is 64.

@@ -7,9 +7,10 @@ ghost use Rattle.pddl_tokens.specs.Cut.{is_comment_byte};
 ghost use Rattle.pddl_tokens.specs.Front.{IsFront, pieces_at};
 ghost use Rattle.pddl_tokens.specs.Groups.{BeginsWithList};
 
-use crate::bytes::{ByteClass, class_of, is_blank, is_comment_byte, is_word_byte};
+use crate::bytes::{ByteClass, class_of, is_blank, is_word_byte};
 use crate::lanes::{are_names_in, right_from, spaces_from};
 use crate::spans::{BadByte, Span, Token, TokenKind, TooLong};
+use memchr::memchr;
 use std::marker::Model;
 
 /// A walk over the tokens of a text, one pass over its bytes. A contract sees it as the pieces that are still to come.
@@ -242,5 +243,8 @@ fn comment_run(bytes: &[u8]) -> usize
     ensures run { result ≡ prefix_len is_comment_byte bytes.now }
     ensures within { result ≤ length bytes.now }
 {
-    bytes.iter().take_while(|b| is_comment_byte(**b)).count()
+    match memchr(b'\n', bytes) {
+        Some(end) => end,
+        None => bytes.len(),
+    }
 }

@@ -1,3 +1,4 @@
 pub mod CostTexts
 pub mod Rendering
 pub mod RowTexts
+mod UpperCase

@@ -14,6 +14,7 @@ mod escapes;
 mod format;
 mod json;
 mod lines;
+mod lower_case;
 mod render;
 mod table;
 mod text;

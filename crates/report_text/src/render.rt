@@ -28,6 +28,9 @@ use strips_judge::{Verdict, Why};
 use strips_task::{Atom, GroundCond, GroundFormula, OpenSteps, Plan, StepView, Task};
 use submitted_plan::{Form, SubmittedPlan};
 
+/// Room for what is around a row in a line: parentheses, a fault that names nothing, and the end of the line.
+const AROUND_ROW: usize = 64;
+
 /// Adds the name of the object with a number; a number that no object has adds nothing.
 pub(crate) fn push_object(text: &mut Text, task: &Task, number: u16) -> Result<(), AllocError>
     ensures { OnOk result (text.new ≡ text.old ++ name_at (keys_of task.now.objects) number) }
@@ -332,6 +335,7 @@ fn push_failure_of_row(
 ) -> Result<(), AllocError>
     ensures { OnOk result (text.new ≡ text.old ++ failure_text task.now (Some (step_spelled row.now)) why.now) }
 {
+    text.reserve(row.len().saturating_add(AROUND_ROW))?;
     text.push(b" (")?;
     text.push_folded(row)?;
     text.push(b"): ")?;

@@ -2,6 +2,7 @@
 ghost use Rattle.std.specs.Prelude.{◌≡◌, ◌++◌, [], ℕ, List, OnOk, decimal};
 ghost use Rattle.pddl_words.specs.Words.{folded};
 
+use crate::lower_case::has_upper_case;
 use itoa::Buffer;
 use std::alloc::{AllocError, Global};
 use std::marker::Model;
@@ -33,6 +34,13 @@ impl Text {
         *self.bytes.allocator()
     }
 
+    /// Makes room for that many bytes more, so that the text need not be moved while they are added.
+    pub(crate) fn reserve(&mut self, more: usize) -> Result<(), AllocError>
+        ensures { self.new ≡ self.old }
+    {
+        self.bytes.reserve(more)
+    }
+
     /// Adds bytes at the end.
     pub fn push(&mut self, bytes: &[u8]) -> Result<(), AllocError>
         ensures { OnOk result (self.new ≡ self.old ++ bytes.now) }
@@ -45,7 +53,7 @@ impl Text {
     pub fn push_folded(&mut self, bytes: &[u8]) -> Result<(), AllocError>
         ensures { OnOk result (self.new ≡ self.old ++ folded bytes.now) }
     {
-        if bytes.iter().any(|b| b.is_ascii_uppercase()) {
+        if has_upper_case(bytes) {
             let lower = bytes.to_ascii_lowercase(self.alloc())?;
             return self.push(lower.as_slice());
         }
