@@ -1,7 +1,7 @@
 -- The shown intake where one slot and one view change.
 
 use Rattle.std.proofs.Common.{◌≡◌, ◌≢◌, ◌<◌, ◌≤◌, ℕ, zero, suc, ◌+◌, List, [], ◌∷◌, ◌++◌, slice_get, Some, length, get_or, set, add-one, sym, refl, ap, ◌∙◌, arith}
-use mathlib.Core.Option.{some, none, some-injective, some-ne-none}
+use mathlib.Core.Option.{some, some-injective, some-ne-none}
 use mathlib.Core.Option as maybe
 use lib.ListN.{get_elem?}
 use Rattle.intake_rules.specs.declared.stage.Stage.{Stage}

@@ -1,7 +1,7 @@
 -- The intake that a bench shows: what the owner knows of jobs, closed planners and emitted counts, with the stage of each job.
 
 use Rattle.std.specs.Prelude.{◌≡◌, ℕ, nat_eq, cond, List, [], ◌∷◌, Some}
-use mathlib.Core.Option.{some, none}
+use mathlib.Core.Option.{some}
 use mathlib.Core.Option as maybe
 use Rattle.intake_rules.specs.declared.reply.Reply.{Reply}
 use Rattle.intake_rules.specs.declared.stage.Stage.{Stage}

@@ -1,24 +1,38 @@
 -- The plans of a file, part by part, and of the files, one by one.
 
-use Rattle.std.proofs.Common.{◌≡◌, ℕ, suc, ◌+◌, ◌<◌, List, [], ◌∷◌, ◌++◌, Option, length, map, take, get_or, refl, ap, sym, ◌∙◌, arith, append_assoc, append-nil}
+use Rattle.std.proofs.Common.{◌≡◌, ℕ, zero, suc, ◌+◌, ◌<◌, List, [], ◌∷◌, ◌++◌, Option, length, map, take, get_or, refl, ap, sym, ◌∙◌, arith, append_assoc, append-nil}
 use Rattle.std.specs.Prelude.{slice_range}
-use Rattle.std.proofs.lemmas.List.{take_more, length-append, length-map, length-take}
+use Rattle.std.proofs.lemmas.List.{take_more, length-append, length-map, length-take, map-append}
 use Rattle.judge_bench.specs.Submissions.{SubmissionParts}
 use Rattle.plan_text.specs.Bundle.{parts, parts_from, parts_behind}
 use Rattle.judge_engine.specs.Bundle.{BundleValue}
-use Rattle.judge_engine.specs.Plans.{plan_of_part, plans_of_file, plans_of_files}
+use Rattle.judge_engine.specs.Plans.{bytes_of, plan_of_cut, plan_of_part, plans_of_cuts, plans_of_file, plans_of_files}
+use Rattle.judge_engine.specs.declared.plans.Cut.{Cut}
 
 -- the plans of the parts from an index on
 abbrev pub plans_from : ℕ → List ℕ → ℕ → List SubmissionParts
 plans_from planner bytes start = map (plan_of_part planner) (parts_from bytes start)
 
--- those of a file are those from its first byte on
-pub from_start : (planner : ℕ) (bundle : BundleValue) (plans : List SubmissionParts) → plans ++ plans_from planner bundle.bytes 0 ≡ plans ++ plans_of_file planner bundle
+-- the bytes of the file with a number
+pub bytes_are : (bundles : List BundleValue) (i : ℕ) (bundle : BundleValue) → i < length bundles → bundle ≡ get_or bundles i bundle → bytes_of bundles i ≡ bundle.bytes
+bytes_are [] i bundle lt is = absurd (omega arith)
+bytes_are (b ∷ bundles) zero bundle lt is = ap (λ (b : BundleValue). b.bytes) (sym is)
+bytes_are (b ∷ bundles) (suc i) bundle lt is = bytes_are bundles i bundle (omega (arith, lt)) is
+
+-- what is read behind the last does not matter where there is one
+get_or_any : (bundles : List BundleValue) (i : ℕ) (one other : BundleValue) → i < length bundles → get_or bundles i one ≡ get_or bundles i other
+get_or_any [] i one other lt = absurd (omega arith)
+get_or_any (b ∷ bundles) zero one other lt = refl
+get_or_any (b ∷ bundles) (suc i) one other lt = get_or_any bundles i one other (omega (arith, lt))
+
+-- those of a file are its plans
+pub plans_are : (bundles : List BundleValue) (i : ℕ) (bundle : BundleValue) → i < length bundles → bundle ≡ get_or bundles i bundle
+    → map (plan_of_part i) (parts (bytes_of bundles i)) ≡ plans_of_file i bundle
 unfolding plans_of_file
-from_start planner bundle plans = refl
+plans_are bundles i bundle lt is = ap (λ (bytes : List ℕ). map (plan_of_part i) (parts bytes)) (bytes_are bundles i bundle lt is)
 
 -- one part more
-pub part_more : (planner : ℕ) (bytes : List ℕ) (start end : ℕ) (next : Option ℕ) (plans more : List SubmissionParts)
+part_more : (planner : ℕ) (bytes : List ℕ) (start end : ℕ) (next : Option ℕ) (plans more : List SubmissionParts)
     → parts_from bytes start ≡ slice_range bytes start end ∷ parts_behind bytes next
     → more ≡ plans ++ plan_of_part planner (slice_range bytes start end) ∷ []
     → more ++ map (plan_of_part planner) (parts_behind bytes next) ≡ plans ++ plans_from planner bytes start
@@ -27,21 +41,30 @@ part_more planner bytes start end next plans more first pushed =
     ∙ append_assoc plans (plan_of_part planner (slice_range bytes start end) ∷ []) (map (plan_of_part planner) (parts_behind bytes next))
     ∙ ap (λ l. plans ++ map (plan_of_part planner) l) (sym first)
 
+-- one range more
+pub cut_more : (bundles : List BundleValue) (cut : Cut) (next : Option ℕ) (cuts more : List Cut)
+    → parts_from (bytes_of bundles cut.planner) cut.start ≡ slice_range (bytes_of bundles cut.planner) cut.start cut.end ∷ parts_behind (bytes_of bundles cut.planner) next
+    → more ≡ cuts ++ cut ∷ []
+    → plans_of_cuts bundles more ++ map (plan_of_part cut.planner) (parts_behind (bytes_of bundles cut.planner) next)
+    ≡ plans_of_cuts bundles cuts ++ plans_from cut.planner (bytes_of bundles cut.planner) cut.start
+cut_more bundles cut next cuts more first pushed =
+    part_more cut.planner (bytes_of bundles cut.planner) cut.start cut.end next (plans_of_cuts bundles cuts) (plans_of_cuts bundles more) first
+    (ap (plans_of_cuts bundles) pushed ∙ map-append (plan_of_cut bundles) cuts (cut ∷ []))
+
 -- there is one part more at least
-pub parts_past : (planner : ℕ) (bundle : BundleValue) (start end : ℕ) (next : Option ℕ) (old plans : List SubmissionParts)
-    → plans ++ plans_from planner bundle.bytes start ≡ old ++ plans_of_file planner bundle
-    → parts_from bundle.bytes start ≡ slice_range bundle.bytes start end ∷ parts_behind bundle.bytes next
-    → length plans < length old + length (parts bundle.bytes)
-unfolding plans_of_file
-parts_past planner bundle start end next old plans same first =
+pub parts_past : (planner : ℕ) (bytes : List ℕ) (start end : ℕ) (next : Option ℕ) (old plans : List SubmissionParts)
+    → plans ++ plans_from planner bytes start ≡ old ++ map (plan_of_part planner) (parts bytes)
+    → parts_from bytes start ≡ slice_range bytes start end ∷ parts_behind bytes next
+    → length plans < length old + length (parts bytes)
+parts_past planner bytes start end next old plans same first =
     omega (
       arith,
       ap length same,
       ap length first,
-      length-append plans (plans_from planner bundle.bytes start),
-      length-append old (map (plan_of_part planner) (parts bundle.bytes)),
-      length-map (parts_from bundle.bytes start) (plan_of_part planner),
-      length-map (parts bundle.bytes) (plan_of_part planner),
+      length-append plans (plans_from planner bytes start),
+      length-append old (map (plan_of_part planner) (parts bytes)),
+      length-map (parts_from bytes start) (plan_of_part planner),
+      length-map (parts bytes) (plan_of_part planner),
     )
 
 -- the plans of one file more
@@ -60,3 +83,12 @@ file_more bundles i bundle lt is =
     ap (plans_of_files 0) (take_more bundles i bundle lt ∙ ap (λ (b : BundleValue). take i bundles ++ b ∷ []) (sym is))
     ∙ files_behind 0 (take i bundles) bundle
     ∙ ap (λ (n : ℕ). plans_of_files 0 (take i bundles) ++ plans_of_file n bundle) count
+
+-- the same by the bytes of the file
+pub file_more_at : (bundles : List BundleValue) (i : ℕ) → i < length bundles
+    → plans_of_files 0 (take (i + 1) bundles) ≡ plans_of_files 0 (take i bundles) ++ map (plan_of_part i) (parts (bytes_of bundles i))
+file_more_at bundles i lt =
+    let none : BundleValue = record { name = []; bytes = [] } in
+    let bundle = get_or bundles i none in
+    let is : bundle ≡ get_or bundles i bundle = get_or_any bundles i none bundle lt in
+    file_more bundles i bundle lt is ∙ ap (λ l. plans_of_files 0 (take i bundles) ++ l) (sym (plans_are bundles i bundle lt is))

@@ -1,10 +1,11 @@
 -- The plans of a run.
 
-use Rattle.std.specs.Prelude.{ℕ, suc, List, [], ◌∷◌, ◌++◌, map}
+use Rattle.std.specs.Prelude.{ℕ, suc, ◌<◌, ◌≤◌, List, [], ◌∷◌, ◌++◌, All, map, length, get_or, slice_range}
 use Rattle.judge_bench.specs.Submissions.{SubmissionParts}
 use Rattle.plan_text.specs.Bundle.{parts}
 use Rattle.plan_text.specs.PlanReading.{plan_of}
 use Rattle.judge_engine.specs.Bundle.{BundleValue}
+use Rattle.judge_engine.specs.declared.plans.Cut.{Cut}
 
 -- the plan of a part of a planner's file
 abbrev pub plan_of_part : ℕ → List ℕ → SubmissionParts
@@ -18,3 +19,23 @@ plans_of_file planner bundle = map (plan_of_part planner) (parts bundle.bytes)
 abbrev pub plans_of_files : ℕ → List BundleValue → List SubmissionParts
 plans_of_files planner [] = []
 plans_of_files planner (bundle ∷ bundles) = plans_of_file planner bundle ++ plans_of_files (suc planner) bundles
+
+-- the bytes of a planner's file
+abbrev pub bytes_of : List BundleValue → ℕ → List ℕ
+bytes_of bundles planner = get_or (map (λ (bundle : BundleValue). bundle.bytes) bundles) planner []
+
+-- the range is one of the bytes of a planner's file
+abbrev pub IsCutOf : List BundleValue → Cut → Type 0
+IsCutOf bundles cut = (cut.planner < length bundles) × (cut.start ≤ cut.end) × (cut.end ≤ length (bytes_of bundles cut.planner))
+
+-- each of the ranges is
+abbrev pub AreCutsOf : List BundleValue → List Cut → Type 0
+AreCutsOf bundles cuts = All (IsCutOf bundles) cuts
+
+-- the plan of a range
+abbrev pub plan_of_cut : List BundleValue → Cut → SubmissionParts
+plan_of_cut bundles cut = plan_of_part cut.planner (slice_range (bytes_of bundles cut.planner) cut.start cut.end)
+
+-- the plans of ranges
+abbrev pub plans_of_cuts : List BundleValue → List Cut → List SubmissionParts
+plans_of_cuts bundles cuts = map (plan_of_cut bundles) cuts

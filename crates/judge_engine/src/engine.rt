@@ -8,7 +8,7 @@ ghost use Rattle.pddl_syntax.specs.declared.fault.ReadFault as read_fault;
 ghost use Rattle.pddl_syntax.specs.Trees.{text_fault};
 ghost use Rattle.explanations.specs.AllValid.{task_in};
 ghost use Rattle.judge_engine.specs.Answer.{answer, answer_as, answer_in, planner_of, too_large, plan_count, most_planners, most_plans};
-ghost use Rattle.judge_engine.specs.Plans.{plans_of_files};
+ghost use Rattle.judge_engine.specs.Plans.{AreCutsOf, plans_of_cuts, plans_of_files};
 ghost use Rattle.judge_engine.specs.Refusal.{IsOfTexts, ReadingCallsFor, TextsCallFor, TextsCallForIn};
 ghost use Rattle.report_text.specs.Format.{report};
 ghost use Rattle.judge_engine.specs.declared.fault.Input.{Input};
@@ -18,9 +18,9 @@ use crate::bundle::Bundle;
 use crate::fault::{Input, JudgeFault};
 use crate::inlet::FILE_LIMIT;
 use crate::planner::push_planner;
-use crate::plans::cut_plans;
+use crate::plans::{Cut, CutPlans, cut_plans};
 use crate::report::Report;
-use judge_bench::{Findings, Gate, Listed, Submission, run};
+use judge_bench::{Findings, Gate, run};
 use pddl_reader::{Dialect, FaultKind, ReadFault, read_domain_in, read_problem_in};
 use plan_cost::CostedTask;
 use report_text::{Format, Text, push_head};
@@ -231,12 +231,12 @@ fn judge_planners<R: Threads + Wait + Sync, G: Gate + Sync>(
     ensures refusal { IfErr result (λ fault. IsOfTexts fault → (fault ≡ TooManyPlans) × (most_plans < plan_count bundles.now)) }
     ensures held { IfErr result (λ fault. (job : ℕ) → fault ≡ Held job → G.may_hold gate.now job) }
 {
-    let plans = match cut_plans(alloc, bundles) {
-        Ok(Some(plans)) => plans,
+    let cuts = match cut_plans(alloc, bundles) {
+        Ok(Some(cuts)) => cuts,
         Ok(None) => return Err(JudgeFault::TooManyPlans),
         Err(AllocError) => return Err(JudgeFault::OutOfMemory),
     };
-    match judge_plans(rt, alloc, task, bundles, plans, workers, gate) {
+    match judge_plans(rt, alloc, task, bundles, cuts, workers, gate) {
         Ok(findings) => match report_of(alloc, format, task, bundles, &findings) {
             Ok(report) => Ok(report),
             Err(AllocError) => Err(JudgeFault::OutOfMemory),
@@ -251,12 +251,13 @@ fn judge_plans<R: Threads + Wait + Sync, G: Gate + Sync>(
     alloc: Global,
     task: &CostedTask,
     bundles: &[Bundle],
-    plans: Vec<Submission>,
+    cuts: Vec<Cut>,
     workers: u32,
     gate: &G,
 ) -> Result<Findings, JudgeFault>
     requires planners { length bundles.now ≤ 64 }
-    requires plans { plans.items ≡ plans_of_files 0 bundles.now }
+    requires within { AreCutsOf bundles.now cuts.items }
+    requires plans { plans_of_cuts bundles.now cuts.items ≡ plans_of_files 0 bundles.now }
     requires few { plan_count bundles.now ≤ most_plans }
     requires workers { (1 ≤ workers) × (workers ≤ 32) }
     ensures findings { IfOk result (λ findings. findings ≡ findings_of task.now (length bundles.now) (plans_of_files 0 bundles.now)) }
@@ -264,8 +265,8 @@ fn judge_plans<R: Threads + Wait + Sync, G: Gate + Sync>(
     ensures held { IfErr result (λ fault. (job : ℕ) → fault ≡ Held job → G.may_hold gate.now job) }
 {
     let planners = bundles.len() as u32;
-    let slots = plans.len() as u32;
-    let mut intake = Listed::new(plans);
+    let slots = cuts.len() as u32;
+    let mut intake = CutPlans::new(bundles, cuts);
     let workers = workers.min(slots).max(1);
     match run(rt, alloc, task, planners, slots, &mut intake, workers, gate) {
         Ok(findings) => Ok(findings),

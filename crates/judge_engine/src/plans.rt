@@ -1,56 +1,115 @@
 //! The plans of the planners' files.
 //!
-//! A file is cut into its parts, and each part becomes a plan that is kept as its text: a range of the file's bytes, which are not copied.
-//! It is read when it is judged.
-ghost use Rattle.std.specs.Prelude.{◌≡◌, ◌≤◌, ◌<◌, ◌+◌, ◌++◌, ◌∷◌, [], length, slice_range, IfOk, OnOk, MatchBool, MatchOption};
+//! A file is cut into its parts, and each part is a plan. Of each only the range of its bytes is kept. A plan is made when it is handed in: it is kept as
+//! its text, a range of the file's bytes, which are not copied, and it is read when it is judged.
+ghost use Rattle.std.specs.Prelude.{◌≡◌, ◌≤◌, ◌<◌, ◌+◌, ◌++◌, ◌∷◌, [], length, map, IfOk, OnOk, MatchBool, MatchOption};
 ghost use Rattle.plan_text.specs.Bundle.{parts};
 ghost use Rattle.judge_engine.specs.Answer.{plan_count, most_plans};
-ghost use Rattle.judge_engine.specs.Plans.{plan_of_part, plans_of_file, plans_of_files};
+ghost use Rattle.judge_engine.specs.Plans.{AreCutsOf, bytes_of, plan_of_part, plans_of_cuts, plans_of_files};
 
 use crate::bundle::Bundle;
 use crate::engine::MOST_PLANS;
-use judge_bench::Submission;
+use judge_bench::{Intake, Submission};
 use plan_text::{PartEnd, part_from};
 use std::alloc::{AllocError, Global};
+use std::marker::Model;
+use std::vec::IntoIter;
 
-/// The plans of all files, in the order of the files and of the parts of each, unless there are too many. None is read.
+/// A plan of a planner's file, as the range of its bytes.
+#[derive(Clone, Copy, Debug)]
+pub(crate) struct Cut {
+    planner: u32,
+    start: u32,
+    end: u32,
+}
+
+/// The plans of planners' files, in order. Contracts see those that are still to come.
+#[derive(Drop)]
+pub(crate) struct CutPlans<'b> {
+    bundles: &'b [Bundle],
+    rest: IntoIter<Cut>,
+}
+
+impl<'b> Model for CutPlans<'b> {
+    ghost use Rattle.std.specs.Prelude.{◌≡◌, List, length};
+    ghost use Rattle.std.specs.Vec.Iter.{into_iter_items, into_iter_len};
+    ghost use Rattle.judge_bench.specs.Submissions.{SubmissionParts};
+    ghost use Rattle.judge_engine.specs.Plans.{AreCutsOf, plans_of_cuts};
+
+    ghost Value = { List SubmissionParts };
+
+    ghost view = { λ plans. plans_of_cuts plans.bundles.now (into_iter_items plans.rest) };
+
+    ghost invariant = { λ plans. (into_iter_len plans.rest ≡ length (into_iter_items plans.rest)) × AreCutsOf plans.bundles.now (into_iter_items plans.rest) };
+}
+
+impl<'b> CutPlans<'b> {
+    /// The plans of these ranges. Takes no memory.
+    pub(crate) fn new(bundles: &'b [Bundle], cuts: Vec<Cut>) -> CutPlans<'b>
+        requires { AreCutsOf bundles.now cuts.items }
+        ensures { result ≡ plans_of_cuts bundles.now cuts.items }
+    {
+        CutPlans {
+            bundles,
+            rest: cuts.into_iter(),
+        }
+    }
+}
+
+impl<'b> Intake for CutPlans<'b> {
+    ghost to_come = { λ plans. plans };
+
+    fn next(&mut self) -> Result<Option<Submission>, AllocError> {
+        let Some(
+            Cut {
+                planner,
+                start,
+                end,
+            },
+        ) = self.rest.next()
+        else {
+            return Ok(None);
+        };
+        let plan = self.bundles[planner as usize].plan(start as usize, end as usize)?;
+        Ok(Some(Submission { planner, plan }))
+    }
+}
+
+/// The plans of all files, in the order of the files and of the parts of each, unless there are too many.
 ///
-/// Goes once over the bytes, and takes a few words of memory for each plan.
-pub(crate) fn cut_plans(
-    alloc: Global,
-    bundles: &[Bundle],
-) -> Result<Option<Vec<Submission>>, AllocError>
+/// Goes once over the bytes, and takes twelve bytes of memory for each plan.
+pub(crate) fn cut_plans(alloc: Global, bundles: &[Bundle]) -> Result<Option<Vec<Cut>>, AllocError>
     requires { length bundles.now ≤ 64 }
     ensures { IfOk result (λ found. MatchOption found (most_plans < plan_count bundles.now)
-        (λ plans. (plans.items ≡ plans_of_files 0 bundles.now) × (plan_count bundles.now ≤ most_plans))) }
+        (λ cuts. AreCutsOf bundles.now cuts.items × (plans_of_cuts bundles.now cuts.items ≡ plans_of_files 0 bundles.now) × (plan_count bundles.now ≤ most_plans))) }
 {
-    let mut plans = Vec::new(alloc);
-    for (planner, bundle) in bundles.iter().enumerate() {
-        if !push_parts(&mut plans, planner as u32, bundle)? {
+    let mut cuts = Vec::new(alloc);
+    for planner in 0..bundles.len() {
+        if !push_parts(&mut cuts, bundles, planner as u32)? {
             return Ok(None);
         }
     }
-    Ok(Some(plans))
+    Ok(Some(cuts))
 }
 
 /// Adds the plans of a planner's file, unless there would be too many; then only some are added.
-fn push_parts(
-    plans: &mut Vec<Submission>,
-    planner: u32,
-    bundle: &Bundle,
-) -> Result<bool, AllocError>
-    requires { length plans.old.items ≤ most_plans }
-    ensures { IfOk result (λ fits. MatchBool fits
-        ((plans.new.items ≡ plans.old.items ++ plans_of_file planner bundle.now) × (length plans.new.items ≤ most_plans))
-        (most_plans < length plans.old.items + length (parts bundle.now.bytes))) }
+fn push_parts(cuts: &mut Vec<Cut>, bundles: &[Bundle], planner: u32) -> Result<bool, AllocError>
+    requires known { planner < length bundles.now }
+    requires few { length cuts.old.items ≤ most_plans }
+    requires within { AreCutsOf bundles.now cuts.old.items }
+    ensures within { OnOk result (AreCutsOf bundles.now cuts.new.items) }
+    ensures plans { IfOk result (λ fits. MatchBool fits
+        ((plans_of_cuts bundles.now cuts.new.items ≡ plans_of_cuts bundles.now cuts.old.items ++ map (plan_of_part planner) (parts (bytes_of bundles.now planner))) × (length cuts.new.items ≤ most_plans))
+        (most_plans < length cuts.old.items + length (parts (bytes_of bundles.now planner)))) }
 {
+    let bytes = bundles[planner as usize].bytes();
     let mut start = 0;
     'parts: loop {
-        let PartEnd { end, next } = part_from(bundle.bytes(), start);
-        if plans.len() == MOST_PLANS {
+        let PartEnd { end, next } = part_from(bytes, start);
+        if cuts.len() == MOST_PLANS {
             return Ok(false);
         }
-        push_plan(plans, planner, bundle, start, end)?;
+        push_cut(cuts, planner, start, end)?;
         match next {
             Some(offset) => start = offset,
             None => return Ok(true),
@@ -58,19 +117,18 @@ fn push_parts(
     }
 }
 
-/// Adds the plan of a range of a planner's file.
-fn push_plan(
-    plans: &mut Vec<Submission>,
-    planner: u32,
-    bundle: &Bundle,
-    start: usize,
-    end: usize,
-) -> Result<(), AllocError>
-    requires ordered { start ≤ end }
-    requires within { end ≤ length bundle.now.bytes }
-    ensures { OnOk result (plans.new.items ≡ plans.old.items ++ plan_of_part planner (slice_range bundle.now.bytes start end) ∷ []) }
+/// Adds a plan, if its range can be kept in 32 bits, as it can in every file that is not too large.
+fn push_cut(cuts: &mut Vec<Cut>, planner: u32, start: usize, end: usize) -> Result<(), AllocError>
+    requires { start ≤ end }
+    ensures { OnOk result (cuts.new.items ≡ cuts.old.items ++ record { planner = planner; start = start; end = end } ∷ []) }
 {
-    let plan = bundle.plan(start, end)?;
-    plans.push(Submission { planner, plan })?;
+    if end > u32::MAX as usize {
+        return Err(AllocError);
+    }
+    cuts.push(Cut {
+        planner,
+        start: start as u32,
+        end: end as u32,
+    })?;
     Ok(())
 }

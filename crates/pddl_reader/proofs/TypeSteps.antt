@@ -1,6 +1,6 @@
 -- Types declared and ordered, one equation for each case.
 
-use Rattle.std.proofs.Common.{◌≡◌, ℕ, ◌+◌, ◌<◌, ◌≤◌, ◌++◌, Bool, true, false, ◌||◌, nat_lt, is_some, List, [], ◌∷◌, length, map, drop, Option, Some, None, if◌then◌else◌, refl, ap, sym, ◌∙◌, arith, length-append, append_assoc, add-one, suc, zero}
+use Rattle.std.proofs.Common.{◌≡◌, ℕ, ◌+◌, ◌<◌, ◌≤◌, ◌++◌, Bool, true, false, ◌||◌, nat_lt, is_some, List, [], ◌∷◌, length, map, drop, Option, Some, None, IfSome, if◌then◌else◌, refl, ap, sym, subst, ◌∙◌, arith, length-append, append_assoc, add-one, suc, zero}
 use Rattle.std.proofs.lemmas.List.{drop_all, append-nil}
 use Rattle.std.proofs.lemmas.Bool.{le-ltb, lt-ltb, ltb-true}
 use Rattle.std.proofs.lemmas.Slice.Eq.{bytes_eq-Decides}
@@ -268,7 +268,12 @@ pub no_word : (test : List ℕ → Bool) → list_any test (name_forms []) ≡ f
 unfolding name_forms
 no_word test = refl
 
-pub ruleset cycle_word_steps = (item_steps, any_word, no_word)
+-- what is known of the word before holds of a word that is the same
+pub same_as_before : (names : TypeNames) (parents word : List ℕ) (before : Option (List ℕ)) → IfSome before (λ w. names_cycle names parents w ≡ false) → before ≡ Some word →
+    names_cycle names parents word ≡ false
+same_as_before names parents word before known same = subst (λ b. IfSome b (λ w. names_cycle names parents w ≡ false)) same known
+
+pub ruleset cycle_word_steps = (item_steps, any_word, no_word, same_as_before)
 
 pub group_idle : (dialect : Dialect) (names : TypeNames) (parents : List ℕ) (g : groups.NameGroup) → counts_as_parent dialect (folded g.kind.text.now) ≡ false →
     declares_cycle dialect names parents (name_group_form g) ≡ false

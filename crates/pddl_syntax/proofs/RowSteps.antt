@@ -27,12 +27,12 @@ use Rattle.pddl_syntax.specs.Levels.{Levels, levels, or_end, here}
 use Rattle.pddl_syntax.specs.Optional.{followed_by, guard}
 use Rattle.pddl_syntax.specs.Rows.{AreNames, ComesNext, PassesAtom, PassesRow, is_in_word, is_name_head, atom_of_words, atom_spelled, heads_atom, word_trees}
 use Rattle.pddl_syntax.specs.Sizes.{size, sizes, ahead}
-use Rattle.pddl_syntax.specs.Syntax.{LiteralForm, alone, atom_literal, atom_of, atom_with, conjuncts_of, formula_in, literal_of, words_of}
-use Rattle.pddl_syntax.specs.Presence.{are_conjuncts, are_initial, are_words, is_formula, is_init_item, is_literal}
+use Rattle.pddl_syntax.specs.Syntax.{LiteralForm, alone, atom_literal, atom_of, atom_with, conjuncts_of, end_of, formula_in, literal_of, words_of}
+use Rattle.pddl_syntax.specs.Presence.{are_conjuncts, are_initial, are_words, is_formula, is_init_item, is_literal, is_negated, is_negated_in}
 use Rattle.pddl_syntax.specs.Remaining.{literals_in, remaining}
 use Rattle.pddl_syntax.specs.Trees.{Trees, word, list, begins_with_list}
 use Rattle.pddl_syntax.proofs.AtomRows.{name_is_term}
-use Rattle.pddl_syntax.proofs.FormulaSteps.{conjuncts_first, formula_literal, literal_atom, words_end, words_word}
+use Rattle.pddl_syntax.proofs.FormulaSteps.{conjuncts_first, formula_literal, literal_atom, negated_alone, negated_in_atom, negated_more, words_end, words_word}
 use Rattle.pddl_syntax.proofs.LevelSteps.{some_behind_token}
 use Rattle.pddl_syntax.proofs.ProblemSteps.{init_item_word, initial_first}
 use Rattle.pddl_syntax.proofs.LiteralSteps.{conjuncts_left, is_first, is_second, literal_joined, next_one, one_left}
@@ -164,6 +164,13 @@ formula_by scope (w ∷ words) some heads names =
     let is = name_by_head (formula_head w) heads in
     formula_literal scope w (word_trees words) (no_and w is) ∙ names_spell scope w words is others
 
+negated_by : (scope : Scope) (words : List (List ℕ)) → words ≢ [] → is_name_head (formula_head (atom_of_words words).predicate) ≡ true → list_all is_name words ≡ true → is_negated_in scope (word_trees words) ≡ true
+unfolding word_trees
+negated_by scope [] some heads names = absurd (some refl)
+negated_by scope (w ∷ words) some heads names =
+    let (_, others) = and_parts (is_name w) (list_all is_name words) names in
+    negated_in_atom scope w (word_trees words) (heads_by scope w words (name_by_head (formula_head w) heads)) ∙ names_pass scope.context words others
+
 -- a row of names that heads an atom is an initial atom
 row_is_item : (dialect : Dialect) (row : List ℕ) → heads_atom row ≡ true → AreNames row → is_init_item dialect (word_trees (spaced.words_of row)) ≡ true
 unfolding heads_atom atom_spelled
@@ -173,6 +180,11 @@ row_is_item dialect row heads names = item_by dialect (spaced.words_of row) (row
 row_is_formula : (scope : Scope) (row : List ℕ) → heads_atom row ≡ true → AreNames row → is_formula scope (word_trees (spaced.words_of row)) ≡ true
 unfolding heads_atom atom_spelled
 row_is_formula scope row heads names = formula_by scope (spaced.words_of row) (row_has_words row) heads names
+
+-- and `not` may negate it
+row_is_negated : (scope : Scope) (row : List ℕ) → heads_atom row ≡ true → AreNames row → is_negated_in scope (word_trees (spaced.words_of row)) ≡ true
+unfolding heads_atom atom_spelled
+row_is_negated scope row heads names = negated_by scope (spaced.words_of row) (row_has_words row) heads names
 
 -- a formula of words whose first word heads an atom has that atom, if the others may be its terms
 formula_read : (scope : Scope) (w : List ℕ) (terms : List (List ℕ)) → formula_head w ≡ formula.Name → formula_in scope (word w (word_trees terms)) ≡
@@ -232,13 +244,14 @@ pub row_first : (scope : Scope) (row : List ℕ) (old new : Levels) → heads_at
 row_first scope row old new heads passes some =
     next_one _ (remaining scope 1 old) _ some (row_left scope row old new heads passes some)
 
--- a row of names is an initial atom in every dialect, and a formula wherever there may be one
+-- a row of names is an initial atom in every dialect, and a formula, or negated in one, wherever there may be one
 pub passes_atom : (row : List ℕ) (old new : Levels) → heads_atom row ≡ true → AreNames row → PassesRow row old new → PassesAtom old new
 passes_atom row old new heads names passes = record {
   inside = word_trees (spaced.words_of row);
   first = passes.0;
   atom = λ dialect. row_is_item dialect row heads names;
   formula = λ scope. row_is_formula scope row heads names;
+  negated = λ scope. row_is_negated scope row heads names;
   below = passes.1;
 }
 
@@ -252,3 +265,14 @@ pub smaller_after : (old new : Levels) → PassesAtom old new → size new.top <
 smaller_after old new passes = omega (arith, ap size passes.first)
 
 pub ruleset atom_steps = (atom_passed, conjunct_passed, smaller_after)
+
+pub negation_more : (scope : Scope) (old new : Levels) → PassesAtom old new → end_of new.top ≡ None → is_negated scope old.top ≡ false
+negation_more scope old new passes more = ap (is_negated scope) passes.first ∙ negated_more scope passes.inside new.top more
+
+pub negation_alone : (scope : Scope) (old new : Levels) → PassesAtom old new → end_of new.top ≡ Some tt → is_negated scope old.top ≡ true
+negation_alone scope old new passes ends = ap (is_negated scope) passes.first ∙ negated_alone scope passes.inside new.top ends ∙ passes.negated scope
+
+pub below_passed : (old new : Levels) → PassesAtom old new → new.below ≡ old.below
+below_passed old new passes = passes.below
+
+pub ruleset negation_steps = (negation_more, negation_alone, below_passed)

@@ -14,7 +14,7 @@ use Rattle.pddl_syntax.specs.declared.heads.FormulaHead.TheVariants as formula
 use Rattle.pddl_syntax.specs.declared.heads.Scope.{Scope}
 use Rattle.pddl_syntax.specs.Heads.{formula_head, is_term}
 use Rattle.pddl_syntax.specs.Levels.{Levels}
-use Rattle.pddl_syntax.specs.Presence.{is_formula, is_init_item}
+use Rattle.pddl_syntax.specs.Presence.{is_formula, is_init_item, is_negated_in}
 use Rattle.pddl_syntax.specs.Syntax.{AtomForm, LiteralForm}
 use Rattle.pddl_syntax.specs.Trees.{Trees, none, word, list}
 
@@ -73,10 +73,11 @@ pub record RowAhead : Type 0 where
   pub bytes : List ℕ
   pub before : List LiteralForm
 
--- the walk steps over a list that is an initial atom in each dialect, and a formula and an effect
+-- the walk steps over a list that is an initial atom in each dialect, a formula and an effect, and what `not` may negate
 pub record PassesAtom (old new : Levels) : Type 0 where
   pub inside : Trees
   pub first : old.top ≡ list inside new.top
   pub atom : (dialect : Dialect) → is_init_item dialect inside ≡ true
   pub formula : (scope : Scope) → is_formula scope inside ≡ true
+  pub negated : (scope : Scope) → is_negated_in scope inside ≡ true
   pub below : new.below ≡ old.below

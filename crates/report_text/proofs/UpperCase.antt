@@ -1,6 +1,6 @@
 -- Letters in upper case among bytes, looked at as vectors.
 
-use Rattle.std.proofs.Common.{◌≡◌, ℕ, suc, ◌+◌, ◌*◌, ◌-◌, ◌%◌, ◌^◌, ◌<◌, ◌≤◌, ltb, Bool, true, false, cond, List, [], ◌∷◌, ◌++◌, map, take, drop, length, get_or, replicate, refl, sym, ap, ap₂, ◌∙◌, arith, Fits, w8}
+use Rattle.std.proofs.Common.{◌≡◌, ℕ, suc, ◌+◌, ◌*◌, ◌-◌, ◌%◌, ◌^◌, ◌<◌, ltb, Bool, true, false, cond, List, [], ◌∷◌, ◌++◌, map, take, drop, length, get_or, replicate, refl, sym, ap, ap₂, ◌∙◌, arith, Fits, w8}
 use Rattle.std.specs.Prelude.{◌||◌}
 use Rattle.std.specs.Char.{is_ascii_uppercase}
 use Rattle.std.specs.List.{list_any}
@@ -8,7 +8,7 @@ use Rattle.std.specs.Simd.Lanes.{Each1, chunk, mask_l, top, zip2}
 use Rattle.std.proofs.lemmas.Bool.{agree_below_at, or_from, or_left, or_right}
 use Rattle.std.proofs.lemmas.List.{length-map, take-append-drop}
 use Rattle.std.proofs.lemmas.List.Folds.{list_any-append}
-use Rattle.std.proofs.lemmas.Simd.{chunk-drop, length-chunk, mask_l-mod}
+use Rattle.std.proofs.lemmas.Simd.{chunk-drop, mask_l-mod}
 
 -- no byte up to an offset is in upper case
 abbrev pub NoneUpTo : List ℕ → ℕ → Type 0

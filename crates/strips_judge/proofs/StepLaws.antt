@@ -4,6 +4,7 @@ use Rattle.std.proofs.Common.{◌≡◌, ℕ, ◌+◌, ◌<◌, Bool, true, fals
 use Rattle.std.proofs.Math.Path.{fun_ext}
 use Rattle.std.proofs.lemmas.List.{map_more, take_more}
 use Rattle.std.proofs.lemmas.List.Elements.{filter-append}
+use Rattle.std.specs.List.{list_any}
 use Rattle.std.proofs.lemmas.List.Folds.{list_any-append}
 use Rattle.std.specs.Cmp.{IsEquivalence}
 use Rattle.std.specs.Cmp.Rules.{comparing}
@@ -54,6 +55,14 @@ module _ (state : State) (found before all : List GroundCond) (condition : Groun
       ∙ sym (first_occurrences-push cond_equiv (filter (λ c. not (holds state c)) before) condition)
       ∙ ap (λ b. first_occurrences cond_eq (filter (λ c. not (holds state c)) before ++ cond (not b) (condition ∷ []) [])) (sym h)
       ∙ sym split
+
+  -- one that is there changes nothing
+  pub missing-more_known : list_any (cond_eq condition) found ≡ true → found ≡ missing state all
+  missing-more_known known = by (holds state condition) refl
+    where
+      by : (b : Bool) → holds state condition ≡ b → found ≡ missing state all
+      by true h = missing-more_holds h
+      by false h = ap (λ b. cond b found (found ++ condition ∷ [])) (sym known) ∙ missing-more_fails h
 
 or_assoc : (a b c : Bool) → (a || (b || (c || false))) ≡ ((a || b) || (c || false))
 or_assoc true b c = refl

@@ -2,7 +2,8 @@
 //!
 //! Each atom is grounded into the same one, used again and again, and looked up from there. Only a condition that fails gets memory of its own,
 //! and that ends the plan.
-ghost use Rattle.std.specs.Prelude.{◌≡◌, length, map, All, IfOk, OnOk};
+ghost use Rattle.std.specs.Prelude.{◌≡◌, length, map, true, All, IfOk, IsTrue, OnOk};
+ghost use Rattle.std.specs.List.{list_any};
 ghost use Rattle.indexmap.specs.IndexSet.{insert_key};
 ghost use Rattle.strips_task.specs.Atom.{cond_eq};
 ghost use Rattle.strips_task.specs.Within.{IsFormulaWithin};
@@ -39,7 +40,7 @@ pub(crate) fn missing(
     listed(alloc, found)
 }
 
-/// The ground conditions that do not hold, in order, each only once.
+/// The ground conditions that do not hold, in order, each only once. One that is the same as the last of them is not looked up.
 pub(crate) fn missing_ground(
     alloc: Global,
     state: &NumberedState<'_>,
@@ -49,8 +50,11 @@ pub(crate) fn missing_ground(
 {
     let mut found = IndexSet::with_hasher(alloc, state.seed());
     for cond in conds {
-        if !holds_ground(state, cond) {
-            note(&mut found, cond.copy(alloc)?)?;
+        let is_known = is_last(&found, cond);
+        if !is_known {
+            if !holds_ground(state, cond) {
+                note(&mut found, cond.copy(alloc)?)?;
+            }
         }
     }
     listed(alloc, found)
@@ -84,6 +88,17 @@ fn holds_ground(state: &NumberedState<'_>, cond: &GroundCond) -> bool
         GroundFormula::Equal(left, right) => left == right,
     };
     is_true == cond.positive
+}
+
+/// Whether a condition is the last of a set.
+#[inline(always)]
+fn is_last(found: &IndexSet<GroundCond, Seed>, cond: &GroundCond) -> bool
+    ensures { IsTrue result → list_any (cond_eq cond.now) found.now.keys ≡ true }
+{
+    match found.last() {
+        Some(last) => *cond == *last,
+        None => false,
+    }
 }
 
 /// Adds a condition at the end, unless it is there. Takes one hash, however many there are.

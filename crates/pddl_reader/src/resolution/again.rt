@@ -29,7 +29,7 @@ pub(crate) fn next_row<'a>(literals: &Literals<'a>, before: Option<&[u8]>) -> Ne
     let Some(row) = literals.row() else {
         return NextRow::Other;
     };
-    if is_row(before, row.bytes()) {
+    if is_written_as(before, row.bytes()) {
         return NextRow::Again(row);
     }
     if row.is_atom() {
@@ -38,12 +38,13 @@ pub(crate) fn next_row<'a>(literals: &Literals<'a>, before: Option<&[u8]>) -> Ne
     NextRow::Other
 }
 
-/// Whether there is a row, and it has these bytes.
-fn is_row(row: Option<&[u8]>, bytes: &[u8]) -> bool
-    ensures { IsTrue result → option_copied row.entry ≡ Some bytes.now }
+/// Whether there is a text before, and it has these bytes.
+#[inline(always)]
+pub(crate) fn is_written_as(before: Option<&[u8]>, bytes: &[u8]) -> bool
+    ensures { IsTrue result → option_copied before.entry ≡ Some bytes.now }
 {
-    match row {
-        Some(row) => are_same(row, bytes),
+    match before {
+        Some(before) => are_same(before, bytes),
         None => false,
     }
 }

@@ -92,12 +92,13 @@ fn put_initial(
 }
 
 /// Adds the atoms that the next literals stand for, as long as these are written as rows and have no fault, up to a batch. Returns whether there
-/// was one. The last argument is room for numbers.
+/// was one. The text has room for about `expected` atoms. The last argument is room for numbers.
 fn put_rows(
     alloc: Global,
     vocabulary: &Vocabulary<'_>,
     literals: &mut Literals<'_>,
     state: &mut InitialState,
+    expected: usize,
     numbers: &mut RowNumbers,
 ) -> Result<bool, AllocError>
     ensures same { OnOk result (through (with_initial (vocabulary_form vocabulary.now)) state.new literals.new
@@ -109,7 +110,7 @@ fn put_rows(
     if keys.is_empty() {
         return put_row(alloc, vocabulary, literals, state, numbers);
     }
-    put_keys(&mut state.atoms, keys.as_slice())?;
+    put_keys(&mut state.atoms, keys.as_slice(), expected)?;
     Ok(true)
 }
 
@@ -149,10 +150,17 @@ pub(crate) fn initial(
         atoms: InitialAtoms::new(alloc, seed),
         values: FunctionValues::new(alloc, seed),
     };
-    state.atoms.expect(size / BYTES_FOR_AN_ATOM);
+    let expected = size / BYTES_FOR_AN_ATOM;
     let mut numbers = RowNumbers::new(alloc);
     'literals: loop {
-        if put_rows(alloc, vocabulary, &mut literals, &mut state, &mut numbers)? {
+        if put_rows(
+            alloc,
+            vocabulary,
+            &mut literals,
+            &mut state,
+            expected,
+            &mut numbers,
+        )? {
             continue 'literals;
         }
         match literals.next(alloc)? {

@@ -99,7 +99,7 @@ fn declare_object(
     }
 }
 
-/// Declares objects with one type.
+/// Declares objects with one type. There is room for all of them beforehand, as far as a table may hold them.
 #[tactic(auto, using(crate::proofs::Through::through_steps, crate::proofs::ObjectSteps::named_steps))]
 fn declare_objects(
     alloc: Global,
@@ -109,7 +109,8 @@ fn declare_objects(
 ) -> Result<(), ReadFault>
     ensures { Puts result (through (object_declared kind) objects.old (name_forms words.now)) objects.new }
 {
-    objects.reserve(words.len())?;
+    let room = MOST_OBJECTS.saturating_sub(objects.len());
+    objects.reserve(words.len().min(room))?;
     'words: for word in words {
         declare_object(alloc, objects, *word, kind)?;
     }

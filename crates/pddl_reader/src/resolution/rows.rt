@@ -26,6 +26,9 @@ use strips_task::{Alternatives, Atom, AtomKey, InitialAtoms, ShortSeq, object_fi
 /// How many rows are read before their atoms are added.
 const BATCH: usize = 32;
 
+/// Into how many parts the atoms that are expected are divided, and each part again.
+const PARTS: usize = 8;
+
 /// The numbers of the names of a row, and those of the row before. Contracts see the former.
 ///
 /// In rows that follow each other, names at the same place are often the same, or declared one after the other. So the number at the same place in the row
@@ -305,15 +308,36 @@ pub(crate) fn next_keys(
 }
 
 /// Adds the atoms of keys to a list. First it asks how many are surely new, one right after the other, so that the processor waits for several reads of the
-/// table at once. Atoms that are pushed right afterwards find their part of the table in the cache.
-pub(crate) fn put_keys(list: &mut InitialAtoms, keys: &[AtomKey]) -> Result<(), AllocError>
+/// table at once. Atoms that are pushed right afterwards find their part of the table in the cache. The text has room for about `expected` atoms in
+/// all, on which no answer depends.
+pub(crate) fn put_keys(
+    list: &mut InitialAtoms,
+    keys: &[AtomKey],
+    expected: usize,
+) -> Result<(), AllocError>
     requires { All (λ key. IsKeyOf (atom_of key) key) keys.now }
     ensures { OnOk result (list.new ≡ list.old ++ map atom_of keys.now) }
 {
     let new = list.distinct().surely_new(keys);
-    list.expect(new);
+    list.expect(room_for(list.distinct_len(), new, expected));
     for key in keys {
         list.push_few(*key)?;
     }
     Ok(())
+}
+
+/// For how many more atoms there should be room if a list has `distinct` atoms, `new` ones are added, and the text has room for about `expected`.
+///
+/// A text that gives the same atoms again and again needs no large table, and a table that grows step by step costs little while it is small. So there is
+/// room for an eighth of what is expected once an eighth of that has come, and for all of it once that eighth has come.
+fn room_for(distinct: usize, new: usize, expected: usize) -> usize {
+    let part = expected / PARTS;
+    let wanted = if distinct < part / PARTS {
+        0
+    } else if distinct < part {
+        part
+    } else {
+        expected
+    };
+    new.max(wanted.saturating_sub(distinct))
 }

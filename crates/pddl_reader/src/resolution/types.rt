@@ -11,6 +11,7 @@ ghost use Rattle.pddl_reader.specs.Tables.{value_named};
 ghost use Rattle.pddl_reader.specs.TypeOrder.{counts_as_parent, declared_under, group_declared, is_tree, numbered, object_alone, parent_name, parent_number, parents_of, type_declared, types_declared, types_of};
 ghost use Rattle.pddl_reader.specs.TypeCycles.{declares_cycle, is_under_itself, names_cycle};
 
+use crate::resolution::again::is_written_as;
 use crate::resolution::names::{is_same_name, name, number_of};
 use pddl_syntax::{Dialect, FaultKind, NameGroup, NameWord, ReadFault};
 use pddl_words::same_folded;
@@ -243,7 +244,7 @@ fn names_cycle(
     }
 }
 
-/// The first of the words that names a type under itself.
+/// The first of the words that names a type under itself. A word that is written as the one before it is not looked up again.
 #[tactic(auto, using(crate::proofs::TypeSteps::cycle_word_steps))]
 fn first_in_group<'a>(
     alloc: Global,
@@ -255,10 +256,15 @@ fn first_in_group<'a>(
     requires few { length names.now ≤ most_types }
     ensures { FindsAny result (list_any (names_cycle names.now parents.now) (name_forms words.now)) }
 {
+    let mut before: Option<&'a [u8]> = None;
     'words: for word in words {
+        if is_written_as(before, word.text) {
+            continue 'words;
+        }
         if names_cycle(alloc, names, parents, *word)? {
             return Ok(Some(*word));
         }
+        before = Some(word.text);
     }
     Ok(None)
 }

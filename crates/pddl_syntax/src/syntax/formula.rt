@@ -179,10 +179,13 @@ fn negated_in(walk: &mut Walk<'_>, scope: Scope) -> Result<(), ReadFault>
 }
 
 /// Steps over what `not` negates.
-#[tactic(auto, using(crate::proofs::FormulaSteps::negated_steps))]
+#[tactic(auto, using(crate::proofs::FormulaSteps::negated_steps, crate::proofs::RowSteps::negation_steps))]
 fn negated(walk: &mut Walk<'_>, scope: Scope) -> Result<(), ReadFault>
     ensures { PassesList result (is_negated scope) (here walk.old.cursor) (here walk.new.cursor) }
 {
+    if pass_row(walk) {
+        return leave_list(walk);
+    }
     enter_list(walk)?;
     negated_in(walk, scope)?;
     leave_list(walk)

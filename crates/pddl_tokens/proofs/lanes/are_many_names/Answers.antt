@@ -1,4 +1,4 @@
-use Rattle.std.proofs.Common.{◌+◌, ◌-◌, ◌<◌, ◌≤◌, length, ◌∙◌, arith, ⊎_elim}
+use Rattle.std.proofs.Common.{◌<◌, ◌≤◌, length, ◌∙◌, arith, ⊎_elim}
 use Rattle.std.proofs.lemmas.Bool.{cases_lt}
 use Rattle.pddl_tokens.proofs.NamePairs.{AllGoOn, all_seen, one_seen}
 use Rattle.pddl_tokens.proofs.lanes.are_many_names.Goals as goal
@@ -10,7 +10,6 @@ returns-then-not-all_go_on c =
 
 pub returns-then-all_go_on : goal.returns-then-all_go_on
 returns-then-all_go_on c =
-    let last = length c.args.key.now - 32 in
     let all : AllGoOn c.args.list.now (length c.args.key.now) = λ k lt.
     ⊎_elim
     (λ (before : k < c.vectors.at). c.vectors.invariant k before)

@@ -1,4 +1,4 @@
-use Rattle.std.proofs.Common.{◌-◌, ◌≤◌, length}
+use Rattle.std.proofs.Common.{◌-◌, length}
 use Rattle.pddl_tokens.proofs.NamePairs.{AllGoOn}
 use Rattle.pddl_tokens.proofs.lanes.are_many_names.Given as goal
 

@@ -1,4 +1,4 @@
-use Rattle.std.proofs.Common.{arith, sym, length}
+use Rattle.std.proofs.Common.{sym}
 use Rattle.pddl_tokens.proofs.CommentRuns.{run_to, run_through}
 use Rattle.pddl_tokens.proofs.scan.comment_run.Goals as goal
 

@@ -1,4 +1,4 @@
-use Rattle.std.proofs.Common.{sym, subst, ap, ◌∙◌, arith}
+use Rattle.std.proofs.Common.{sym, subst, ◌∙◌, arith}
 use Rattle.joined_bytes.specs.declared.short_words.ShortWord.{ShortWord}
 use Rattle.joined_bytes.specs.ShortWords.{IsWord}
 use Rattle.strips_task.specs.declared.short_names.Numbered.{Numbered}

@@ -1,4 +1,4 @@
-use Rattle.std.proofs.Common.{◌≡◌, ap, sym, ◌∙◌}
+use Rattle.std.proofs.Common.{ap, sym, ◌∙◌}
 use Rattle.pddl_words.specs.Kinds.{is_same_word}
 use Rattle.pddl_reader.proofs.TypeSteps.{found_under}
 use Rattle.pddl_reader.proofs.resolution.types.is_found_under.Goals as goal

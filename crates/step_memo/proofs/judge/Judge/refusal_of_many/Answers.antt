@@ -1,4 +1,4 @@
-use Rattle.std.proofs.Common.{◌≡◌, ◌+◌, ◌∷◌, ◌++◌, List, length, subst}
+use Rattle.std.proofs.Common.{◌≡◌, ◌+◌, ◌∷◌, ◌++◌, length, subst}
 use Rattle.strips_task.specs.declared.plans.Plan.TheVariants.{Steps}
 use Rattle.strips_task.specs.declared.steps.StepText.{StepText}
 use Rattle.strips_judge.specs.declared.verdict.Verdict.TheVariants.{Fails}
