@@ -1,8 +1,8 @@
 -- The plans of a file, part by part, and of the files, one by one.
 
-use Rattle.std.proofs.Common.{◌≡◌, ℕ, zero, suc, ◌+◌, ◌<◌, List, [], ◌∷◌, ◌++◌, Option, length, map, take, get_or, refl, ap, sym, ◌∙◌, arith, append_assoc, append-nil}
+use Rattle.std.proofs.Common.{◌≡◌, ℕ, zero, suc, ◌+◌, ◌<◌, List, [], ◌∷◌, ◌++◌, Option, length, map, take, get_or, ap, sym, ◌∙◌, arith, append_assoc, append-nil}
 use Rattle.std.specs.Prelude.{slice_range}
-use Rattle.std.proofs.lemmas.List.{take_more, length-append, length-map, length-take, map-append}
+use Rattle.std.proofs.lemmas.List.{get_or_default, take_more, length-append, length-map, length-take, map-append}
 use Rattle.judge_bench.specs.Submissions.{SubmissionParts}
 use Rattle.plan_text.specs.Bundle.{parts, parts_from, parts_behind}
 use Rattle.judge_engine.specs.Bundle.{BundleValue}
@@ -18,12 +18,6 @@ pub bytes_are : (bundles : List BundleValue) (i : ℕ) (bundle : BundleValue) �
 bytes_are [] i bundle lt is = absurd (omega arith)
 bytes_are (b ∷ bundles) zero bundle lt is = ap (λ (b : BundleValue). b.bytes) (sym is)
 bytes_are (b ∷ bundles) (suc i) bundle lt is = bytes_are bundles i bundle (omega (arith, lt)) is
-
--- what is read behind the last does not matter where there is one
-get_or_any : (bundles : List BundleValue) (i : ℕ) (one other : BundleValue) → i < length bundles → get_or bundles i one ≡ get_or bundles i other
-get_or_any [] i one other lt = absurd (omega arith)
-get_or_any (b ∷ bundles) zero one other lt = refl
-get_or_any (b ∷ bundles) (suc i) one other lt = get_or_any bundles i one other (omega (arith, lt))
 
 -- those of a file are its plans
 pub plans_are : (bundles : List BundleValue) (i : ℕ) (bundle : BundleValue) → i < length bundles → bundle ≡ get_or bundles i bundle
@@ -90,5 +84,5 @@ pub file_more_at : (bundles : List BundleValue) (i : ℕ) → i < length bundles
 file_more_at bundles i lt =
     let none : BundleValue = record { name = []; bytes = [] } in
     let bundle = get_or bundles i none in
-    let is : bundle ≡ get_or bundles i bundle = get_or_any bundles i none bundle lt in
+    let is : bundle ≡ get_or bundles i bundle = get_or_default bundles i none bundle lt in
     file_more bundles i bundle lt is ∙ ap (λ l. plans_of_files 0 (take i bundles) ++ l) (sym (plans_are bundles i bundle lt is))
