@@ -1,6 +1,6 @@
 -- Literals of an action that are written as the literal before them: the last item is what that one stands for.
 
-use Rattle.std.proofs.Common.{◌≡◌, ℕ, true, List, [], ◌∷◌, ◌++◌, Option, Some, None, refl, ap, sym, ◌∙◌}
+use Rattle.std.proofs.Common.{◌≡◌, ℕ, true, List, [], ◌∷◌, ◌++◌, Option, Some, None, IfSome, refl, ap, sym, ◌∙◌}
 use Rattle.strips_task.specs.declared.actions.Pattern.{Pattern}
 use Rattle.pddl_syntax.specs.Rows.{atom_spelled, is_atom_row}
 use Rattle.pddl_syntax.specs.Syntax.{AtomForm, LiteralForm, atom_literal}
@@ -42,3 +42,9 @@ addition_last v p effects new literals others literal row begin first meant =
     let is = sym (effect_of_atom v p effects true (atom_spelled row)) ∙ ap (with_effect v p effects) spelled ∙ meant in
     let (last, is_last, ends) = added effects new (pattern_of v.atoms p (atom_spelled row)) is in
     record { spells = begin.spells; front = effects.add; last = last; ends = ends; meant = is_last }
+
+-- whatever row the literal is in
+pub last_of_effect : (v : Vocabulary) (p : Parameters) (effects new : Effects) (literals others : List LiteralForm) (literal : LiteralForm) (row : Option (List ℕ)) →
+    IfSome row (BeginWithRow literals) → literals ≡ literal ∷ others → with_effect v p effects literal ≡ Some new → IfSome row (EndsWithRow (pattern_of v.atoms p) new.add)
+last_of_effect v p effects new literals others literal None begin first meant = tt
+last_of_effect v p effects new literals others literal (Some row) begin first meant = addition_last v p effects new literals others literal row begin first meant

@@ -1,14 +1,14 @@
 -- What the tables of types and of objects keep.
 
-use Rattle.std.proofs.Common.{◌≡◌, ℕ, ◌+◌, ◌<◌, ◌≤◌, ◌++◌, zero, suc, Bool, true, false, cond, nat_eq, nat_lt, List, [], ◌∷◌, length, Option, Some, None, refl, subst, sym, ◌∙◌, arith, length-append, append_assoc}
+use Rattle.std.proofs.Common.{◌≡◌, ℕ, ◌+◌, ◌<◌, ◌≤◌, ◌++◌, true, nat_eq, nat_lt, List, [], ◌∷◌, length, Option, Some, None, refl, subst, sym, ◌∙◌, arith, length-append, append_assoc}
 use Rattle.std.proofs.lemmas.Bool.{ltb-true, lt-ltb}
 use Rattle.std.proofs.lemmas.List.{length-map, map-append, append-nil}
 use Rattle.std.proofs.lemmas.List.Folds.{list_all-append}
-use Rattle.std.specs.List.{list_all, position_from, slice_get}
+use Rattle.std.specs.List.{list_all}
 use Rattle.std.specs.Map.{keys_of, values_of}
 use Rattle.std.specs.Str.{bytes_eq}
 use Rattle.pddl_words.specs.Words.{folded}
-use Rattle.strips_task.specs.Names.{number_named, are_distinct}
+use Rattle.strips_task.specs.Names.{are_distinct}
 use Rattle.strips_task.specs.Types.{IsTypeTree}
 use Rattle.strips_task.proofs.NameNumbers.{entries_distinct}
 use Rattle.pddl_reader.specs.declared.resolution.types.KnownTypes.{KnownTypes}
@@ -16,45 +16,14 @@ use Rattle.pddl_reader.specs.declared.resolution.types.TypeTables.{TypeTables}
 use Rattle.pddl_reader.specs.Objects.{Objects, type_number, of_type, object_declared, objects_typed, objects_grouped, objects_from}
 use Rattle.pddl_syntax.specs.Optional.{guard}
 use Rattle.pddl_syntax.specs.Syntax.{NameGroup}
-use Rattle.pddl_reader.specs.Tables.{value_at, value_named}
+use Rattle.pddl_reader.specs.Tables.{value_named}
 use Rattle.pddl_syntax.specs.declared.dialect.Dialect.{Dialect}
 use Rattle.pddl_reader.specs.TypeOrder.{types_declared, parent_number, parents_of, is_tree, ordered, types_of}
 use Rattle.pddl_syntax.proofs.Guards.{guard_held}
+use Rattle.pddl_reader.proofs.NamedValues.{position-within, unnamed_value}
 use Rattle.pddl_reader.proofs.Through.{through_keeps}
 use Rattle.pddl_reader.proofs.TypeSteps.{AreFew, declared-few}
 use Rattle.pddl_reader.proofs.TypeTests.{tree_from}
-
--- an index that is found is one of the list
-pub position-within : {A : Type 0} (test : A → Bool) (xs : List A) (i n : ℕ) → position_from test i xs ≡ Some n → n < i + length xs
-position-within test [] i n h = cc
-position-within {A} test (x ∷ xs) i n h = by (test x) (λ k. position-within test xs (i + 1) n k) h
-  where
-    by : (b : Bool) → (position_from test (i + 1) xs ≡ Some n → n < i + 1 + length xs) → cond b (Some i) (position_from test (i + 1) xs) ≡ Some n →
-        n < i + length (x ∷ xs)
-    by true rest e = let same : i ≡ n = cc in omega arith
-    by false rest e = let lt : n < i + 1 + length xs = rest e in omega arith
-
--- an item stands at each index of a list
-no_item : {A : Type 0} (xs : List A) (n : ℕ) → slice_get xs n ≡ None → length xs ≤ n
-no_item [] n h = omega arith
-no_item (x ∷ xs) zero h = cc
-no_item (x ∷ xs) (suc n) h = let le : length xs ≤ n = no_item xs n h in omega arith
-
--- a name without a value has no entry
-pub unnamed_value : {V : Type 0} (table : List (List ℕ × V)) (name : List ℕ) → value_named table name ≡ None → number_named table name ≡ None
-unfolding value_named value_at number_named
-unnamed_value {V} table name h = by (number_named table name) refl h
-  where
-    by : (found : Option ℕ) → number_named table name ≡ found → value_at table found ≡ None → number_named table name ≡ None
-    by None e k = e
-    by (Some n) e k =
-        absurd (
-        let lt : n < 0 + length (keys_of table) = position-within (bytes_eq name) (keys_of table) 0 n e in
-        let keys : length (keys_of table) ≡ length table = length-map table (λ (entry : List ℕ × V). entry.0) in
-        let values : length (values_of table) ≡ length table = length-map table (λ (entry : List ℕ × V). entry.1) in
-        let le : length (values_of table) ≤ n = no_item (values_of table) n k in
-        omega arith
-        )
 
 -- names are distinct, there are no more than the limit, and their types are known
 pub record AreObjects (count : ℕ) (objects : Objects) : Type 0 where

@@ -17,7 +17,7 @@ use Rattle.pddl_syntax.specs.Heads.{is_variable}
 use Rattle.pddl_reader.specs.Declarations.{object_number, term_named}
 use Rattle.pddl_reader.specs.Variables.{Parameters, parameter_number}
 use Rattle.pddl_reader.proofs.FittingAtoms.{known_of}
-use Rattle.pddl_reader.proofs.KeptObjects.{position-within}
+use Rattle.pddl_reader.proofs.NamedValues.{position-within}
 
 option_map_some : {A B : Type 0} (f : A → B) (x : Option A) (y : B) → option_map f x ≡ Some y → (z : A) × (x ≡ Some z) × (f z ≡ y)
 option_map_some f None y h = absurd cc

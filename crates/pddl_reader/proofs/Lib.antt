@@ -8,6 +8,7 @@ pub mod TypeSteps
 pub mod ObjectSteps
 pub mod KeptObjects
 pub mod MoreObjects
+pub mod NamedValues
 pub mod ExtendedDomains
 pub mod TableSteps
 pub mod VariableMeaning

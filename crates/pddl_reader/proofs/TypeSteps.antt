@@ -9,6 +9,7 @@ use Rattle.std.specs.Str.{bytes_eq}
 use Rattle.pddl_words.specs.Words.{folded}
 use Rattle.pddl_words.specs.Kinds.{is_same_word}
 use Rattle.strips_task.specs.Names.{number_named}
+use Rattle.strips_task.proofs.NamedEntries.{named_last}
 use Rattle.pddl_syntax.specs.declared.syntax.NameGroup as groups
 use Rattle.pddl_syntax.specs.declared.walk.NameWord.{NameWord}
 use Rattle.pddl_reader.specs.declared.resolution.types.KnownTypes.{KnownTypes}
@@ -22,6 +23,7 @@ use Rattle.pddl_reader.specs.TypeOrder.{TypeNames, TypeParents, numbered, under,
 use Rattle.pddl_reader.specs.TypeCycles.{is_under_itself, numbers_cycle, names_cycle, declares_cycle}
 use Rattle.pddl_reader.specs.Tables.{value_named}
 use Rattle.pddl_reader.proofs.Items.{item_steps}
+use Rattle.pddl_reader.proofs.NamedValues.{unnamed_value, value_last}
 use Rattle.pddl_reader.proofs.TableSteps.{value_unnamed, value_numbered}
 use Rattle.pddl_syntax.proofs.Guards.{guard_held}
 use Rattle.pddl_reader.proofs.Through.{through_keeps}
@@ -105,6 +107,55 @@ pub type_both : (dialect : Dialect) (parent : List ℕ) (tables : TypeTables) (w
     type_declared dialect parent tables word ≡ Some (record { names = names; parents = parents })
 unfolding type_declared tables_of
 type_both dialect parent tables word names parents h e = rw (h, e) refl
+
+-- a type that was numbered keeps its number when it is numbered again
+numbered_stays : (names new : TypeNames) (name : List ℕ) → numbered names name ≡ Some new → numbered new name ≡ Some new
+unfolding numbered
+numbered_stays names new name h = by (number_named names name) refl
+  where
+    by : (found : Option ℕ) → number_named names name ≡ found → numbered new name ≡ Some new
+    by (Some number) is =
+        let known : numbered names name ≡ Some names = number_again names name (ap is_some is) in
+        let same : names ≡ new = cc in
+        subst (λ (ns : TypeNames). numbered ns name ≡ Some ns) same known
+    by None is =
+        let fits : guard (nat_lt (length names) 1025) (Some (names ++ (name, tt) ∷ [])) ≡ Some new = rw is at h in
+        let there : names ++ (name, tt) ∷ [] ≡ new = (guard_held _ _ _ fits).1 in
+        number_again new name (ap is_some (ap (λ (ns : TypeNames). number_named ns name) (sym there) ∙ named_last names name tt is))
+
+-- a type that was declared under a parent stays there when it is declared again
+under_stays : (dialect : Dialect) (parents new : TypeParents) (name parent : List ℕ) → declared_under dialect parents name parent ≡ Some new → declared_under dialect new name parent ≡ Some new
+unfolding declared_under under
+under_stays dialect parents new name parent h = by (counts_as_parent dialect parent) (value_named parents name) refl refl
+  where
+    stays : parents ≡ new → declared_under dialect new name parent ≡ Some new
+    stays same = subst (λ (ps : TypeParents). declared_under dialect ps name parent ≡ Some ps) same (h ∙ ap Some (sym same))
+
+    unchanged : (known : List ℕ) → guard (bytes_eq known parent) (Some parents) ≡ Some new → parents ≡ new
+    unchanged known e = (guard_held _ _ _ e).1
+
+    by : (counts : Bool) (found : Option (List ℕ)) → counts_as_parent dialect parent ≡ counts → value_named parents name ≡ found → declared_under dialect new name parent ≡ Some new
+    by false found idle is =
+        let same : declared_under dialect parents name parent ≡ Some parents = under_idle dialect parents name parent idle in
+        stays cc
+    by true (Some known) counts is = stays (unchanged known (rw (counts, is) at h))
+    by true None counts is =
+        let added : declared_under dialect parents name parent ≡ Some (parents ++ (name, parent) ∷ []) = under_new dialect parents name parent counts (unnamed_value parents name is) in
+        let there : parents ++ (name, parent) ∷ [] ≡ new = cc in
+        under_same dialect new name parent (ap (λ (ps : TypeParents). value_named ps name) (sym there) ∙ value_last parents name parent (unnamed_value parents name is))
+
+-- declaring a type once more changes nothing
+pub type_stays : (dialect : Dialect) (parent : List ℕ) (tables new : TypeTables) (word : List ℕ) → type_declared dialect parent tables word ≡ Some new → type_declared dialect parent new word ≡ Some new
+type_stays dialect parent tables new word h = by (numbered tables.names (folded word)) (declared_under dialect tables.parents (folded word) (folded parent)) refl refl
+  where
+    by : (names : Option TypeNames) (parents : Option TypeParents) → numbered tables.names (folded word) ≡ names → declared_under dialect tables.parents (folded word) (folded parent) ≡ parents → type_declared dialect parent new word ≡ Some new
+    by None parents is e = absurd (let none : type_declared dialect parent tables word ≡ None = type_unnumbered dialect parent tables word is in cc)
+    by (Some names) None is e = absurd (let none : type_declared dialect parent tables word ≡ None = type_unordered dialect parent tables word e in cc)
+    by (Some names) (Some parents) is e =
+        let both : type_declared dialect parent tables word ≡ Some (record { names = names; parents = parents }) = type_both dialect parent tables word names parents is e in
+        let same : record { names = names; parents = parents } ≡ new = cc in
+        subst (λ (t : TypeTables). type_declared dialect parent t word ≡ Some t) same
+        (type_both dialect parent (record { names = names; parents = parents }) word names parents (numbered_stays tables.names names (folded word) is) (under_stays dialect tables.parents parents (folded word) (folded parent) e))
 
 pub ruleset type_steps = (type_unordered, type_unnumbered, type_both)
 

@@ -244,6 +244,18 @@ pub row_first : (scope : Scope) (row : List ℕ) (old new : Levels) → heads_at
 row_first scope row old new heads passes some =
     next_one _ (remaining scope 1 old) _ some (row_left scope row old new heads passes some)
 
+-- the same two of a depth that is known to be 1, and of a row that has the bytes of another
+pub row_leaves : (scope : Scope) (depth : ℕ) (row : List ℕ) (old new : Levels) → depth ≡ 1 → heads_atom row ≡ true → PassesRow row old new → IsSome (remaining scope depth old) → IsSome (remaining scope depth new)
+row_leaves scope depth row old new one heads passes some =
+    let there : IsSome (remaining scope 1 old) = subst (λ (d : ℕ). IsSome (remaining scope d old)) one some in
+    rw one (row_goes_on scope row old new heads passes there)
+
+pub row_again : (scope : Scope) (depth : ℕ) (row other : List ℕ) (old new : Levels) → depth ≡ 1 → row ≡ other → heads_atom row ≡ true → PassesRow row old new → IsSome (remaining scope depth old) →
+    unwrap_or (remaining scope depth old) [] ≡ atom_literal true (atom_spelled other) ∷ unwrap_or (remaining scope depth new) []
+row_again scope depth row other old new one same heads passes some =
+    let there : IsSome (remaining scope 1 old) = subst (λ (d : ℕ). IsSome (remaining scope d old)) one some in
+    rw (one, ← same) (row_first scope row old new heads passes there)
+
 -- a row of names is an initial atom in every dialect, and a formula, or negated in one, wherever there may be one
 pub passes_atom : (row : List ℕ) (old new : Levels) → heads_atom row ≡ true → AreNames row → PassesRow row old new → PassesAtom old new
 passes_atom row old new heads names passes = record {

@@ -5,6 +5,7 @@
 //! layer refuses deeper ones, and the recursion goes as deep.
 
 pub(crate) mod action;
+pub(crate) mod again;
 pub(crate) mod domain;
 pub(crate) mod formula;
 pub(crate) mod known;

@@ -20,7 +20,7 @@ use Rattle.pddl_syntax.proofs.Guards.{guard_held}
 use Rattle.pddl_reader.specs.Tables.{value_at, value_named}
 use Rattle.reading_laws.specs.DeclaredOnce.{is_same_entry}
 use Rattle.reading_laws.proofs.DeclaredTables.{fresh}
-use Rattle.pddl_reader.proofs.KeptObjects.{unnamed_value}
+use Rattle.pddl_reader.proofs.NamedValues.{unnamed_value}
 use Rattle.reading_laws.proofs.NamedEntries.{entry_numbered}
 use Rattle.strips_task.proofs.NamedEntries.{entry_at}
 use Rattle.pddl_reader.proofs.TableSteps.{value_numbered, value_unnamed}

@@ -9,7 +9,7 @@ ghost use Rattle.pddl_syntax.specs.Forms.{action_forms, action_syntax_form, atom
 ghost use Rattle.pddl_syntax.specs.Reading.{Gives, Puts};
 ghost use Rattle.pddl_reader.specs.Domain.{action_by, action_doing, action_meant, actions_from, changed, effects_of, no_actions, with_action_of, with_change, with_effect};
 
-use crate::resolution::again::{NextRow, next_row, repeat_addition, repeat_condition};
+use crate::resolution::again::{atom_row, pass_again, repeat_addition, repeat_condition};
 use crate::resolution::atoms::pattern;
 use crate::resolution::functions::put_increase;
 use crate::resolution::literals::unsupported;
@@ -94,15 +94,11 @@ fn conditions<'a>(
     let mut conditions = Seq::new(alloc);
     let mut before: Option<&'a [u8]> = None;
     'conditions: loop {
-        let row = match next_row(&literals, before) {
-            NextRow::Again(row) => {
-                literals.pass(row);
-                repeat_condition(alloc, &mut conditions)?;
-                continue 'conditions;
-            }
-            NextRow::Atom(bytes) => Some(bytes),
-            NextRow::Other => None,
-        };
+        if pass_again(&mut literals, before) {
+            repeat_condition(alloc, &mut conditions)?;
+            continue 'conditions;
+        }
+        let row = atom_row(&literals);
         match literals.next(alloc)? {
             Some(literal) => conditions.push(condition(alloc, known, parameters, &literal)?)?,
             None => return Ok(conditions),
@@ -196,15 +192,11 @@ fn effect<'a>(
     };
     let mut before: Option<&'a [u8]> = None;
     'effects: loop {
-        let row = match next_row(&literals, before) {
-            NextRow::Again(row) => {
-                literals.pass(row);
-                repeat_addition(alloc, &mut effects.add)?;
-                continue 'effects;
-            }
-            NextRow::Atom(bytes) => Some(bytes),
-            NextRow::Other => None,
-        };
+        if pass_again(&mut literals, before) {
+            repeat_addition(alloc, &mut effects.add)?;
+            continue 'effects;
+        }
+        let row = atom_row(&literals);
         match literals.next(alloc)? {
             Some(literal) => put_effect(alloc, vocabulary, parameters, &mut effects, &literal)?,
             None => return Ok(effects),

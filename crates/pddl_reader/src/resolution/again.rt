@@ -1,52 +1,38 @@
 //! Literals of an action that are written as the literal before them. They stand for the same, and are not looked up again.
 
-ghost use Rattle.std.specs.Prelude.{◌≡◌, ◌<◌, ◌++◌, ◌∷◌, [], IfOk, IsTrue, List, OnOk, length};
+ghost use Rattle.std.specs.Prelude.{◌≡◌, ◌<◌, ◌++◌, ◌∷◌, [], IfOk, IfSome, IsTrue, List, OnOk, false, length, true};
 ghost use Rattle.std.specs.Option.{option_copied};
-ghost use Rattle.pddl_reader.specs.Again.{TellsNext};
+ghost use Rattle.pddl_syntax.specs.Rows.{is_atom_row};
+ghost use Rattle.pddl_reader.specs.Again.{BeginWithRow, PassesAgain};
 ghost use Rattle.strips_task.specs.declared.actions.Cond.{Cond};
 ghost use Rattle.strips_task.specs.declared.actions.Pattern.{Pattern};
 
-use joined_bytes::are_same;
-use pddl_syntax::{AtomRow, Literals};
+use pddl_syntax::Literals;
 use std::alloc::{AllocError, Global};
 use strips_task::{Cond, Formula, Pattern, Seq, ShortSeq};
 
-/// How the next literal is written.
-#[derive(Drop)]
-pub(crate) enum NextRow<'a> {
-    /// As the row before.
-    Again(AtomRow<'a>),
-    /// As an atom in a row of these bytes.
-    Atom(&'a [u8]),
-    /// In another way, or there is none.
-    Other,
-}
-
-/// How the next literal is written. The last argument is the row of the literal before, if it is an atom in a row.
-pub(crate) fn next_row<'a>(literals: &Literals<'a>, before: Option<&[u8]>) -> NextRow<'a>
-    ensures { TellsNext result (option_copied before.entry) literals.now }
-{
-    let Some(row) = literals.row() else {
-        return NextRow::Other;
-    };
-    if is_written_as(before, row.bytes()) {
-        return NextRow::Again(row);
-    }
-    if row.is_atom() {
-        return NextRow::Atom(row.bytes());
-    }
-    NextRow::Other
-}
-
-/// Whether there is a text before, and it has these bytes.
+/// Passes the next literal, if it is written as the row before, which spells an atom. Returns whether it was.
 #[inline(always)]
-pub(crate) fn is_written_as(before: Option<&[u8]>, bytes: &[u8]) -> bool
-    ensures { IsTrue result → option_copied before.entry ≡ Some bytes.now }
+pub(crate) fn pass_again(literals: &mut Literals<'_>, before: Option<&[u8]>) -> bool
+    requires { IfSome (option_copied before) (λ row. is_atom_row row ≡ true) }
+    ensures again { IsTrue result → PassesAgain (option_copied before.entry) literals.old literals.new }
+    ensures other { result ≡ false → literals.new ≡ literals.old }
 {
     match before {
-        Some(before) => are_same(before, bytes),
+        Some(row) => literals.pass_again(row),
         None => false,
     }
+}
+
+/// The next literal as the bytes of a row, if it is an atom in a row.
+pub(crate) fn atom_row<'a>(literals: &Literals<'a>) -> Option<&'a [u8]>
+    ensures { IfSome (option_copied result) (BeginWithRow literals.now) }
+{
+    let row = literals.row()?;
+    if !row.is_atom() {
+        return None;
+    }
+    Some(row.bytes())
 }
 
 /// The same pattern once more.

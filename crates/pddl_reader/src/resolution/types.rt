@@ -11,9 +11,8 @@ ghost use Rattle.pddl_reader.specs.Tables.{value_named};
 ghost use Rattle.pddl_reader.specs.TypeOrder.{counts_as_parent, declared_under, group_declared, is_tree, numbered, object_alone, parent_name, parent_number, parents_of, type_declared, types_declared, types_of};
 ghost use Rattle.pddl_reader.specs.TypeCycles.{declares_cycle, is_under_itself, names_cycle};
 
-use crate::resolution::again::is_written_as;
 use crate::resolution::names::{is_same_name, name, number_of};
-use pddl_syntax::{Dialect, FaultKind, NameGroup, NameWord, ReadFault};
+use pddl_syntax::{Dialect, FaultKind, NameGroup, NameWord, ReadFault, is_written_as};
 use pddl_words::same_folded;
 use std::alloc::{AllocError, Global};
 use strips_task::{MOST_TYPES, Name, NameTable, Seed, TypeList};
@@ -120,19 +119,24 @@ fn declare_type(
     number(alloc, &mut tables.names, word)
 }
 
-/// Declares types under one parent.
-#[tactic(auto, using(crate::proofs::Through::through_steps, crate::proofs::ObjectSteps::named_steps))]
-fn declare_types(
+/// Declares types under one parent. A word that is written as the one before it is not looked up again.
+#[tactic(auto, using(crate::proofs::Through::through_steps, crate::proofs::ObjectSteps::named_steps, crate::proofs::TypeSteps::type_stays))]
+fn declare_types<'a>(
     alloc: Global,
     dialect: Dialect,
     tables: &mut TypeTables,
-    words: &[NameWord<'_>],
+    words: &[NameWord<'a>],
     kind: NameWord<'_>,
 ) -> Result<(), ReadFault>
     ensures { Puts result (through (type_declared dialect kind.entry.text.now) tables.old (name_forms words.now)) tables.new }
 {
+    let mut before: Option<&'a [u8]> = None;
     'words: for word in words {
+        if is_written_as(before, word.text) {
+            continue 'words;
+        }
         declare_type(alloc, dialect, tables, *word, kind)?;
+        before = Some(word.text);
     }
     Ok(())
 }

@@ -1,6 +1,6 @@
 //! The literals of formulas, effects and initial atoms. Only where they begin is kept, and they are read again one by one.
 
-ghost use Rattle.std.specs.Prelude.{◌≡◌, ◌+◌, ◌<◌, ◌^◌, List, [], ◌∷◌, true, IfSome, IsSome, IsTrue, Some};
+ghost use Rattle.std.specs.Prelude.{◌≡◌, ◌+◌, ◌<◌, ◌^◌, List, [], ◌∷◌, true, false, IfSome, IsSome, IsTrue, Some};
 ghost use Rattle.pddl_syntax.specs.Levels.{here};
 ghost use Rattle.pddl_syntax.specs.Sizes.{ahead};
 ghost use Rattle.pddl_syntax.specs.Reading.{ReadsList};
@@ -15,6 +15,7 @@ use crate::syntax::LiteralSyntax;
 use crate::syntax::formula::formula;
 use crate::syntax::known::literal;
 use crate::walk::{Item, Walk};
+use joined_bytes::are_same;
 use pddl_tokens::Group;
 use std::alloc::Global;
 use std::marker::Model;
@@ -110,6 +111,24 @@ impl<'a> Literals<'a> {
         ensures { self.old ≡ atom_literal true (atom_spelled row.entry.bytes) ∷ self.new }
     {
         *self = row.literals_after();
+    }
+
+    /// Passes the next literal, if it is written as this row, which spells an atom: its first word is a name, and each other one a name or a
+    /// variable. Returns whether it was.
+    #[inline(always)]
+    pub fn pass_again(&mut self, row: &[u8]) -> bool
+        requires atom { is_atom_row row.now ≡ true }
+        ensures passed { IsTrue result → self.old ≡ atom_literal true (atom_spelled row.now) ∷ self.new }
+        ensures other { result ≡ false → self.new ≡ self.old }
+    {
+        let Some(group) = self.walk.next_group() else {
+            return false;
+        };
+        if self.depth != 1 || !are_same(group.key, row) || !heads_atom(group.key) {
+            return false;
+        }
+        self.walk.pass(group);
+        true
     }
 
     /// The next literal, or `None` if none follows. The only fault is running out of memory, and no literal follows it.
