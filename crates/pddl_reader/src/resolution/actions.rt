@@ -19,7 +19,9 @@ use crate::resolution::tables::Declared;
 use crate::resolution::terms::term;
 use crate::resolution::variables::{ActionParameters, parameters};
 use crate::resolution::vocabulary::Vocabulary;
-use pddl_syntax::{ActionSyntax, AtomSyntax, EqualitySyntax, LiteralSyntax, Literals, ReadFault};
+use pddl_syntax::{
+    ActionSyntax, AtomSyntax, Attempts, EqualitySyntax, LiteralSyntax, Literals, ReadFault,
+};
 use plan_cost::Increases;
 use std::alloc::{AllocError, Global};
 use strips_task::{Action, Alternatives, Cond, Formula, NameTable, Pattern, Seq};
@@ -93,12 +95,13 @@ fn conditions<'a>(
 {
     let mut conditions = Seq::new(alloc);
     let mut before: Option<&'a [u8]> = None;
+    let mut attempts = Attempts::new();
     'conditions: loop {
         if pass_again(&mut literals, before) {
             repeat_condition(alloc, &mut conditions)?;
             continue 'conditions;
         }
-        let row = atom_row(&literals);
+        let row = atom_row(&literals, &mut attempts);
         match literals.next(alloc)? {
             Some(literal) => conditions.push(condition(alloc, known, parameters, &literal)?)?,
             None => return Ok(conditions),
@@ -191,12 +194,13 @@ fn effect<'a>(
         increases: Increases::new(alloc),
     };
     let mut before: Option<&'a [u8]> = None;
+    let mut attempts = Attempts::new();
     'effects: loop {
         if pass_again(&mut literals, before) {
             repeat_addition(alloc, &mut effects.add)?;
             continue 'effects;
         }
-        let row = atom_row(&literals);
+        let row = atom_row(&literals, &mut attempts);
         match literals.next(alloc)? {
             Some(literal) => put_effect(alloc, vocabulary, parameters, &mut effects, &literal)?,
             None => return Ok(effects),

@@ -7,7 +7,7 @@ ghost use Rattle.pddl_reader.specs.Again.{BeginWithRow, PassesAgain};
 ghost use Rattle.strips_task.specs.declared.actions.Cond.{Cond};
 ghost use Rattle.strips_task.specs.declared.actions.Pattern.{Pattern};
 
-use pddl_syntax::Literals;
+use pddl_syntax::{Attempts, Literals};
 use std::alloc::{AllocError, Global};
 use strips_task::{Cond, Formula, Pattern, Seq, ShortSeq};
 
@@ -24,8 +24,22 @@ pub(crate) fn pass_again(literals: &mut Literals<'_>, before: Option<&[u8]>) -> 
     }
 }
 
+/// The next literal as the bytes of a row, if it is an atom in a row and that is to be tested.
+#[inline(always)]
+pub(crate) fn atom_row<'a>(literals: &Literals<'a>, attempts: &mut Attempts) -> Option<&'a [u8]>
+    ensures { IfSome (option_copied result) (BeginWithRow literals.now) }
+{
+    if !attempts.is_due() {
+        attempts.count(false);
+        return None;
+    }
+    let row = tested_row(literals);
+    attempts.count(row.is_some());
+    row
+}
+
 /// The next literal as the bytes of a row, if it is an atom in a row.
-pub(crate) fn atom_row<'a>(literals: &Literals<'a>) -> Option<&'a [u8]>
+fn tested_row<'a>(literals: &Literals<'a>) -> Option<&'a [u8]>
     ensures { IfSome (option_copied result) (BeginWithRow literals.now) }
 {
     let row = literals.row()?;

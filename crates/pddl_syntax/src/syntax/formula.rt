@@ -14,7 +14,7 @@ use crate::heads::{
     Context, FormulaHead, LiteralHead, Scope, formula_head, heads_atom, is_and, is_term,
     literal_head,
 };
-use crate::syntax::again::is_written_as;
+use crate::syntax::again::{Attempts, is_written_as};
 use crate::syntax::lists::{enter_list, leave_list};
 use crate::syntax::refusals::{function_fault, name_fault};
 use crate::walk::{Item, Walk, Word};
@@ -235,6 +235,26 @@ pub(crate) fn pass_row<'a>(walk: &mut Walk<'a>, before: Option<&[u8]>) -> Option
     Some(row)
 }
 
+/// Steps over the next conjunct as [`pass_row`] does, if that is to be attempted.
+#[inline(always)]
+fn attempt_row<'a>(
+    walk: &mut Walk<'a>,
+    before: Option<&[u8]>,
+    attempts: &mut Attempts,
+) -> Option<&'a [u8]>
+    requires { IfSome (option_copied before) SpellsAtom }
+    ensures { MatchOption (option_copied result) (here walk.new.cursor ≡ here walk.old.cursor)
+        (λ row. SpellsAtom row × PassesAtom (here walk.old.cursor) (here walk.new.cursor)) }
+{
+    if !attempts.is_due() {
+        attempts.count(false);
+        return None;
+    }
+    let row = pass_row(walk, before);
+    attempts.count(row.is_some());
+    row
+}
+
 /// Steps over what is in the parentheses of a formula or an effect.
 #[cycle(formulas)]
 #[tactic(auto, using(crate::proofs::FormulaSteps::formula_steps))]
@@ -260,8 +280,9 @@ fn conjuncts<'a>(walk: &mut Walk<'a>, scope: Scope) -> Result<(), ReadFault>
     ensures { PassesList result (are_conjuncts scope) (here walk.old.cursor) (here walk.new.cursor) }
 {
     let mut before: Option<&'a [u8]> = None;
+    let mut attempts = Attempts::new();
     'conjuncts: loop {
-        if let Some(row) = pass_row(walk, before) {
+        if let Some(row) = attempt_row(walk, before, &mut attempts) {
             before = Some(row);
             continue 'conjuncts;
         }
