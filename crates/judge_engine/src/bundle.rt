@@ -43,7 +43,7 @@ impl Bundle {
 
     /// The plan of the bytes from `start` up to but not including `end`. Its text is not read yet. Copies nothing; the only error is that the bytes
     /// have too many owners.
-    pub fn plan(&self, start: usize, end: usize) -> Result<SubmittedPlan, AllocError>
+    pub fn plan(&self, start: u32, end: u32) -> Result<SubmittedPlan, AllocError>
         requires ordered { start ≤ end }
         requires within { end ≤ length self.now.bytes }
         ensures { IfOk result (λ plan. plan ≡ plan_of (slice_range self.now.bytes start end)) }

@@ -70,7 +70,7 @@ impl<'b> Intake for CutPlans<'b> {
         else {
             return Ok(None);
         };
-        let plan = self.bundles[planner as usize].plan(start as usize, end as usize)?;
+        let plan = self.bundles[planner as usize].plan(start, end)?;
         Ok(Some(Submission { planner, plan }))
     }
 }

@@ -1,6 +1,6 @@
 //! The cursor over the tokens of a text.
 
-ghost use Rattle.std.specs.Prelude.{◌≡◌, ◌+◌, ◌<◌, ◌≤◌, ◌^◌, ◌++◌, length, drop, IfOk, IfErr, IfSome};
+ghost use Rattle.std.specs.Prelude.{◌≡◌, ◌+◌, ◌<◌, ◌≤◌, ◌^◌, ◌++◌, [], length, drop, IfOk, IfErr, IfSome, IsTrue};
 ghost use Rattle.std.specs.List.{prefix_len};
 ghost use Rattle.pddl_tokens.specs.Bytes.{is_word_byte};
 ghost use Rattle.pddl_tokens.specs.Cut.{is_comment_byte};
@@ -110,6 +110,13 @@ impl<'a> Group<'a> {
 
 impl<'a> Cursor<'a> {
     ghost use Rattle.pddl_tokens.specs.Groups.{IsPlain, group_pieces};
+
+    /// Whether only blanks follow. If not, no token may follow all the same: comments are not looked into.
+    pub fn is_over(&self) -> bool
+        ensures { IsTrue result → self.now ≡ [] }
+    {
+        skip_blanks(self.text, self.at) == self.text.len()
+    }
 
     /// The bytes up to the next `)`, if a `(` follows.
     ///

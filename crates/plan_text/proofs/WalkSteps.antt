@@ -15,10 +15,12 @@ use Rattle.plan_text.specs.declared.want.Want.{Want}
 use Rattle.plan_text.specs.declared.want.Want.TheVariants.{Step, Number, Opening, Action, Argument}
 use Rattle.plan_text.specs.declared.want.Expected.{Expected}
 use Rattle.plan_text.specs.declared.walk.Inside.TheVariants as i
+use Rattle.plan_text.specs.declared.walk.Opening.TheVariants as o
 use Rattle.plan_text.specs.PlanGrammar.{left, right, word, symbol_of}
-use Rattle.plan_text.specs.PlanReading.{plan_from, read_on, at_end, unreadable}
+use Rattle.strips_task.specs.declared.plans.Plan.TheVariants.{Steps}
+use Rattle.plan_text.specs.PlanReading.{plan_from, plan_of, read_on, at_end, unreadable}
 use Rattle.plan_text.specs.PlanSteps.{IsReady, ReadsBetween}
-use Rattle.plan_text.specs.Walks.{Walk, RestsAt, GoesBehind, reading_behind, words_before}
+use Rattle.plan_text.specs.Walks.{Walk, RestsAt, HasPassed, GoesBehind, reading_behind, words_before}
 use Rattle.plan_text.specs.WalkFinds.{IsNumberRead, IsOpened, IsStuck, IsOpening, IsClosed, IsBroken, IsInside, ended, reading_inside}
 use Rattle.plan_text.specs.Wants.{takes_name}
 use Rattle.plan_text.proofs.Runs.{read_name}
@@ -125,6 +127,19 @@ end_by Argument text first count old new outside same = absurd cc
 pub way_ends : (text : List ℕ) (first now : Expected) (count : ℕ) (old new : List Piece) → IsOnTheWay text first now count old [] → IsOpening (ended now.want (length text)) text first count old new
 way_ends text first now count old new way =
     end_by now.want text first count old new way.outside (λ steps counted. way.same steps counted ∙ plan_end text (reading_behind now.want now.least_stamp steps))
+
+ends_by : (want : Want) (text : List ℕ) (steps : List StepText) (count : ℕ) → RestsAt want count → ended want (length text) ≡ o.End → at_end want text steps ≡ Steps steps
+ends_by Step text steps count rests ends = refl
+ends_by Number text steps count rests ends = refl
+ends_by Opening text steps count rests ends = absurd cc
+ends_by Action text steps count rests ends = absurd rests
+ends_by Argument text steps count rests ends = absurd rests
+
+-- where no piece is left and the text may end, the plan is that of the steps that were passed
+pub ends_here : (walk : Walk) → ended walk.want (length walk.text) ≡ o.End → walk.rest ≡ [] → (steps : List StepText) → HasPassed walk steps → plan_of walk.text ≡ Steps steps
+ends_here walk ends none steps passed =
+    let reading = reading_behind walk.want walk.least steps in
+    sym passed.same ∙ ap (plan_from walk.text reading) none ∙ plan_end walk.text reading ∙ ends_by walk.want walk.text steps walk.count passed.rests ends
 
 -- the words of an open step were read up to here
 pub record IsInStep (text : List ℕ) (some : Bool) (old rest : List Piece) : Type 0 where

@@ -11,6 +11,7 @@ ghost use Rattle.strips_task.specs.Spelled.{IsSpelled, step_spelled};
 ghost use Rattle.strips_task.specs.Steps.{step_of};
 ghost use Rattle.plan_text.specs.PlanReading.{plan_of};
 ghost use Rattle.plan_text.specs.Walks.{HasPassed, GoesBehind, RestsAt, words_before};
+ghost use Rattle.plan_text.specs.declared.walk.TextStep.TheVariants.{End};
 ghost use Rattle.plan_text.specs.WalkFinds.{ComesNext, IsBetweenSteps, IsFound, IsOnward, IsOpened, IsOpening, IsInside, IsEnding, ended};
 ghost use Rattle.strips_task.specs.declared.steps.TheConstants.{MOST_STEPS};
 
@@ -242,6 +243,8 @@ impl<'a> PlanSteps<'a> {
             if group.are_names() {
                 return self.take_group(group);
             }
+        } else if self.is_over() {
+            return TextStep::End;
         }
         self.read_step()
     }
@@ -251,6 +254,9 @@ impl<'a> PlanSteps<'a> {
     pub fn read_on(&mut self) -> Onward<'a>
         ensures { IsOnward result self.old self.new }
     {
+        if self.is_over() {
+            return Onward::Found(TextStep::End);
+        }
         let mut cursor = self.cursor.fork();
         match next_between(self.text, &mut cursor, self.expected, self.count) {
             Between::Number { next } => {
@@ -259,6 +265,16 @@ impl<'a> PlanSteps<'a> {
                 Onward::Number
             }
             Between::Over { opening } => Onward::Found(self.find(cursor, opening)),
+        }
+    }
+
+    /// Whether the text may end here, and only blanks follow.
+    fn is_over(&self) -> bool
+        ensures { IsTrue result → IsFound End self.now self.now }
+    {
+        match ended(self.expected.want, self.text) {
+            Opening::End => self.cursor.is_over(),
+            Opening::Fault { .. } | Opening::Open { .. } => false,
         }
     }
 

@@ -10,7 +10,7 @@ use plan_cost::CostedTask;
 use plan_text::read_plan;
 use std::alloc::{AllocError, Global};
 use std::sync::Arc;
-use strips_judge::{CondList, GroundFormula, Plan, Task, Verdict, Why, judge};
+use strips_judge::{GroundCond, GroundFormula, Plan, Task, Verdict, Why, judge};
 
 /// The task of a domain and a problem, which counts no costs.
 fn task(alloc: Global, domain: &[u8], problem: &[u8]) -> Result<CostedTask, Seen> {
@@ -76,8 +76,8 @@ pub(crate) fn found_in(verdict: &Verdict) -> Found {
         Verdict::Valid { steps } => Found::Valid { steps: *steps },
         Verdict::Fails { step, why } => failure(*step, why),
         Verdict::Goal { missing } => Found::Goal {
-            first: first(missing),
-            count: missing.len(),
+            first: first(missing.as_slice()),
+            count: missing.as_slice().len(),
         },
         Verdict::Unreadable { .. } => Found::Other,
     }
@@ -88,8 +88,8 @@ fn failure(step: u32, why: &Why) -> Found {
     match why {
         Why::Missing(missing) => Found::Missing {
             step,
-            first: first(missing),
-            count: missing.len(),
+            first: first(missing.as_slice()),
+            count: missing.as_slice().len(),
         },
         Why::WrongType { arg } => Found::WrongType { step, arg: *arg },
         _ => Found::Other,
@@ -97,8 +97,8 @@ fn failure(step: u32, why: &Why) -> Found {
 }
 
 /// The predicate of the first condition. The domains here ask for atoms alone.
-fn first(conditions: &CondList) -> u16 {
-    match conditions.as_slice().first() {
+fn first(conditions: &[GroundCond]) -> u16 {
+    match conditions.first() {
         Some(condition) => match &condition.formula {
             GroundFormula::Atom(atom) => atom.pred,
             GroundFormula::Equal(_, _) => u16::MAX,

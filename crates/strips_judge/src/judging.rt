@@ -15,6 +15,7 @@ use crate::arguments::bind;
 use crate::conditions::{missing, missing_ground};
 use crate::effects::apply;
 use crate::state::NumberedState;
+use crate::unmet::Unmet;
 use crate::verdict::{Verdict, Why};
 use std::alloc::{AllocError, Global};
 use strips_task::{Action, Atom, Plan, ShortSeq, StepList, StepView, Task};
@@ -88,7 +89,9 @@ pub fn judge_goal(
     if missing.is_empty() {
         Ok(Verdict::Valid { steps })
     } else {
-        Ok(Verdict::Goal { missing })
+        Ok(Verdict::Goal {
+            missing: Unmet::new(alloc, missing)?,
+        })
     }
 }
 
@@ -139,7 +142,7 @@ fn take_action(
         &mut scratch.atom,
     )?;
     if !unmet.is_empty() {
-        return Ok(Some(Why::Missing(unmet)));
+        return Ok(Some(Why::Missing(Unmet::new(alloc, unmet)?)));
     }
     apply(alloc, state, action, objects, &mut scratch.atom)?;
     Ok(None)

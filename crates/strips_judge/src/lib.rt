@@ -32,6 +32,7 @@ mod single_cells;
 mod slot_count;
 mod state;
 mod step_names;
+mod unmet;
 mod verdict;
 
 pub use codes::{CodeBuffer, StepCode, take_by_code};
@@ -44,4 +45,5 @@ pub use strips_task::{
     InitialAtoms, MOST_STEPS, Name, NameKey, NameTable, OpenSteps, Pattern, Plan, Seed, Seq,
     ShortSeq, StepList, StepRange, StepText, StepView, Task, TaskParts, Term, TypeList, WordList,
 };
+pub use unmet::Unmet;
 pub use verdict::{Verdict, Why};

@@ -1,5 +1,5 @@
 //! What the judge says about a plan.
-use strips_task::CondList;
+use crate::unmet::Unmet;
 
 /// Whether a plan is valid, and if not, why.
 #[derive(Debug, Drop)]
@@ -19,7 +19,7 @@ pub enum Verdict {
     /// Each step is applicable in its turn, but the goal does not hold after the last.
     Goal {
         /// The goal's conditions that do not hold, in the goal's order, each once.
-        missing: CondList,
+        missing: Unmet,
     },
     /// The plan's text could not be read.
     Unreadable {
@@ -46,5 +46,5 @@ pub enum Why {
         arg: u32,
     },
     /// Conditions of the action that do not hold before the step, in the order of the precondition, each once.
-    Missing(CondList),
+    Missing(Unmet),
 }

@@ -10,8 +10,8 @@ use std::sync::Arc;
 #[derive(Debug, Drop)]
 pub struct SharedText {
     bytes: Arc<Vec<u8>>,
-    start: usize,
-    end: usize,
+    start: u32,
+    end: u32,
 }
 
 impl Model for SharedText {
@@ -27,7 +27,7 @@ impl Model for SharedText {
 
 impl SharedText {
     /// The bytes from `start` up to but not including `end`. Takes no memory.
-    pub fn new(bytes: Arc<Vec<u8>>, start: usize, end: usize) -> SharedText
+    pub fn new(bytes: Arc<Vec<u8>>, start: u32, end: u32) -> SharedText
         requires ordered { start ≤ end }
         requires within { end ≤ length (arc_value bytes).items }
         ensures { result ≡ slice_range (arc_value bytes).items start end }
@@ -39,7 +39,7 @@ impl SharedText {
     pub fn as_slice(&self) -> &[u8]
         ensures { result.now ≡ self.now }
     {
-        &self.bytes[self.start..self.end]
+        &self.bytes[self.start as usize..self.end as usize]
     }
 
     /// The same bytes with one more owner. Copies nothing; the only error is too many owners.

@@ -1,4 +1,4 @@
-//! What is written as the text before it, and what is no row, as what was before it.
+//! Neighbours that are written alike: a text with the same bytes as the one before it, and conjuncts that are no rows of names.
 
 ghost use Rattle.std.specs.Prelude.{◌≡◌, IsTrue, Some};
 ghost use Rattle.std.specs.Option.{option_copied};
@@ -16,26 +16,26 @@ pub fn is_written_as(before: Option<&[u8]>, bytes: &[u8]) -> bool
     }
 }
 
-/// When to test whether a literal is a row. Where many literals in a row are none, few are tested. No answer depends on it.
+/// When to test whether a conjunct is a row of names. Of many that follow each other and are none, few are tested. No answer depends on it.
 #[derive(Clone, Copy, Debug)]
 pub struct Attempts {
-    /// How many literals have come since the last row.
+    /// How many conjuncts have come since the last row.
     misses: u32,
 }
 
 impl Attempts {
-    /// The first literal is to be tested.
+    /// The first conjunct is to be tested.
     pub fn new() -> Self {
         Attempts { misses: 0 }
     }
 
-    /// Whether the next literal is to be tested: the one after a row is, and of those that follow it without a row between, the 2nd, 4th, 8th and so on.
+    /// Whether the next conjunct is to be tested: the one after a row is, and of those that follow it without another row, the 2nd, 4th, 8th and so on.
     #[inline(always)]
     pub fn is_due(self) -> bool {
         self.misses & self.misses.wrapping_add(1) == 0
     }
 
-    /// Counts a literal, which was a row or was not.
+    /// Counts a conjunct, which was a row or was not.
     #[inline(always)]
     pub fn count(&mut self, is_row: bool) {
         self.misses = if is_row {
