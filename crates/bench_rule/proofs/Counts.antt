@@ -1,6 +1,7 @@
 -- How often slots are in lists of slots and of held slots.
 
-use Rattle.std.proofs.Common.{◌≡◌, ◌≢◌, ◌<◌, ◌≤◌, ℕ, zero, suc, ◌+◌, Bool, true, false, cond, eqb, eq-eqb, ne_eqb, List, [], ◌∷◌, ◌++◌, slice_get, get_or, Some, None, length, sym, refl, ap, ◌∙◌, ⊎_elim, arith}
+use Rattle.bench_rule.specs.declared.contents.Item.TheVariants.{Nothing}
+use Rattle.std.proofs.Common.{◌≡◌, ◌≢◌, ◌<◌, ◌≤◌, ℕ, zero, suc, ◌+◌, Bool, true, false, cond, eqb, eq-eqb, ne_eqb, List, [], ◌∷◌, ◌++◌, slice_get, get_or, Some, length, sym, refl, ap, ◌∙◌, ⊎_elim, arith}
 use mathlib.Core.Logic.{dite}
 use native.Mathlib.Decide.{ℕ_discrete}
 use Rattle.intake_rules.specs.Jobs.{AcceptedPlan}
@@ -104,9 +105,9 @@ pub carries_without : (slot : ℕ) (all : List Held) (more : Carried) → 0 < ti
 carries_without slot [] more h = absurd (omega arith)
 carries_without slot (held ∷ others) more h = let rest = slots_of others ++ more in dite (ℕ_discrete held.slot slot)
     (λ same. let test : eqb held.slot slot ≡ true = eq-eqb held.slot slot same in
-    ap (λ c. pick_carried c rest ((held.slot, None) ∷ without_slot slot rest)) test
+    ap (λ c. pick_carried c rest ((held.slot, Nothing) ∷ without_slot slot rest)) test
     ∙ ap (λ c. slots_of (pick c others (held ∷ without_held slot others)) ++ more) (sym test))
     (λ apart. let test : eqb held.slot slot ≡ false = ne_eqb held.slot slot apart in
-    ap (λ c. pick_carried c rest ((held.slot, None) ∷ without_slot slot rest)) test
-    ∙ ap (λ (z : Carried). (held.slot, None) ∷ z) (carries_without slot others more (let none = ap one_if test in omega arith))
+    ap (λ c. pick_carried c rest ((held.slot, Nothing) ∷ without_slot slot rest)) test
+    ∙ ap (λ (z : Carried). (held.slot, Nothing) ∷ z) (carries_without slot others more (let none = ap one_if test in omega arith))
     ∙ ap (λ c. slots_of (pick c others (held ∷ without_held slot others)) ++ more) (sym test))

@@ -1,6 +1,6 @@
 -- The owner emits the next finding of a planner.
 
-use Rattle.std.proofs.Common.{[], ◌++◌, ◌≡◌, ◌≢◌, ◌<◌, ℕ, suc, ◌+◌, List, ◌∷◌, slice_get, Some, None, length, get_or, set, sym, refl, ap, ◌∙◌, subst, arith, eqb, eq-eqb, ne_eqb, length-set, get_or-set_same, get_or-set_other, append_assoc}
+use Rattle.std.proofs.Common.{[], ◌++◌, ◌≡◌, ◌≢◌, ◌<◌, ℕ, suc, ◌+◌, List, ◌∷◌, slice_get, Some, length, get_or, set, sym, refl, ap, ◌∙◌, subst, arith, eqb, eq-eqb, ne_eqb, length-set, get_or-set_same, get_or-set_other, append_assoc}
 use mathlib.Core.Logic.{dite}
 use native.Mathlib.Decide.{ℕ_discrete}
 use prog.Atomic.{either}
@@ -11,7 +11,7 @@ use Rattle.atomic_table.proofs.Lists.{set_else}
 use Rattle.intake_rules.specs.declared.finding.Finding.{Finding}
 use Rattle.intake_rules.specs.Findings.{IsRight}
 use Rattle.intake_rules.specs.Jobs.{AcceptedPlan}
-use Rattle.bench_rule.specs.declared.contents.Item.TheVariants.{Done}
+use Rattle.bench_rule.specs.declared.contents.Item.TheVariants.{Nothing, Done}
 use Rattle.bench_rule.specs.declared.views.Role.{Role}
 use Rattle.bench_rule.specs.declared.views.Role.TheVariants.{Owner}
 use Rattle.bench_rule.specs.declared.views.Setting.{Setting}
@@ -114,14 +114,14 @@ emit_first setting n slot seat job next lt bench sound wide mine _ = let inside 
     let right' = right_for setting seat.0 finding (owner_role setting bench sound seat.0 mine) (sound.settings 0 seat.0 mine) right in
     let jobs : seat.0.jobs ≡ sound.book.jobs = ap (λ (b : Book). b.jobs) (owner_book setting bench sound seat.0 mine) in (
       with_emission seat.0 job.planner,
-      takes slot (Some (Done finding)),
+      takes slot (Done finding),
       rests,
       subst (λ b. Sound setting record { words = set bench.words (slot + 1) (either b 4 (word_of bench.words slot)); homes = set bench.homes slot none; views = set bench.views 0 (with_emission seat.0 job.planner) }) (sym (eq-eqb (word_of bench.words slot) 3 hit))
           (emit_moves setting bench sound seat.0 mine slot job next hit),
       λ other x is at. let same : slot ≡ other = same_slot slot other is in
           let both : Some job ≡ Some x = sym next.job_of_slot ∙ (ap (slice_get seat.0.jobs) same ∙ at) in let alike : job ≡ x = cc in
           let of_job : Some finding.job ≡ Some job = sym there ∙ (ap (λ (l : List AcceptedPlan). slice_get l slot) (sym jobs) ∙ next.job_of_slot) in let his : finding.job ≡ job = cc in
-          ((λ _. (finding, his ∙ alike, right', λ i. (with_emission seat.0 (alike i).planner, (same i, Some (Done finding)) ∷ seat.1))), (λ miss. absurd (miss hit)), known other same),
+          ((λ _. (finding, his ∙ alike, right', λ i. (with_emission seat.0 (alike i).planner, (same i, Done finding) ∷ seat.1))), (λ miss. absurd (miss hit)), known other same),
     ))
     (λ miss. (
       with_miss seat.0 slot,
@@ -137,20 +137,20 @@ pub emit_allowed : (setting : Setting) (n id slot : ℕ) (seat : Sitting) (job :
 emit_allowed setting n id slot seat job first next lt = subst (λ (i : ℕ). Allows (Sound setting) n i seat (slot + 1) (λ c. either (eqb c 3) 4 c) (emit_tells (step n (slot + 1) 3 4 none) seat)) (sym first) (emit_first setting n slot seat job next lt)
 
 -- the seat after the finding was taken out of the slot, and the slot put behind the others
-pub emit_out : (seat middle later last : Sitting) (slot : ℕ) (job : AcceptedPlan) (finding : Finding) (found : Content) → (t : Emitted slot job seat middle) → middle.1 ≡ (slot, found) ∷ rest middle.1 → found ≡ Some (Done finding) → later ≡ (middle.0, (slot, None) ∷ rest middle.1)
-    → last ≡ (later.0, turned later.1) → (finding.job ≡ job) × IsRightFor seat.0.setting finding × (last ≡ (with_emission seat.0 job.planner, seat.1 ++ (slot, None) ∷ []))
+pub emit_out : (seat middle later last : Sitting) (slot : ℕ) (job : AcceptedPlan) (finding : Finding) (found : Content) → (t : Emitted slot job seat middle) → middle.1 ≡ (slot, found) ∷ rest middle.1 → found ≡ Done finding → later ≡ (middle.0, (slot, Nothing) ∷ rest middle.1)
+    → last ≡ (later.0, turned later.1) → (finding.job ≡ job) × IsRightFor seat.0.setting finding × (last ≡ (with_emission seat.0 job.planner, seat.1 ++ (slot, Nothing) ∷ []))
 emit_out seat middle later last slot job finding found (done, his, right, is) e f g h =
-    let content : Some (Done done) ≡ Some (Done finding) = sym (front_content middle.1 seat.1 slot (Some (Done done)) found (ap (λ (z : Sitting). z.1) is) e) ∙ f in let same : done ≡ finding = cc in (
+    let content : Done done ≡ Done finding = sym (front_content middle.1 seat.1 slot (Done done) found (ap (λ (z : Sitting). z.1) is) e) ∙ f in let same : done ≡ finding = cc in (
       ap (λ (z : Finding). z.job) (sym same) ∙ his,
       subst (IsRightFor seat.0.setting) same right,
-      h ∙ ap (λ (z : Sitting). (z.0, turned z.1)) (g ∙ ap (λ (z : Sitting). (z.0, (slot, None) ∷ rest z.1)) is),
+      h ∙ ap (λ (z : Sitting). (z.0, turned z.1)) (g ∙ ap (λ (z : Sitting). (z.0, (slot, Nothing) ∷ rest z.1)) is),
     )
 
 -- the emitted slot is among those that come after the held ones
-pub emit_keeps : (seat last : Sitting) (slot planner : ℕ) → last ≡ (with_emission seat.0 planner, seat.1 ++ (slot, None) ∷ []) → CarriesHeld seat → CarriesHeld last
+pub emit_keeps : (seat last : Sitting) (slot planner : ℕ) → last ≡ (with_emission seat.0 planner, seat.1 ++ (slot, Nothing) ∷ []) → CarriesHeld seat → CarriesHeld last
 emit_keeps seat last slot planner e (emitted, is) = subst CarriesHeld (sym e) (
-  emitted ++ (slot, None) ∷ [],
-  ap (λ (l : Carried). l ++ (slot, None) ∷ []) is ∙ append_assoc (slots_of seat.0.held) emitted ((slot, None) ∷ []),
+  emitted ++ (slot, Nothing) ∷ [],
+  ap (λ (l : Carried). l ++ (slot, Nothing) ∷ []) is ∙ append_assoc (slots_of seat.0.held) emitted ((slot, Nothing) ∷ []),
 )
 
 pub miss_keeps : (seat last : Sitting) (slot : ℕ) → Missed slot seat last → CarriesHeld seat → CarriesHeld last

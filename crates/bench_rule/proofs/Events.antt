@@ -75,7 +75,7 @@ emits_job intake slots slot job finding planner there ranked number finished =
     ∙ (ap (emit_reply_of intake job.planner) next ∙ ap (finding_at job.number) at))
 
 abbrev resting : Finding → Home
-resting finding = some (some (Some (Done finding)))
+resting finding = some (some (Done finding))
 
 module _ (setting : Setting) (bench : Bench) (sound : Sound setting bench) where
   owner_jobs : (view : View) → HasView bench 0 view → (owner_of bench.views).jobs ≡ view.jobs
@@ -91,9 +91,9 @@ module _ (setting : Setting) (bench : Bench) (sound : Sound setting bench) where
 
   pub post_law : PostLaw setting bench
   post_law slot view job mine at inside number planner closed =
-      let homes : Homes = set bench.homes slot (some (Some (Waiting job))) in let words : List ℕ = set bench.words (slot + 1) 1 in let later : View = with_posted view job in
+      let homes : Homes = set bench.homes slot (some (Waiting job)) in let words : List ℕ = set bench.words (slot + 1) 1 in let later : View = with_posted view job in
       let owner = owner_is bench.views view mine in let in_table = within_slots setting bench sound slot inside in
-      let more = stages_more bench.words bench.homes view.jobs job slot 1 (some (Some (Waiting job))) at in_table sound.word_count in
+      let more = stages_more bench.words bench.homes view.jobs job slot 1 (some (Waiting job)) at in_table sound.word_count in
       let counted : job.number ≡ length view.jobs = number ∙ at in
       let P : View → Type 0 = λ v. reply.Accepted slot ≡ reply_to setting.slots (showing bench.words bench.homes v) (submit job.planner job.plan) in record {
         sound = post_moves setting bench sound view mine slot job at in_table number;
@@ -110,7 +110,7 @@ module _ (setting : Setting) (bench : Bench) (sound : Sound setting bench) where
       let in_table = within_slots setting bench sound slot inside in let known = in_book setting bench sound slot job there in
       let (found, his, rests) = (sound.each_slot slot in_table).waiting waits in record {
         sound = take_moves setting bench sound id slot view job mine lives in_table waits known;
-        allowed = inr (slot, refl, stage_shown bench slot 1 (some (Some (Waiting found))) job sound.word_count in_table there waits rests);
+        allowed = inr (slot, refl, stage_shown bench slot 1 (some (Waiting found)) job sound.word_count in_table there waits rests);
         stays_shut = λ e. shut_else bench.words slot 2 ∙ e;
         moved = slot_shown bench slot 2 none id view (with_taken view slot job) mine refl refl refl;
       }
@@ -123,7 +123,7 @@ module _ (setting : Setting) (bench : Bench) (sound : Sound setting bench) where
         sound = finish_moves setting bench sound id slot view finding mine often known right;
         allowed = finishes_job (shown bench) setting.slots slot finding (slice_get_within (owner_of bench.views).jobs slot finding.job there) (stage_shown bench slot 2 none finding.job sound.word_count in_table there out ((sound.each_slot slot in_table).out out)) there;
         stays_shut = λ e. shut_else bench.words slot 3 ∙ e;
-        moved = slot_shown bench slot 3 (some (Some (Done finding))) id view (with_finished view slot) mine refl refl refl;
+        moved = slot_shown bench slot 3 (some (Done finding)) id view (with_finished view slot) mine refl refl refl;
       }
 
   pub hand_back_law : HandBackLaw setting bench
@@ -134,7 +134,7 @@ module _ (setting : Setting) (bench : Bench) (sound : Sound setting bench) where
         sound = hand_back_moves setting bench sound id slot view job mine often known;
         allowed = returns_job (shown bench) setting.slots slot (slice_get_within (owner_of bench.views).jobs slot job there) (stage_shown bench slot 2 none job sound.word_count in_table there out ((sound.each_slot slot in_table).out out));
         stays_shut = λ e. shut_else bench.words slot 1 ∙ e;
-        moved = slot_shown bench slot 1 (some (Some (Waiting job))) id view (with_handed_back view slot) mine refl refl refl;
+        moved = slot_shown bench slot 1 (some (Waiting job)) id view (with_handed_back view slot) mine refl refl refl;
       }
 
   pub emit_law : EmitLaw setting bench
@@ -149,7 +149,7 @@ module _ (setting : Setting) (bench : Bench) (sound : Sound setting bench) where
       let stages_are = stages_after bench.words bench.homes view.jobs slot 4 none in record {
         sound = emit_moves setting bench sound view mine slot job next done;
         allowed = emits_job (shown bench) setting.slots slot job finding (planner_within view mine job.planner next.planner_within) next'.job_of_slot next'.next (sound.numbered slot job known)
-            (stage_shown bench slot 3 (some (Some (Done finding))) job sound.word_count in_table next'.job_of_slot done rests);
+            (stage_shown bench slot 3 (some (Done finding)) job sound.word_count in_table next'.job_of_slot done rests);
         stays_shut = λ e. shut_else bench.words slot 4 ∙ e;
         moved = ap (showing words homes) (owner_set bench.views view later mine)
             ∙ (let emitted : showing words homes later ≡ with_emitted (showing bench.words bench.homes view) job.planner slot

@@ -1,6 +1,6 @@
 -- A seat brings a slot that it holds before the others, finishes its job or hands it back.
 
-use Rattle.std.proofs.Common.{List, ◌≡◌, ◌<◌, ◌≤◌, ℕ, ◌+◌, ◌∷◌, ◌++◌, slice_get, Some, None, length, set, sym, refl, ap, ◌∙◌, subst, arith, length-set}
+use Rattle.std.proofs.Common.{List, ◌≡◌, ◌<◌, ◌≤◌, ℕ, ◌+◌, ◌∷◌, ◌++◌, slice_get, Some, length, set, sym, refl, ap, ◌∙◌, subst, arith, length-set}
 use mathlib.Core.Option.{some, none}
 use lib.ListN.{get_elem?}
 use Rattle.std.proofs.lemmas.Option.{slice_get_within}
@@ -9,7 +9,7 @@ use Rattle.atomic_table.proofs.Lists.{set_here, set_else}
 use Rattle.intake_rules.specs.declared.finding.Finding.{Finding}
 use Rattle.intake_rules.specs.Findings.{IsRight}
 use Rattle.intake_rules.specs.Jobs.{AcceptedPlan}
-use Rattle.bench_rule.specs.declared.contents.Item.TheVariants.{Waiting, Done}
+use Rattle.bench_rule.specs.declared.contents.Item.TheVariants.{Nothing, Waiting, Done}
 use Rattle.bench_rule.specs.declared.views.Held.{Held}
 use Rattle.bench_rule.specs.declared.views.Setting.{Setting}
 use Rattle.bench_rule.specs.declared.views.View.{View}
@@ -48,24 +48,24 @@ pub brings : (setting : Setting) (n id slot : ℕ) (seat : Sitting) (emitted : C
     → Allows (Sound setting) n id seat (slot + 1) (λ x. x) (bring_tells (step n (slot + 1) 0 0 none) seat)
 brings setting n id slot seat emitted h is bench sound wide mine _ =
     let t = pull bench.homes slot seat.0.held emitted h (all_out setting bench sound id seat.0 mine) in
-    let Goes : Carried → Type 0 = λ c. (view : View) × (act : Act Content) × Valid bench.homes c act × Sound setting (stepped bench (slot + 1) (word_of bench.words slot) id c view act) × ((other : ℕ) → slot + 1 ≡ other + 1 → ◌≡◌ {A = Sitting} (view, carried_after c act) (seat.0, (other, None) ∷ without_slot other c)) in
+    let Goes : Carried → Type 0 = λ c. (view : View) × (act : Act Content) × Valid bench.homes c act × Sound setting (stepped bench (slot + 1) (word_of bench.words slot) id c view act) × ((other : ℕ) → slot + 1 ≡ other + 1 → ◌≡◌ {A = Sitting} (view, carried_after c act) (seat.0, (other, Nothing) ∷ without_slot other c)) in
     let c = slots_of seat.0.held ++ emitted in
     subst Goes (sym is) (
       seat.0,
       t.0,
       t.1.0,
       subst (λ (homes : Homes). Sound setting record { words = set bench.words (slot + 1) (word_of bench.words slot); homes = homes; views = set bench.views id seat.0 }) (sym t.1.1) (looks setting bench sound id (slot + 1) seat.0 seat.0 mine refl refl refl refl refl refl),
-      λ other e. ap (λ (l : Carried). (seat.0, l)) t.1.2 ∙ ap (λ (r : ℕ). (seat.0, (r, None) ∷ without_slot r c)) (same_slot slot other e),
+      λ other e. ap (λ (l : Carried). (seat.0, l)) t.1.2 ∙ ap (λ (r : ℕ). (seat.0, (r, Nothing) ∷ without_slot r c)) (same_slot slot other e),
     )
 
 pub finish_moves : (setting : Setting) (bench : Bench) (sound : Sound setting bench) (id slot : ℕ) (view : View) (finding : Finding) → HasView bench id view → 0 < times_held slot view.held → slice_get sound.book.jobs slot ≡ Some finding.job → IsRight setting.task.value finding
     → Sound setting (after_finish bench id slot view finding)
 finish_moves setting bench sound id slot view finding mine held there right = let inside = is_inside setting bench sound id view mine slot held in let was = is_out setting bench sound id view mine slot held in
-    slot_moves setting bench sound id slot 3 view (with_finished view slot) (set bench.homes slot (some (Some (Done finding)))) sound.book record {
+    slot_moves setting bench sound id slot 3 view (with_finished view slot) (set bench.homes slot (some (Done finding))) sound.book record {
       mine = mine;
       inside = inside;
-      as_long = length-set bench.homes slot (some (Some (Done finding)));
-      elsewhere = λ other apart. set_else bench.homes slot other (some (Some (Done finding))) apart;
+      as_long = length-set bench.homes slot (some (Done finding));
+      elsewhere = λ other apart. set_else bench.homes slot other (some (Done finding)) apart;
       book_mine = λ e. owner_book setting bench sound view (subst (λ (i : ℕ). get_elem? bench.views i ≡ some view) e mine);
       book_other = λ _. refl;
       same_shut = refl;
@@ -85,7 +85,7 @@ finish_moves setting bench sound id slot view finding mine held there right = le
         empty = λ h. absurd (omega arith);
         waiting = λ h. absurd (omega arith);
         out = λ h. absurd (omega arith);
-        finished = λ h. (finding, there, set_here bench.homes slot (some (Some (Done finding))) inside, right);
+        finished = λ h. (finding, there, set_here bench.homes slot (some (Done finding)) inside, right);
       };
       held = omega (arith, ap out_in was, without_here slot view.held held);
       held_else = λ other apart. without_else slot other view.held apart;
@@ -103,11 +103,11 @@ finish_moves setting bench sound id slot view finding mine held there right = le
 pub hand_back_moves : (setting : Setting) (bench : Bench) (sound : Sound setting bench) (id slot : ℕ) (view : View) (job : AcceptedPlan) → HasView bench id view → 0 < times_held slot view.held → slice_get sound.book.jobs slot ≡ Some job
     → Sound setting (after_hand_back bench id slot view job)
 hand_back_moves setting bench sound id slot view job mine held there = let inside = is_inside setting bench sound id view mine slot held in let was = is_out setting bench sound id view mine slot held in
-    slot_moves setting bench sound id slot 1 view (with_handed_back view slot) (set bench.homes slot (some (Some (Waiting job)))) sound.book record {
+    slot_moves setting bench sound id slot 1 view (with_handed_back view slot) (set bench.homes slot (some (Waiting job))) sound.book record {
       mine = mine;
       inside = inside;
-      as_long = length-set bench.homes slot (some (Some (Waiting job)));
-      elsewhere = λ other apart. set_else bench.homes slot other (some (Some (Waiting job))) apart;
+      as_long = length-set bench.homes slot (some (Waiting job));
+      elsewhere = λ other apart. set_else bench.homes slot other (some (Waiting job)) apart;
       book_mine = λ e. owner_book setting bench sound view (subst (λ (i : ℕ). get_elem? bench.views i ≡ some view) e mine);
       book_other = λ _. refl;
       same_shut = refl;
@@ -125,7 +125,7 @@ hand_back_moves setting bench sound id slot view job mine held there = let insid
         used = λ h. ok.used (omega arith);
         unused = λ h. absurd (omega arith);
         empty = λ h. absurd (omega arith);
-        waiting = λ h. (job, there, set_here bench.homes slot (some (Some (Waiting job))) inside);
+        waiting = λ h. (job, there, set_here bench.homes slot (some (Waiting job)) inside);
         out = λ h. absurd (omega arith);
         finished = λ h. absurd (omega arith);
       };
@@ -143,14 +143,14 @@ hand_back_moves setting bench sound id slot view job mine held there = let insid
     }
 
 -- the right finding of a held job is in the slot at the front
-finish_front : (setting : Setting) (n id slot : ℕ) (seat : Sitting) (others : Carried) (finding : Finding) → HoldsJob slot finding.job seat.0.held → seat.1 ≡ (slot, Some (Done finding)) ∷ others → IsRight setting.task.value finding
+finish_front : (setting : Setting) (n id slot : ℕ) (seat : Sitting) (others : Carried) (finding : Finding) → HoldsJob slot finding.job seat.0.held → seat.1 ≡ (slot, Done finding) ∷ others → IsRight setting.task.value finding
     → Allows (Sound setting) n id seat (slot + 1) (λ _. 3) (λ _. finish_tells (step n (slot + 1) 3 0 none) seat 3)
 finish_front setting n id slot seat others finding held is right bench sound wide mine _ =
     let h = held_often slot finding.job seat.0.held held in let job = held_job sound.book.jobs slot finding.job seat.0.held (sound.held_jobs id seat.0 mine) held in
     let later = finish_moves setting bench sound id slot seat.0 finding mine h job right in
     let few : length (with_finished seat.0 slot).finished ≤ n =
     let short = finished_within setting (after_finish bench id slot seat.0 finding) later id (with_finished seat.0 slot) (set_here bench.views id (with_finished seat.0 slot) (within bench.views id seat.0 mine)) in
-    let long = length-set bench.homes slot (some (Some (Done finding))) in omega arith in
+    let long = length-set bench.homes slot (some (Done finding)) in omega arith in
     let Goes : Carried → Type 0 = λ c. (view : View) × (act : Act Content) × Valid bench.homes c act × Sound setting (stepped bench (slot + 1) 3 id c view act)
     × ((other : ℕ) → slot + 1 ≡ other + 1 → (◌≡◌ {A = Sitting} (view, carried_after c act) (with_finished seat.0 other, rest c)) × (length view.finished ≤ n)) in
     subst Goes (sym is) (
@@ -161,7 +161,7 @@ finish_front setting n id slot seat others finding held is right bench sound wid
       λ other e. (ap (λ (r : ℕ). (with_finished seat.0 r, others)) (same_slot slot other e), few),
     )
 
-hand_back_front : (setting : Setting) (n id slot : ℕ) (seat : Sitting) (others : Carried) (job : AcceptedPlan) → HoldsJob slot job seat.0.held → seat.1 ≡ (slot, Some (Waiting job)) ∷ others
+hand_back_front : (setting : Setting) (n id slot : ℕ) (seat : Sitting) (others : Carried) (job : AcceptedPlan) → HoldsJob slot job seat.0.held → seat.1 ≡ (slot, Waiting job) ∷ others
     → Allows (Sound setting) n id seat (slot + 1) (λ _. 1) (λ _. hand_back_tells (step n (slot + 1) 1 0 none) seat 1)
 hand_back_front setting n id slot seat others job held is bench sound wide mine _ =
     let h = held_often slot job seat.0.held held in let there = held_job sound.book.jobs slot job seat.0.held (sound.held_jobs id seat.0 mine) held in
@@ -176,14 +176,14 @@ hand_back_front setting n id slot seat others job held is bench sound wide mine 
     )
 
 -- the slot was brought before the others, and then filled
-pub laid : (seat middle later : Sitting) (slot : ℕ) (content : Content) → middle ≡ (seat.0, (slot, None) ∷ without_slot slot seat.1) → later ≡ (middle.0, (slot, content) ∷ rest middle.1) → later ≡ (seat.0, (slot, content) ∷ without_slot slot seat.1)
+pub laid : (seat middle later : Sitting) (slot : ℕ) (content : Content) → middle ≡ (seat.0, (slot, Nothing) ∷ without_slot slot seat.1) → later ≡ (middle.0, (slot, content) ∷ rest middle.1) → later ≡ (seat.0, (slot, content) ∷ without_slot slot seat.1)
 laid seat middle later slot content e f = f ∙ ap (λ (z : Sitting). (z.0, (slot, content) ∷ rest z.1)) e
 
-pub finish_allowed : (setting : Setting) (n id slot : ℕ) (seat filled : Sitting) (finding : Finding) → HoldsJob slot finding.job seat.0.held → filled ≡ (seat.0, (slot, Some (Done finding)) ∷ without_slot slot seat.1) → IsRight setting.task.value finding
+pub finish_allowed : (setting : Setting) (n id slot : ℕ) (seat filled : Sitting) (finding : Finding) → HoldsJob slot finding.job seat.0.held → filled ≡ (seat.0, (slot, Done finding) ∷ without_slot slot seat.1) → IsRight setting.task.value finding
     → Allows (Sound setting) n id filled (slot + 1) (λ _. 3) (λ _. finish_tells (step n (slot + 1) 3 0 none) filled 3)
 finish_allowed setting n id slot seat filled finding held is right = finish_front setting n id slot filled (without_slot slot seat.1) finding (subst (λ (z : Sitting). HoldsJob slot finding.job z.0.held) (sym is) held) (ap (λ (z : Sitting). z.1) is) right
 
-pub hand_back_allowed : (setting : Setting) (n id slot : ℕ) (seat filled : Sitting) (job : AcceptedPlan) → HoldsJob slot job seat.0.held → filled ≡ (seat.0, (slot, Some (Waiting job)) ∷ without_slot slot seat.1)
+pub hand_back_allowed : (setting : Setting) (n id slot : ℕ) (seat filled : Sitting) (job : AcceptedPlan) → HoldsJob slot job seat.0.held → filled ≡ (seat.0, (slot, Waiting job) ∷ without_slot slot seat.1)
     → Allows (Sound setting) n id filled (slot + 1) (λ _. 1) (λ _. hand_back_tells (step n (slot + 1) 1 0 none) filled 1)
 hand_back_allowed setting n id slot seat filled job held is = hand_back_front setting n id slot filled (without_slot slot seat.1) job (subst (λ (z : Sitting). HoldsJob slot job z.0.held) (sym is) held) (ap (λ (z : Sitting). z.1) is)
 

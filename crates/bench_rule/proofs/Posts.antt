@@ -88,11 +88,11 @@ module _ (setting : Setting) (bench : Bench) (sound : Sound setting bench) (view
       let more : (q : ℕ) (x : AcceptedPlan) → slice_get sound.book.jobs q ≡ Some x → slice_get jobs q ≡ Some x = λ q x h. slice_get_kept sound.book.jobs job x q h in
       let at : slot ≡ length sound.book.jobs = omega arith in
       let last : slice_get jobs slot ≡ Some job = ap (slice_get jobs) at ∙ slice_get_last sound.book.jobs job in
-      slot_moves setting bench sound 0 slot 1 view (with_posted view job) (set bench.homes slot (some (Some (Waiting job)))) book record {
+      slot_moves setting bench sound 0 slot 1 view (with_posted view job) (set bench.homes slot (some (Waiting job))) book record {
         mine = mine;
         inside = inside;
-        as_long = length-set bench.homes slot (some (Some (Waiting job)));
-        elsewhere = λ other apart. set_else bench.homes slot other (some (Some (Waiting job))) apart;
+        as_long = length-set bench.homes slot (some (Waiting job));
+        elsewhere = λ other apart. set_else bench.homes slot other (some (Waiting job)) apart;
         book_mine = λ _. ap (λ (b : Book). record b { jobs = b.jobs ++ job ∷ []; lifted = false }) book_is;
         book_other = λ apart. absurd (apart refl);
         same_shut = refl;
@@ -113,7 +113,7 @@ module _ (setting : Setting) (bench : Bench) (sound : Sound setting bench) (view
           used = λ h. omega arith;
           unused = λ h. absurd (omega arith);
           empty = λ h free. absurd (omega arith);
-          waiting = λ h. (job, last, set_here bench.homes slot (some (Some (Waiting job))) inside);
+          waiting = λ h. (job, last, set_here bench.homes slot (some (Waiting job)) inside);
           out = λ h. absurd (omega arith);
           finished = λ h. absurd (omega arith);
         };
@@ -148,17 +148,17 @@ lift_first setting n slot seat e inside down bench sound wide mine _ = let lt : 
   λ other is. (content, ap (λ (r : ℕ). (with_lifted seat.0, (r, content) ∷ seat.1)) (same_slot slot other is)),
 )
 
-post_first : (setting : Setting) (n slot : ℕ) (seat : Sitting) (job : AcceptedPlan) (others : Carried) → slot ≡ length seat.0.jobs → slot < n → job.number ≡ slot → seat.1 ≡ (slot, Some (Waiting job)) ∷ others
+post_first : (setting : Setting) (n slot : ℕ) (seat : Sitting) (job : AcceptedPlan) (others : Carried) → slot ≡ length seat.0.jobs → slot < n → job.number ≡ slot → seat.1 ≡ (slot, Waiting job) ∷ others
     → Allows (Sound setting) n 0 seat (slot + 1) (λ _. 1) (λ _. post_tells (step n (slot + 1) 1 0 none) seat 1)
 post_first setting n slot seat job others e inside number is bench sound wide mine _ = let lt : slot < length bench.homes = omega arith in
     let Goes : Carried → Type 0 = λ c. (view : View) × (act : Act Content) × Valid bench.homes c act × Sound setting (stepped bench (slot + 1) 1 0 c view act)
-    × ((other : ℕ) (x : AcceptedPlan) (d : Carried) → c ≡ (other, Some (Waiting x)) ∷ d → ◌≡◌ {A = Sitting} (view, carried_after c act) (with_posted seat.0 x, d)) in
+    × ((other : ℕ) (x : AcceptedPlan) (d : Carried) → c ≡ (other, Waiting x) ∷ d → ◌≡◌ {A = Sitting} (view, carried_after c act) (with_posted seat.0 x, d)) in
     subst Goes (sym is) (
       with_posted seat.0 job,
       gives,
       tt,
       post_moves setting bench sound seat.0 mine slot job e lt number,
-      λ other x d eq. let content : Some (Waiting job) ≡ Some (Waiting x) = ap (content_or (Some (Waiting job))) eq in let same : job ≡ x = cc in let left : others ≡ d = ap rest eq in λ i. (with_posted seat.0 (same i), left i),
+      λ other x d eq. let content : Waiting job ≡ Waiting x = ap (content_or (Waiting job)) eq in let same : job ≡ x = cc in let left : others ≡ d = ap rest eq in λ i. (with_posted seat.0 (same i), left i),
     )
 
 pub lift_allowed : (setting : Setting) (n id slot : ℕ) (seat : Sitting) → id ≡ 0 → slot ≡ length seat.0.jobs → slot < n → seat.0.lifted ≡ false → Allows (Sound setting) n id seat (slot + 1) (λ x. x) (lift_tells (step n (slot + 1) 0 0 none) seat)
@@ -168,11 +168,11 @@ lift_allowed setting n id slot seat first e inside down = subst (λ (i : ℕ). A
 pub lifted_up : (seat middle later : Sitting) (slot : ℕ) (old content : Content) → middle ≡ (with_lifted seat.0, (slot, old) ∷ seat.1) → later ≡ (middle.0, (slot, content) ∷ rest middle.1) → later ≡ (with_lifted seat.0, (slot, content) ∷ seat.1)
 lifted_up seat middle later slot old content e f = f ∙ ap (λ (z : Sitting). (z.0, (slot, content) ∷ rest z.1)) e
 
-pub post_allowed : (setting : Setting) (n id slot : ℕ) (seat filled : Sitting) (job : AcceptedPlan) → id ≡ 0 → slot ≡ length seat.0.jobs → slot < n → job.number ≡ slot → filled ≡ (with_lifted seat.0, (slot, Some (Waiting job)) ∷ seat.1)
+pub post_allowed : (setting : Setting) (n id slot : ℕ) (seat filled : Sitting) (job : AcceptedPlan) → id ≡ 0 → slot ≡ length seat.0.jobs → slot < n → job.number ≡ slot → filled ≡ (with_lifted seat.0, (slot, Waiting job) ∷ seat.1)
     → Allows (Sound setting) n id filled (slot + 1) (λ _. 1) (λ _. post_tells (step n (slot + 1) 1 0 none) filled 1)
 post_allowed setting n id slot seat filled job first e inside number is = let F : ℕ × Sitting → Type 0 = λ t. Allows (Sound setting) n t.0 t.1 (slot + 1) (λ _. 1) (λ _. post_tells (step n (slot + 1) 1 0 none) t.1 1) in
-    subst F (λ i. (sym first i, sym is i)) (post_first setting n slot (with_lifted seat.0, (slot, Some (Waiting job)) ∷ seat.1) job seat.1 e inside number refl)
+    subst F (λ i. (sym first i, sym is i)) (post_first setting n slot (with_lifted seat.0, (slot, Waiting job) ∷ seat.1) job seat.1 e inside number refl)
 
-pub posted_at : (filled later seat : Sitting) (slot : ℕ) (job : AcceptedPlan) → filled ≡ (with_lifted seat.0, (slot, Some (Waiting job)) ∷ seat.1)
-    → ((other : ℕ) (x : AcceptedPlan) (others : Carried) → filled.1 ≡ (other, Some (Waiting x)) ∷ others → later ≡ (with_posted filled.0 x, others)) → later ≡ (with_posted seat.0 job, seat.1)
+pub posted_at : (filled later seat : Sitting) (slot : ℕ) (job : AcceptedPlan) → filled ≡ (with_lifted seat.0, (slot, Waiting job) ∷ seat.1)
+    → ((other : ℕ) (x : AcceptedPlan) (others : Carried) → filled.1 ≡ (other, Waiting x) ∷ others → later ≡ (with_posted filled.0 x, others)) → later ≡ (with_posted seat.0 job, seat.1)
 posted_at filled later seat slot job e f = f slot job seat.1 (ap (λ (z : Sitting). z.1) e) ∙ ap (λ (z : Sitting). (with_posted z.0 job, seat.1)) e

@@ -59,9 +59,9 @@ module _ (setting : Setting) (bench : Bench) (sound : Sound setting bench) (othe
       let jobs : Some found.job ≡ Some finding.job = sym (accepted setting other too slot found.job hers) ∙ (ap (λ (v : View). slice_get v.jobs slot) owner ∙ accepted setting bench sound slot finding.job his) in
       let job : found.job ≡ finding.job = cc in
       let same : found ≡ finding = one_right setting.task.value found finding job sure right in
-      let one : home ≡ some (Some (Done found)) = some-injective home (some (Some (Done found))) (sym here ∙ lies) in
-      let two : content ≡ some (Some (Done finding)) = some-injective content (some (Some (Done finding))) (sym there ∙ rests) in
-      ap (stage_at word) (one ∙ (ap (λ (f : Finding). some (Some (Done f))) same ∙ sym two)))
+      let one : home ≡ some (Done found) = some-injective home (some (Done found)) (sym here ∙ lies) in
+      let two : content ≡ some (Done finding) = some-injective content (some (Done finding)) (sym there ∙ rests) in
+      ap (stage_at word) (one ∙ (ap (λ (f : Finding). some (Done f)) same ∙ sym two)))
       (λ apart. told_by_word word home content apart) in
       ap (λ w. stage_at w home) (slot_word bench.words slot) ∙ (at ∙ sym (ap (λ w. stage_at w content) (slot_word bench.words slot)))
 

@@ -1,6 +1,7 @@
 -- Seats that are split off and joined, planners that are closed, and the bench that is shut.
 
-use Rattle.std.proofs.Common.{◌≡◌, ◌≢◌, ◌⊎◌, ◌<◌, ℕ, zero, suc, ◌+◌, ◌-◌, Bool, true, false, List, [], ◌∷◌, ◌++◌, Some, None, length, map, get_or, set, replicate, sym, refl, ap, ◌∙◌, subst, inl, inr, ⊎_elim, arith, length-set, get_or-set_same, get_or-set_other}
+use Rattle.bench_rule.specs.declared.contents.Item.TheVariants.{Nothing}
+use Rattle.std.proofs.Common.{◌≡◌, ◌≢◌, ◌⊎◌, ◌<◌, ℕ, zero, suc, ◌+◌, ◌-◌, Bool, true, false, List, [], ◌∷◌, ◌++◌, Some, length, map, get_or, set, replicate, sym, refl, ap, ◌∙◌, subst, inl, inr, ⊎_elim, arith, length-set, get_or-set_same, get_or-set_other}
 use Rattle.std.proofs.lemmas.List.{length-replicate, set-get_or}
 use mathlib.Core.Logic.{dite}
 use native.Mathlib.Decide.{ℕ_discrete}
@@ -241,9 +242,9 @@ only_one view other zero e = (refl, some-injective view other e)
 only_one view other (suc id) e = absurd (some-ne-none other (sym e))
 
 -- a table with every word 0 and something in every slot keeps the rule
-pub starts : (setting : Setting) (words : List ℕ) → words ≡ replicate (setting.slots + 1) 0 → Sound setting (opening words (replicate setting.slots None) (first_view setting))
+pub starts : (setting : Setting) (words : List ℕ) → words ≡ replicate (setting.slots + 1) 0 → Sound setting (opening words (replicate setting.slots Nothing) (first_view setting))
 starts setting words is = let n : ℕ = setting.slots in let view : View = first_view setting in let unused : (slot : ℕ) → word_of words slot ≡ 0 = λ slot. ap (λ (ws : List ℕ). word_of ws slot) is ∙ zeros (n + 1) (slot + 1) in
-    let as_many : length (map some (replicate n None)) ≡ n = length-map (replicate n None) some ∙ length-replicate n None in record {
+    let as_many : length (map some (replicate n Nothing)) ≡ n = length-map (replicate n Nothing) some ∙ length-replicate n Nothing in record {
       book = record { jobs = []; closed = replicate setting.planners false; emitted = replicate setting.planners 0; seats_out = 0; lifted = false; shut = false };
       owner = (view, record { first = refl; role = refl; knows = refl });
       slot_count = as_many;
@@ -254,7 +255,7 @@ starts setting words is = let n : ℕ = setting.slots in let view : View = first
       numbered = λ slot job e. cc;
       closed_count = length-replicate setting.planners false;
       emitted_count = length-replicate setting.planners 0;
-      each_slot = λ slot lt. let e = unused slot in let there = some_there (replicate n None) slot (subst (λ (m : ℕ). slot < m) (length-map (replicate n None) some) lt) in record {
+      each_slot = λ slot lt. let e = unused slot in let there = some_there (replicate n Nothing) slot (subst (λ (m : ℕ). slot < m) (length-map (replicate n Nothing) some) lt) in record {
         known = omega arith;
         used = λ h. absurd (omega arith);
         unused = λ h. omega arith;

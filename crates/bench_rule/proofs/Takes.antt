@@ -1,6 +1,6 @@
 -- A seat takes a waiting slot.
 
-use Rattle.std.proofs.Common.{◌≡◌, ◌≢◌, ◌↔◌, ◌<◌, ◌≤◌, ℕ, ◌+◌, ◌∷◌, slice_get, Some, None, length, set, sym, refl, ap, ◌∙◌, subst, arith, eqb, eq-eqb, ne_eqb, length-set}
+use Rattle.std.proofs.Common.{◌≡◌, ◌≢◌, ◌↔◌, ◌<◌, ◌≤◌, ℕ, ◌+◌, ◌∷◌, slice_get, Some, length, set, sym, refl, ap, ◌∙◌, subst, arith, eqb, eq-eqb, ne_eqb, length-set}
 use mathlib.Core.Logic.{dite}
 use native.Mathlib.Decide.{ℕ_discrete}
 use prog.Atomic.{either}
@@ -9,7 +9,7 @@ use lib.ListN.{get_elem?}
 use Rattle.atomic_table.specs.Table.{step, keeps, takes, rest, Allows}
 use Rattle.atomic_table.proofs.Lists.{set_here, set_else}
 use Rattle.intake_rules.specs.Jobs.{AcceptedPlan}
-use Rattle.bench_rule.specs.declared.contents.Item.TheVariants.{Waiting}
+use Rattle.bench_rule.specs.declared.contents.Item.TheVariants.{Nothing, Waiting}
 use Rattle.bench_rule.specs.declared.views.Setting.{Setting}
 use Rattle.bench_rule.specs.declared.views.Role.TheVariants.{Worker, Spent}
 use Rattle.bench_rule.specs.declared.views.View.{View}
@@ -78,18 +78,18 @@ same_slot slot other e = omega arith
 
 -- what is told of a slot that was taken
 took : (setting : Setting) (bench : Bench) (sound : Sound setting bench) (n id slot other : ℕ) (seat : Sitting) (job : AcceptedPlan) → length bench.homes ≡ n → HasView bench id seat.0 → seat.0.role ≢ Spent → slot < length bench.homes → word_of bench.words slot ≡ 1
-    → slice_get sound.book.jobs slot ≡ Some job → slot ≡ other → Took n other seat (with_taken seat.0 slot job, (slot, Some (Waiting job)) ∷ seat.1)
+    → slice_get sound.book.jobs slot ≡ Some job → slot ≡ other → Took n other seat (with_taken seat.0 slot job, (slot, Waiting job) ∷ seat.1)
 took setting bench sound n id slot other seat job wide mine lives inside was there same =
     let later = take_moves setting bench sound id slot seat.0 job mine lives inside was there in
     let few = held_within setting (after_take bench id slot seat.0 job) later id (with_taken seat.0 slot job) (set_here bench.views id (with_taken seat.0 slot job) (within bench.views id seat.0 mine)) in
     let long = length-set bench.homes slot none in
-    (job, ap (λ (r : ℕ). (with_taken seat.0 r job, (r, Some (Waiting job)) ∷ seat.1)) same, omega arith)
+    (job, ap (λ (r : ℕ). (with_taken seat.0 r job, (r, Waiting job) ∷ seat.1)) same, omega arith)
 
 pub take_allowed : (setting : Setting) (n id slot : ℕ) (seat : Sitting) → seat.0.role ≡ Worker → slot < n → Allows (Sound setting) n id seat (slot + 1) (λ x. either (eqb x 1) 2 x) (take_tells (step n (slot + 1) 1 2 none) seat)
 take_allowed setting n id slot seat worker lt bench sound wide mine _ = let inside : slot < length bench.homes = omega arith in let lives = worker_lives seat.0.role worker in dite (ℕ_discrete (word_of bench.words slot) 1)
     (λ hit. let (job, there, rests) = (sound.each_slot slot inside).waiting hit in (
       with_taken seat.0 slot job,
-      takes slot (Some (Waiting job)),
+      takes slot (Waiting job),
       rests,
       subst (λ b. Sound setting record { words = set bench.words (slot + 1) (either b 2 (word_of bench.words slot)); homes = set bench.homes slot none; views = set bench.views id (with_taken seat.0 slot job) }) (sym (eq-eqb (word_of bench.words slot) 1 hit))
           (take_moves setting bench sound id slot seat.0 job mine lives inside hit there),
@@ -110,7 +110,7 @@ take_own_first setting n slot seat lt bench sound wide mine _ = let inside : slo
     = λ other is idle. subst (λ (r : ℕ). (word_of bench.words slot ≡ 1) ↔ SeemsWaiting r seat.0) (same_slot slot other is) (seems_waiting setting bench sound seat.0 mine idle slot inside) in dite (ℕ_discrete (word_of bench.words slot) 1)
     (λ hit. let (job, there, rests) = (sound.each_slot slot inside).waiting hit in (
       with_taken seat.0 slot job,
-      takes slot (Some (Waiting job)),
+      takes slot (Waiting job),
       rests,
       subst (λ b. Sound setting record { words = set bench.words (slot + 1) (either b 2 (word_of bench.words slot)); homes = set bench.homes slot none; views = set bench.views 0 (with_taken seat.0 slot job) }) (sym (eq-eqb (word_of bench.words slot) 1 hit))
           (take_moves setting bench sound 0 slot seat.0 job mine lives inside hit there),
@@ -140,12 +140,12 @@ look_allowed setting n id slot seat bench sound wide mine _ = dite (ℕ_discrete
     ))
 
 -- the seat after the job was taken out of the slot
-pub took_out : (slots slot : ℕ) (seat middle later : Sitting) (job : AcceptedPlan) (found : Content) → (t : Took slots slot seat middle) → middle.1 ≡ (slot, found) ∷ rest middle.1 → found ≡ Some (Waiting job) → later ≡ (middle.0, (slot, None) ∷ rest middle.1)
+pub took_out : (slots slot : ℕ) (seat middle later : Sitting) (job : AcceptedPlan) (found : Content) → (t : Took slots slot seat middle) → middle.1 ≡ (slot, found) ∷ rest middle.1 → found ≡ Waiting job → later ≡ (middle.0, (slot, Nothing) ∷ rest middle.1)
     → TookOut slots slot job seat later
 took_out slots slot seat middle later job found (taken, is, few) e f g =
-    let content : Some (Waiting taken) ≡ Some (Waiting job) = sym (front_content middle.1 seat.1 slot (Some (Waiting taken)) found (ap (λ (z : Sitting). z.1) is) e) ∙ f in let same : taken ≡ job = cc in
+    let content : Waiting taken ≡ Waiting job = sym (front_content middle.1 seat.1 slot (Waiting taken) found (ap (λ (z : Sitting). z.1) is) e) ∙ f in let same : taken ≡ job = cc in
     let view : later.0 ≡ middle.0 = ap (λ (z : Sitting). z.0) g in (
-      g ∙ ap (λ (z : Sitting). (z.0, (slot, None) ∷ rest z.1)) is ∙ ap (λ (z : AcceptedPlan). (with_taken seat.0 slot z, (slot, None) ∷ seat.1)) same,
+      g ∙ ap (λ (z : Sitting). (z.0, (slot, Nothing) ∷ rest z.1)) is ∙ ap (λ (z : AcceptedPlan). (with_taken seat.0 slot z, (slot, Nothing) ∷ seat.1)) same,
       subst (λ (v : View). length v.held ≤ slots) (sym view) few,
     )
 
@@ -156,4 +156,4 @@ pub same_keeps : (seat later : Sitting) → later ≡ seat → KeepsCarried seat
 same_keeps seat later e = subst (KeepsCarried seat) (sym e) (λ emitted is. is)
 
 pub took_keeps : (slots slot : ℕ) (job : AcceptedPlan) (seat later : Sitting) → TookOut slots slot job seat later → KeepsCarried seat later
-took_keeps slots slot job seat later (e, few) = subst (KeepsCarried seat) (sym e) (λ emitted is. ap (λ (l : Carried). (slot, None) ∷ l) is)
+took_keeps slots slot job seat later (e, few) = subst (KeepsCarried seat) (sym e) (λ emitted is. ap (λ (l : Carried). (slot, Nothing) ∷ l) is)

@@ -1,6 +1,6 @@
 -- The bench after a step of each kind.
 
-use Rattle.std.specs.Prelude.{ℕ, ◌+◌, [], ◌∷◌, ◌++◌, Some, slice_set}
+use Rattle.std.specs.Prelude.{ℕ, ◌+◌, [], ◌∷◌, ◌++◌, slice_set}
 use mathlib.Core.Option.{Option, some, none}
 use Rattle.intake_rules.specs.declared.finding.Finding.{Finding}
 use Rattle.intake_rules.specs.Jobs.{AcceptedPlan}
@@ -26,7 +26,7 @@ after_lift bench slot view = with_slot bench slot 0 none 0 (with_lifted view)
 
 -- a job is in the slot and waits
 abbrev pub after_post : Bench → ℕ → View → AcceptedPlan → Bench
-after_post bench slot view job = with_slot bench slot 1 (some (Some (Waiting job))) 0 (with_posted view job)
+after_post bench slot view job = with_slot bench slot 1 (some (Waiting job)) 0 (with_posted view job)
 
 -- a seat holds the slot
 abbrev pub after_take : Bench → ℕ → ℕ → View → AcceptedPlan → Bench
@@ -34,11 +34,11 @@ after_take bench id slot view job = with_slot bench slot 2 none id (with_taken v
 
 -- a finding is in the slot
 abbrev pub after_finish : Bench → ℕ → ℕ → View → Finding → Bench
-after_finish bench id slot view finding = with_slot bench slot 3 (some (Some (Done finding))) id (with_finished view slot)
+after_finish bench id slot view finding = with_slot bench slot 3 (some (Done finding)) id (with_finished view slot)
 
 -- the job is in the slot and waits again
 abbrev pub after_hand_back : Bench → ℕ → ℕ → View → AcceptedPlan → Bench
-after_hand_back bench id slot view job = with_slot bench slot 1 (some (Some (Waiting job))) id (with_handed_back view slot)
+after_hand_back bench id slot view job = with_slot bench slot 1 (some (Waiting job)) id (with_handed_back view slot)
 
 -- the owner has taken the finding of the slot
 abbrev pub after_emit : Bench → ℕ → View → AcceptedPlan → Bench

@@ -33,12 +33,12 @@ OutIfHeld bench = (slot : ℕ) → (word_of bench.words slot ≡ 2) ↔ ((id : �
 -- a waiting slot contains the job that was accepted there
 abbrev pub JobsRest : Setting → Bench → Type 0
 JobsRest setting bench = (slot : ℕ) → slot < setting.slots → word_of bench.words slot ≡ 1
-    → (job : AcceptedPlan) × (slice_get (owner_of bench.views).jobs slot ≡ Some job) × Rests (get_elem? bench.homes slot) (Some (Waiting job))
+    → (job : AcceptedPlan) × (slice_get (owner_of bench.views).jobs slot ≡ Some job) × Rests (get_elem? bench.homes slot) (Waiting job)
 
 -- a finished slot contains a right finding of the job that was accepted there
 abbrev pub RightFindingsRest : Setting → Bench → Type 0
 RightFindingsRest setting bench = (slot : ℕ) → slot < setting.slots → word_of bench.words slot ≡ 3
-    → (finding : Finding) × (slice_get (owner_of bench.views).jobs slot ≡ Some finding.job) × Rests (get_elem? bench.homes slot) (Some (Done finding)) × IsRight setting.task.value finding
+    → (finding : Finding) × (slice_get (owner_of bench.views).jobs slot ≡ Some finding.job) × Rests (get_elem? bench.homes slot) (Done finding) × IsRight setting.task.value finding
 
 -- a seat that holds a slot holds it with the job that was accepted there
 abbrev pub HeldWithAccepted : Bench → Type 0
@@ -75,7 +75,7 @@ HandBackLaw setting bench = (id slot : ℕ) (view : View) (job : AcceptedPlan) �
 -- the owner emits the finding of a planner's next job: an emit is answered `Emitted`
 abbrev pub EmitLaw : Setting → Bench → Type 0
 EmitLaw setting bench = (slot : ℕ) (view : View) (job : AcceptedPlan) (finding : Finding) → HasView bench 0 view → IsNext view slot job → word_of bench.words slot ≡ 3
-    → Rests (get_elem? bench.homes slot) (Some (Done finding)) → Moves setting bench (after_emit bench slot view job) (emit job.planner) (reply.Emitted finding)
+    → Rests (get_elem? bench.homes slot) (Done finding) → Moves setting bench (after_emit bench slot view job) (emit job.planner) (reply.Emitted finding)
 
 -- the owner closes an open planner: a close is answered `ClosedNow`
 abbrev pub CloseLaw : Setting → Bench → Type 0

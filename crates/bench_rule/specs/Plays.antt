@@ -1,14 +1,14 @@
 -- What each step says about the seat that takes it: a relation between the step, the seat before, the number that was found in the word, and the
 -- seat afterwards.
 
-use Rattle.std.specs.Prelude.{◌≡◌, ◌≢◌, ◌↔◌, ◌<◌, ◌≤◌, ℕ, ◌+◌, true, ◌∷◌, length, slice_get, Option, Some, None}
+use Rattle.std.specs.Prelude.{◌≡◌, ◌≢◌, ◌↔◌, ◌<◌, ◌≤◌, ℕ, ◌+◌, true, ◌∷◌, length, slice_get, Option, Some}
 use Rattle.atomic_table.specs.Table.{Step, rest}
 use Rattle.atomic_table.specs.declared.shared.Seat.{Seat}
 use Rattle.atomic_table.specs.declared.shared.Shared.{Shared}
 use Rattle.intake_rules.specs.declared.finding.Finding.{Finding}
 use Rattle.intake_rules.specs.Findings.{IsRight}
 use Rattle.intake_rules.specs.Jobs.{AcceptedPlan}
-use Rattle.bench_rule.specs.declared.contents.Item.TheVariants.{Waiting, Done}
+use Rattle.bench_rule.specs.declared.contents.Item.TheVariants.{Nothing, Waiting, Done}
 use Rattle.bench_rule.specs.declared.rule.BenchRule.{BenchRule}
 use Rattle.bench_rule.specs.declared.views.Setting.{Setting}
 use Rattle.bench_rule.specs.declared.views.View.{View}
@@ -28,11 +28,11 @@ lift_tells step before found later = (slot : ℕ) → step.word ≡ slot + 1 →
 
 -- the job in the slot is accepted
 abbrev pub post_tells : Step Content → Sitting → ℕ → Sitting → Type 0
-post_tells step before found later = (slot : ℕ) (job : AcceptedPlan) (carried : Carried) → before.1 ≡ (slot, Some (Waiting job)) ∷ carried → later ≡ (with_posted before.0 job, carried)
+post_tells step before found later = (slot : ℕ) (job : AcceptedPlan) (carried : Carried) → before.1 ≡ (slot, Waiting job) ∷ carried → later ≡ (with_posted before.0 job, carried)
 
 -- the seat holds the slot, with the job still in it, and does not hold more slots than there are
 abbrev pub Took : ℕ → ℕ → Sitting → Sitting → Type 0
-Took slots slot before later = (job : AcceptedPlan) × (later ≡ (with_taken before.0 slot job, (slot, Some (Waiting job)) ∷ before.1)) × (length later.0.held ≤ slots)
+Took slots slot before later = (job : AcceptedPlan) × (later ≡ (with_taken before.0 slot job, (slot, Waiting job) ∷ before.1)) × (length later.0.held ≤ slots)
 
 -- a slot that waits was taken; a slot that does not is one more miss
 abbrev pub take_tells : Step Content → Sitting → ℕ → Sitting → Type 0
@@ -49,11 +49,11 @@ take_own_tells step before found later = (slot : ℕ) → step.word ≡ slot + 1
 
 -- the seat holds the slot, with this job, and there is nothing in it any more
 abbrev pub TookOut : ℕ → ℕ → AcceptedPlan → Sitting → Sitting → Type 0
-TookOut slots slot job before later = (later ≡ (with_taken before.0 slot job, (slot, None) ∷ before.1)) × (length later.0.held ≤ slots)
+TookOut slots slot job before later = (later ≡ (with_taken before.0 slot job, (slot, Nothing) ∷ before.1)) × (length later.0.held ≤ slots)
 
 -- the slot is the first of those that the seat carries
 abbrev pub bring_tells : Step Content → Sitting → ℕ → Sitting → Type 0
-bring_tells step before found later = (slot : ℕ) → step.word ≡ slot + 1 → later ≡ (before.0, (slot, None) ∷ without_slot slot before.1)
+bring_tells step before found later = (slot : ℕ) → step.word ≡ slot + 1 → later ≡ (before.0, (slot, Nothing) ∷ without_slot slot before.1)
 
 -- the slot is finished, and the seat does not know more finished slots than there are slots
 abbrev pub finish_tells : Step Content → Sitting → ℕ → Sitting → Type 0
@@ -69,7 +69,7 @@ IsRightFor known finding = (setting : Setting) → known ≡ Some setting → Is
 
 -- a right finding of this job is in the slot, and one more finding was emitted for its planner
 abbrev pub Emitted : ℕ → AcceptedPlan → Sitting → Sitting → Type 0
-Emitted slot job before later = (finding : Finding) × (finding.job ≡ job) × IsRightFor before.0.setting finding × (later ≡ (with_emission before.0 job.planner, (slot, Some (Done finding)) ∷ before.1))
+Emitted slot job before later = (finding : Finding) × (finding.job ≡ job) × IsRightFor before.0.setting finding × (later ≡ (with_emission before.0 job.planner, (slot, Done finding) ∷ before.1))
 
 -- a finished slot was emitted; a slot that is not finished is one more miss, and then the owner did not know it to be finished. While no seat is out,
 -- the owner knows of a finished slot that it is finished

@@ -1,6 +1,6 @@
 -- The intake that a bench shows: what the owner knows of jobs, closed planners and emitted counts, with the stage of each job.
 
-use Rattle.std.specs.Prelude.{◌≡◌, ℕ, nat_eq, cond, List, [], ◌∷◌, Some}
+use Rattle.std.specs.Prelude.{◌≡◌, ℕ, nat_eq, cond, List, [], ◌∷◌}
 use mathlib.Core.Option.{some}
 use mathlib.Core.Option as maybe
 use Rattle.intake_rules.specs.declared.reply.Reply.{Reply}
@@ -27,7 +27,7 @@ slot_words (word ∷ words) = words
 
 -- a finished slot shows the finding that is in it
 abbrev pub finished_stage : maybe.Option Content → Stage
-finished_stage (some (Some (Done finding))) = stage.Finished finding
+finished_stage (some (Done finding)) = stage.Finished finding
 finished_stage _ = stage.Waiting
 
 -- how far the job of a slot has come, by the word of the slot and by what is in it

@@ -49,11 +49,11 @@ pub record SlotOk (task : CostedTask) (jobs : List AcceptedPlan) (lifted : Bool)
   -- an unused slot has some content, unless the owner has it in its hands
   pub empty : word ≡ 0 → (lifted ≡ true → slot ≢ length jobs) → (content : Content) × Rests home content
   -- a waiting slot contains its job
-  pub waiting : word ≡ 1 → (job : AcceptedPlan) × (slice_get jobs slot ≡ Some job) × Rests home (Some (Waiting job))
+  pub waiting : word ≡ 1 → (job : AcceptedPlan) × (slice_get jobs slot ≡ Some job) × Rests home (Waiting job)
   -- a slot that is out is in somebody's hands
   pub out : word ≡ 2 → home ≡ some none
   -- a finished slot contains a right finding of its job
-  pub finished : word ≡ 3 → (finding : Finding) × (slice_get jobs slot ≡ Some finding.job) × Rests home (Some (Done finding)) × IsRight task finding
+  pub finished : word ≡ 3 → (finding : Finding) × (slice_get jobs slot ≡ Some finding.job) × Rests home (Done finding) × IsRight task finding
 
 -- every seat that is not spent knows what the bench was made for
 abbrev pub KnowsSetting : Setting → Role → Option Setting → Type 0

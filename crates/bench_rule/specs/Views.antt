@@ -1,5 +1,6 @@
 -- What seats know of a bench, and how steps change it.
 
+use Rattle.bench_rule.specs.declared.contents.Item.TheVariants.{Nothing}
 use Rattle.std.specs.Prelude.{◌≡◌, ◌⊎◌, ◌<◌, ℕ, suc, ◌+◌, ◌-◌, true, false, nat_eq, cond, List, [], ◌∷◌, ◌++◌, length, map, replicate, slice_get, slice_index, slice_set, Option, Some, None}
 use Rattle.atomic_table.specs.Table.{State, Me}
 use Rattle.intake_rules.specs.Jobs.{AcceptedPlan}
@@ -13,7 +14,7 @@ use Rattle.bench_rule.specs.declared.views.View.{View}
 
 -- what is in a slot, or nothing
 abbrev pub Content : Type 0
-Content = Option Item
+Content = Item
 
 -- a bench: the words, what is in each slot, and what each seat knows
 abbrev pub Bench : Type 0
@@ -147,7 +148,7 @@ without_slot slot (carried ∷ others) = cond (nat_eq carried.0 slot) others (ca
 -- the slots of the held jobs, with nothing in them
 abbrev pub slots_of : List Held → Carried
 slots_of [] = []
-slots_of (held ∷ others) = (held.slot, None) ∷ slots_of others
+slots_of (held ∷ others) = (held.slot, Nothing) ∷ slots_of others
 
 -- a seat carries the slots that it holds, with nothing in them, and after them only slots whose findings it emitted
 abbrev pub CarriesHeld : Sitting → Type 0

@@ -6,7 +6,7 @@ use atomic_table::{Seat, Shared, TableRule};
 /// The rule that words, slots and views keep between any two steps.
 pub struct BenchRule;
 
-impl TableRule<Option<Item>, View, Setting> for BenchRule {
+impl TableRule<Item, View, Setting> for BenchRule {
     ghost use Rattle.bench_rule.specs.Sound.{Sound};
     ghost use Rattle.bench_rule.specs.Views.{first_view};
 
@@ -16,7 +16,7 @@ impl TableRule<Option<Item>, View, Setting> for BenchRule {
 }
 
 /// The words and slots of a bench, as all threads share them.
-pub type BenchWords = Shared<Option<Item>, View, Setting, BenchRule>;
+pub type BenchWords = Shared<Item, View, Setting, BenchRule>;
 
 /// A seat at a bench.
-pub type BenchSeat = Seat<Option<Item>, View>;
+pub type BenchSeat = Seat<Item, View>;

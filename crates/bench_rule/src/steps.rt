@@ -2,6 +2,7 @@
 //!
 //! Word s + 1 is that of slot s: 0 if the slot is unused, 1 if its job waits, 2 if it is out, 3 if it is finished, and 4 if its finding was
 //! emitted. Word 0 is 1 once the bench is shut. No step waits, and none takes memory.
+ghost use Rattle.bench_rule.specs.declared.contents.Item.TheVariants.{Nothing, Waiting, Done};
 ghost use Rattle.std.specs.Prelude.{◌≡◌, ◌<◌, ◌≤◌, ◌+◌, true, false, IsTrue, [], ◌∷◌, ◌++◌, length, None, MatchOption};
 ghost use Rattle.intake_rules.specs.Findings.{IsRight};
 ghost use Rattle.intake_rules.specs.Jobs.{AcceptedPlan};
@@ -42,7 +43,7 @@ pub fn post(words: &BenchWords, seat: &mut BenchSeat, slot: u32, job: Job)
     ensures posted { seat.new.me ≡ (with_posted seat.old.me.0 job, seat.old.me.1) }
 {
     words.load::<Lift>(seat, slot as usize + 1);
-    drop(words.exchange(seat, slot as usize, Some(Item::Waiting(job))));
+    drop(words.exchange(seat, slot as usize, Item::Waiting(job)));
     words.store::<Post>(seat, slot as usize + 1, WAITING);
 }
 
@@ -57,7 +58,7 @@ pub fn take(words: &BenchWords, seat: &mut BenchSeat, slot: u32) -> Option<Job>
     if words.compare_exchange::<Take>(seat, slot as usize + 1, WAITING, OUT) != WAITING {
         return None;
     }
-    Some(job_in(words.exchange(seat, slot as usize, None)))
+    Some(job_in(words.exchange(seat, slot as usize, Item::Nothing)))
 }
 
 /// The owner takes the job of a slot, if it waits. While no seat is out, the owner knows beforehand whether it does.
@@ -72,7 +73,7 @@ pub fn take_own(words: &BenchWords, seat: &mut BenchSeat, slot: u32) -> Option<J
     if words.compare_exchange::<TakeOwn>(seat, slot as usize + 1, WAITING, OUT) != WAITING {
         return None;
     }
-    Some(job_in(words.exchange(seat, slot as usize, None)))
+    Some(job_in(words.exchange(seat, slot as usize, Item::Nothing)))
 }
 
 /// Moves a slot that the seat holds to the front of those that it carries, and puts something into it.
@@ -81,10 +82,10 @@ fn lay(words: &BenchWords, seat: &mut BenchSeat, slot: u32, item: Item)
     requires held { 0 < times_held slot seat.old.me.0.held }
     requires slot { slot < words.now.table_id.slots }
     ensures seat { (seat.new.table_id ≡ seat.old.table_id) × (seat.new.id ≡ seat.old.id) }
-    ensures laid { seat.new.me ≡ (seat.old.me.0, (slot, Some item) ∷ without_slot slot seat.old.me.1) }
+    ensures laid { seat.new.me ≡ (seat.old.me.0, (slot, item) ∷ without_slot slot seat.old.me.1) }
 {
     words.load::<Bring>(seat, slot as usize + 1);
-    drop(words.exchange(seat, slot as usize, Some(item)));
+    drop(words.exchange(seat, slot as usize, item));
 }
 
 /// Puts the right finding of a held job into its slot, which is finished from then on.
@@ -122,14 +123,14 @@ pub fn emit(words: &BenchWords, seat: &mut BenchSeat, slot: u32) -> Option<Findi
     requires owner { IsSeatOf words.now seat.old × (seat.old.id ≡ 0) }
     requires slot { (slot < words.now.table_id.slots) × ((next : AcceptedPlan) × IsNext seat.old.me.0 slot next) }
     ensures seat { (seat.new.table_id ≡ seat.old.table_id) × (seat.new.id ≡ seat.old.id) }
-    ensures emitted { (next : AcceptedPlan) → IsNext seat.old.me.0 slot next → MatchOption result (Missed slot seat.old.me seat.new.me × (times slot seat.old.me.0.finished ≡ 0)) (λ finding. (finding.job ≡ next) × IsRightFor seat.old.me.0.setting finding × (seat.new.me ≡ (with_emission seat.old.me.0 next.planner, seat.old.me.1 ++ (slot, None) ∷ []))) }
+    ensures emitted { (next : AcceptedPlan) → IsNext seat.old.me.0 slot next → MatchOption result (Missed slot seat.old.me seat.new.me × (times slot seat.old.me.0.finished ≡ 0)) (λ finding. (finding.job ≡ next) × IsRightFor seat.old.me.0.setting finding × (seat.new.me ≡ (with_emission seat.old.me.0 next.planner, seat.old.me.1 ++ (slot, Nothing) ∷ []))) }
     ensures carried { CarriesHeld seat.old.me → CarriesHeld seat.new.me }
     ensures alone { seat.old.me.0.seats_out ≡ 0 → MatchOption result (times slot seat.old.me.0.finished ≡ 0) (λ _. 0 < times slot seat.old.me.0.finished) }
 {
     if words.compare_exchange::<Emit>(seat, slot as usize + 1, FINISHED, EMITTED) != FINISHED {
         return None;
     }
-    let finding = finding_in(words.exchange(seat, slot as usize, None));
+    let finding = finding_in(words.exchange(seat, slot as usize, Item::Nothing));
     seat.turn();
     Some(finding)
 }

@@ -1,13 +1,14 @@
 -- What the owner keeps beside its seat, after each kind of step.
 
 use Rattle.std.proofs.Common.{◌≡◌, ◌≢◌, ◌<◌, ◌≤◌, ℕ, zero, suc, ◌+◌, ◌-◌, Bool, false, true, List, [], ◌∷◌, ◌++◌, length, slice_get, slice_index, slice_set, replicate, Some, refl, sym, ap, ◌∙◌, subst, ⊎_elim, arith, eqb, append_assoc}
-use Rattle.std.specs.Prelude.{None, min}
+use Rattle.std.specs.Prelude.{min}
 use Rattle.std.proofs.lemmas.List.{length-append, length-set, map-append}
 use mathlib.Core.Logic.{dite}
 use native.Mathlib.Decide.{ℕ_discrete}
 use Rattle.atomic_table.specs.Seated.{TableId}
 use Rattle.intake_rules.specs.Jobs.{AcceptedPlan}
 use Rattle.intake_rules.proofs.Pushes.{slice_get_cases}
+use Rattle.bench_rule.specs.declared.contents.Item.TheVariants.{Nothing}
 use Rattle.bench_rule.specs.declared.views.Setting.{Setting}
 use Rattle.bench_rule.specs.declared.views.View.{View}
 use Rattle.bench_rule.specs.Views.{Carried, Sitting, HoldsJob, first_view, slots_of, one_if, times_held, with_close, with_emission, with_finished, with_handed_back, with_joined, with_miss, with_posted, with_seat_out, with_shut, with_taken, without_held, without_slot}
@@ -145,12 +146,12 @@ module _ (table : TableId) (id : ℕ) (me : Sitting) (lines : LinesValue) (close
   }
 
   -- the slot of an emitted finding comes behind the others
-  pub emit_keeps : (planner slot : ℕ) → OwnerKept table id (with_emission me.0 planner, me.1 ++ (slot, None) ∷ [])
+  pub emit_keeps : (planner slot : ℕ) → OwnerKept table id (with_emission me.0 planner, me.1 ++ (slot, Nothing) ∷ [])
       record { planners = lines.planners; passed = slice_set lines.passed planner (suc (slice_index lines.passed planner)); room = lines.room } closed out first
   emit_keeps planner slot = let long = length-set me.0.emitted planner (suc (slice_index me.0.emitted planner)) in record {
     zero = kept.zero;
     lifted = kept.lifted;
-    carries = (kept.carries.0 ++ (slot, None) ∷ [], ap (λ (l : Carried). l ++ (slot, None) ∷ []) kept.carries.1 ∙ append_assoc (slots_of me.0.held) kept.carries.0 ((slot, None) ∷ []));
+    carries = (kept.carries.0 ++ (slot, Nothing) ∷ [], ap (λ (l : Carried). l ++ (slot, Nothing) ∷ []) kept.carries.1 ∙ append_assoc (slots_of me.0.held) kept.carries.0 ((slot, Nothing) ∷ []));
     within = kept.within;
     planners = kept.planners;
     passed = ap (λ (l : List ℕ). slice_set l planner (suc (slice_index l planner))) kept.passed;
@@ -201,11 +202,11 @@ module _ (table : TableId) (id : ℕ) (me : Sitting) (lines : LinesValue) (close
   }
 
   -- a slot that is held waits no more
-  pub take_keeps : (slot : ℕ) (job : AcceptedPlan) → slot < table.slots → OwnerKept table id (with_taken me.0 slot job, (slot, None) ∷ me.1) lines closed out first
+  pub take_keeps : (slot : ℕ) (job : AcceptedPlan) → slot < table.slots → OwnerKept table id (with_taken me.0 slot job, (slot, Nothing) ∷ me.1) lines closed out first
   take_keeps slot job inside = record {
     zero = kept.zero;
     lifted = kept.lifted;
-    carries = (kept.carries.0, ap (λ (l : Carried). (slot, None) ∷ l) kept.carries.1);
+    carries = (kept.carries.0, ap (λ (l : Carried). (slot, Nothing) ∷ l) kept.carries.1);
     within = (inside, kept.within);
     planners = kept.planners;
     passed = kept.passed;

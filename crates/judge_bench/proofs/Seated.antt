@@ -4,6 +4,7 @@ use Rattle.std.proofs.Common.{◌≡◌, ◌<◌, ◌≤◌, ℕ, ◌+◌, ◌-�
 use Rattle.std.specs.Prelude.{None}
 use Rattle.atomic_table.specs.Seated.{TableId}
 use Rattle.intake_rules.specs.Jobs.{AcceptedPlan}
+use Rattle.bench_rule.specs.declared.contents.Item.TheVariants.{Nothing}
 use Rattle.bench_rule.specs.Views.{Carried, Sitting, HoldsJob, slots_of, with_finished, with_handed_back, with_note, with_taken, without_held, without_slot}
 use Rattle.bench_rule.proofs.Counts.{carries_without, held_often}
 use Rattle.judge_bench.specs.Kept.{WorkerKept}
@@ -20,10 +21,10 @@ module _ (table : TableId) (me : Sitting) (held next : ℕ) (kept : WorkerKept t
   pub note_keeps : WorkerKept table (with_note me.0, me.1) held next
   note_keeps = record { role = kept.role; carries = kept.carries; count = kept.count; within = kept.within; begins = kept.begins }
 
-  pub take_keeps : (slot : ℕ) (job : AcceptedPlan) → slot < table.slots → WorkerKept table (with_taken me.0 slot job, (slot, None) ∷ me.1) (held + 1) slot
+  pub take_keeps : (slot : ℕ) (job : AcceptedPlan) → slot < table.slots → WorkerKept table (with_taken me.0 slot job, (slot, Nothing) ∷ me.1) (held + 1) slot
   take_keeps slot job inside = record {
     role = kept.role;
-    carries = ap (λ (z : Carried). (slot, None) ∷ z) kept.carries;
+    carries = ap (λ (z : Carried). (slot, Nothing) ∷ z) kept.carries;
     count = (let count = kept.count in omega arith);
     within = (inside, kept.within);
     begins = omega arith;

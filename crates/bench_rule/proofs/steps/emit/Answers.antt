@@ -1,4 +1,4 @@
-use Rattle.std.proofs.Common.{rules, arith, refl, ap, Some}
+use Rattle.std.proofs.Common.{rules, arith, refl, ap}
 use Rattle.bench_rule.specs.declared.contents.Item.TheVariants.{Done}
 use Rattle.bench_rule.proofs.Carried.{front, front_content}
 use Rattle.bench_rule.proofs.Emits.{emit_allowed, emit_out, emit_keeps, miss_keeps}
@@ -9,7 +9,7 @@ compare_exchange-requires c = let next = c.requires.slot.1 in (search rules, ome
 
 pub exchange-requires : goal.exchange-requires
 exchange-requires c = let next = c.requires.slot.1 in let t = (c.compare_exchange.ensures.2 c.args.slot next.0 refl next.1.job_of_slot).0 c.if-compare_exchange-ne-FINISHED.false in
-    (search rules, (Some (Done t.0), front _ _ _ _ (ap (λ z. z.1) t.3)))
+    (search rules, (Done t.0, front _ _ _ _ (ap (λ z. z.1) t.3)))
 
 pub finding_in-finding-requires : goal.finding_in-finding-requires
 finding_in-finding-requires c = let next = c.requires.slot.1 in let t = (c.compare_exchange.ensures.2 c.args.slot next.0 refl next.1.job_of_slot).0 c.if-compare_exchange-ne-FINISHED.false in

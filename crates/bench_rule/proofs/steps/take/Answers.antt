@@ -1,4 +1,4 @@
-use Rattle.std.proofs.Common.{rules, arith, refl, ap, Some}
+use Rattle.std.proofs.Common.{rules, arith, refl, ap}
 use Rattle.bench_rule.specs.declared.contents.Item.TheVariants.{Waiting}
 use Rattle.bench_rule.proofs.Carried.{front, front_content}
 use Rattle.bench_rule.proofs.Takes.{take_allowed, took_out, took_keeps, missed_keeps}
@@ -9,7 +9,7 @@ compare_exchange-requires c = (search rules, omega arith, take_allowed _ _ _ _ _
 
 pub exchange-requires : goal.exchange-requires
 exchange-requires c = let t = (c.compare_exchange.ensures.2 c.args.slot refl).0 c.if-compare_exchange-ne-WAITING.false in
-    (search rules, (Some (Waiting t.0), front _ _ _ _ (ap (λ z. z.1) t.1)))
+    (search rules, (Waiting t.0, front _ _ _ _ (ap (λ z. z.1) t.1)))
 
 pub job_in-requires : goal.job_in-requires
 job_in-requires c = let t = (c.compare_exchange.ensures.2 c.args.slot refl).0 c.if-compare_exchange-ne-WAITING.false in
