@@ -1,10 +1,9 @@
 -- Steps of more arguments than an action may have parameters.
 
-use Rattle.std.proofs.Common.{◌≡◌, ℕ, ◌+◌, ◌<◌, ◌≤◌, Bool, List, ◌∷◌, ◌++◌, Option, Some, None, cond, length, slice_get, ap, sym, ◌∙◌, arith}
+use Rattle.std.proofs.Common.{◌≡◌, ℕ, ◌+◌, ◌<◌, ◌≤◌, List, ◌∷◌, ◌++◌, Option, Some, length, slice_get, ap, sym, ◌∙◌, arith}
 use Rattle.std.specs.Map.{values_of}
 use Rattle.std.specs.Option.{option_or}
-use Rattle.std.specs.Prelude.{option_and_then, option_map}
-use Rattle.std.proofs.lemmas.Bool.{ne_eqb}
+use Rattle.std.specs.Prelude.{option_and_then}
 use Rattle.strips_task.specs.declared.actions.Action.{Action}
 use Rattle.strips_task.specs.declared.plans.Plan.TheVariants.{Steps}
 use Rattle.strips_task.specs.declared.steps.StepText.{StepText}
@@ -12,20 +11,15 @@ use Rattle.strips_task.specs.declared.tasks.TaskParts.{TaskParts}
 use Rattle.strips_task.specs.Names.{number_named}
 use Rattle.strips_judge.specs.declared.verdict.Verdict.TheVariants.{Fails}
 use Rattle.strips_judge.specs.declared.verdict.Why.{Why}
-use Rattle.strips_judge.specs.declared.verdict.Why.TheVariants.{UnknownAction, WrongCount, UnknownObject, WrongType}
+use Rattle.strips_judge.specs.declared.verdict.Why.TheVariants.{WrongCount}
 use Rattle.strips_judge.specs.NumberedState.{Numbered, state_of}
-use Rattle.strips_judge.specs.Step.{argument_fault, fault, fault_by, first_unknown, first_ill_typed, missing, missing_why, precondition}
+use Rattle.strips_judge.specs.Step.{fault, fault_by, missing, missing_why, precondition}
+use Rattle.strips_judge.proofs.NameFaults.{wrong_count}
 use Rattle.plan_cost.specs.declared.costs.Cost.TheVariants.{NotCounted}
 use Rattle.plan_cost.specs.declared.costs.CostedTask.{CostedTask}
 use Rattle.plan_cost.specs.Assessments.{assessment}
 use Rattle.step_memo.specs.Judging.{HasTaken}
 use Rattle.step_memo.proofs.TakenLaws.{fails_here}
-
--- another number of arguments than the action has parameters
-wrong_count : (parts : TaskParts) (action : Action) (args : List (List ℕ)) → length action.params < length args → argument_fault parts action args ≡ Some WrongCount
-wrong_count parts action args more =
-    ap (λ (b : Bool). cond b (option_or (option_map UnknownObject (first_unknown parts args)) (option_map WrongType (first_ill_typed parts action args))) (Some WrongCount))
-    (ne_eqb (length args) (length action.params) (λ e. omega arith))
 
 -- an action has at most 32 parameters
 pub many_arguments : (parts : TaskParts) (name : List ℕ) (number : ℕ) (action : Action) → Some number ≡ number_named parts.actions name
@@ -35,13 +29,7 @@ many_arguments parts name number action named at few args many =
     let more : length action.params < length args = omega arith in
     ap (λ (o : Option ℕ). fault_by parts (option_and_then (slice_get (values_of parts.actions)) o) args) (sym named)
     ∙ ap (λ (o : Option Action). fault_by parts o args) at
-    ∙ wrong_count parts action args more
-
--- no action has the name
-pub no_action : (parts : TaskParts) (name : List ℕ) → None ≡ number_named parts.actions name
-    → (args : List (List ℕ)) → fault parts (record { action = name; args = args }) ≡ Some UnknownAction
-no_action parts name named args =
-    ap (λ (o : Option ℕ). fault_by parts (option_and_then (slice_get (values_of parts.actions)) o) args) (sym named)
+    ∙ wrong_count parts action args (λ e. omega (arith, more, e))
 
 -- a step with a fault fails in every state
 pub faulty_fails : (task : CostedTask) (state : Numbered) (cost : Option ℕ) (count : ℕ) (step : StepText) (why : Why) → fault task.task step ≡ Some why

@@ -1,5 +1,5 @@
 //! A judge of many plans of one task, which takes their steps one by one and keeps what it learns of them.
-ghost use Rattle.std.specs.Prelude.{◌≡◌, ◌+◌, ◌<◌, ◌∷◌, [], ◌++◌, ℕ, List, length, IsTrue, false, Some, IfOk, OnOk, IfSome, IfNone};
+ghost use Rattle.std.specs.Prelude.{◌≡◌, ◌≢◌, ◌+◌, ◌<◌, ◌∷◌, [], ◌++◌, ℕ, List, length, IsTrue, false, Some, IfOk, OnOk, IfSome, IfNone};
 ghost use Rattle.strips_task.specs.declared.plans.Plan.TheVariants.{Steps};
 ghost use Rattle.strips_task.specs.declared.steps.StepText.{StepText};
 ghost use Rattle.strips_task.specs.declared.steps.TheConstants.{MOST_STEPS};
@@ -8,11 +8,14 @@ ghost use Rattle.strips_task.specs.StepView.{step_shown};
 ghost use Rattle.strips_judge.specs.NumberedState.{state_of};
 ghost use Rattle.strips_judge.specs.State.{is_in};
 ghost use Rattle.strips_judge.specs.Step.{fault};
+ghost use Rattle.strips_judge.specs.StepNumbers.{AreWithin, IsNumberedFront};
 ghost use Rattle.strips_judge.specs.declared.verdict.Verdict.TheVariants.{Fails};
+ghost use Rattle.strips_judge.specs.declared.verdict.Why.{Why};
 ghost use Rattle.plan_cost.specs.declared.costs.Cost.TheVariants.{NotCounted};
 ghost use Rattle.plan_cost.specs.Assessments.{assessment};
 ghost use Rattle.plan_cost.specs.CompactCosts.{IsCompact};
 ghost use Rattle.step_memo.specs.Judging.{HasTaken};
+ghost use Rattle.step_memo.specs.declared.judge.RowStep.TheVariants.{Faulty, Taken};
 
 use crate::amounts::{added, amount_of, cost_beside, initial_of, numbered_amount};
 use crate::memo::Memo;
@@ -23,7 +26,7 @@ use plan_cost::{Assessment, CostScratch, CostedTask};
 use std::alloc::{AllocError, Global};
 use std::marker::Model;
 use strips_judge::{
-    Atom, CodeBuffer, NumberedState, Scratch, StepNames, Why, judge_goal, take_step,
+    Atom, CodeBuffer, NumberedState, Scratch, StepNames, Why, fault_of_row, judge_goal, take_step,
 };
 use strips_task::{StepView, Task};
 
@@ -33,6 +36,17 @@ pub const MOST_LATER: usize = 131_072;
 /// How many atoms besides the initial ones may have numbers while steps are still learned. A plan that brings up more of them repeats few of its
 /// steps.
 const LATER_TO_LEARN: usize = 32_768;
+
+/// What came of a row of bytes that may spell a step.
+#[derive(Debug, Drop)]
+pub enum RowStep {
+    /// It spells a step, which was taken.
+    Taken,
+    /// It was not taken. If it spells a step, this is wrong with it, whatever is true.
+    Faulty(Why),
+    /// It was not taken, though it may spell a step that is applicable.
+    NotTaken,
+}
 
 /// A judge of plans of one task. Contracts see the task and what is kept of the plan that is being judged.
 ///
@@ -167,22 +181,24 @@ impl<'t> Judge<'t> {
         true
     }
 
-    /// Takes the step that a row spells, if its names are known and it is applicable, and otherwise changes no atom. Returns whether it did. Learns a
-    /// step that has a code while there is room.
+    /// Takes the step that a row spells, if its names are known and it is applicable, and otherwise changes no atom. Returns whether it did, or what is
+    /// wrong with the names. Learns a step that has a code while there is room.
     ///
     /// Takes a few reads of memory for each name and for each atom, fewer for those that were looked up before, and memory for what is new. If memory runs
     /// out, the plan is over.
-    pub fn take_row(&mut self, alloc: Global, row: &[u8]) -> Result<bool, AllocError>
+    pub fn take_row(&mut self, alloc: Global, row: &[u8]) -> Result<RowStep, AllocError>
         requires { self.old.count < MOST_STEPS }
         ensures task { self.new.task ≡ self.old.task }
-        ensures spelled { IfOk result (λ taken. IsTrue taken → IsSpelled row.now) }
-        ensures taken { IfOk result (λ taken. IsTrue taken → (steps : List StepText) → HasTaken self.old steps
+        ensures spelled { IfOk result (λ came. came ≡ Taken → IsSpelled row.now) }
+        ensures taken { IfOk result (λ came. came ≡ Taken → (steps : List StepText) → HasTaken self.old steps
             → HasTaken self.new (steps ++ step_spelled row.now ∷ [])) }
-        ensures not { IfOk result (λ taken. taken ≡ false → (steps : List StepText) → HasTaken self.old steps → HasTaken self.new steps) }
-        ensures count { IfOk result (λ taken. taken ≡ false → self.new.count ≡ self.old.count) }
+        ensures faulty { IfOk result (λ came. (why : Why) → came ≡ Faulty why → IsSpelled row.now → (steps rest : List StepText) → HasTaken self.old steps
+            → assessment self.old.task (Steps (steps ++ step_spelled row.now ∷ rest)) ≡ record { verdict = Fails (length steps + 1) why; cost = NotCounted }) }
+        ensures not { IfOk result (λ came. came ≢ Taken → (steps : List StepText) → HasTaken self.old steps → HasTaken self.new steps) }
+        ensures count { IfOk result (λ came. came ≢ Taken → self.new.count ≡ self.old.count) }
     {
         if !self.names.number(row, &mut self.numbers)? {
-            return Ok(false);
+            return Ok(not_taken(&self.task.task, row, self.numbers.as_slice()));
         }
         let may_learn = self.may_learn();
         let numbers = self.numbers.as_slice();
@@ -203,11 +219,11 @@ impl<'t> Judge<'t> {
             &mut self.code,
         )?;
         if !is_taken {
-            return Ok(false);
+            return Ok(not_taken(&self.task.task, row, numbers));
         }
         self.cost = added(self.cost, amount);
         self.count += 1;
-        Ok(true)
+        Ok(RowStep::Taken)
     }
 
     /// Whether steps may be learned: only if known steps are being found, and not too many atoms have numbers.
@@ -261,6 +277,18 @@ impl<'t> Judge<'t> {
         ensures { result ≡ state_of self.now.state atom.now }
     {
         self.state.contains(atom)
+    }
+}
+
+/// What came of a row that was not taken, by the numbers of its words before the first that names nothing.
+fn not_taken(task: &Task, row: &[u8], numbers: &[u16]) -> RowStep
+    requires { AreWithin task.now numbers.now }
+    ensures not { result ≢ Taken }
+    ensures faulty { (why : Why) → result ≡ Faulty why → IsNumberedFront task.now (step_spelled row.now) numbers.now → fault task.now (step_spelled row.now) ≡ Some why }
+{
+    match fault_of_row(task, row, numbers) {
+        Some(why) => RowStep::Faulty(why),
+        None => RowStep::NotTaken,
     }
 }
 

@@ -3,9 +3,12 @@
 //! ```text
 //! let mut judge = Judge::new(alloc, &task, judges)?;      // one of `judges` that share the memory
 //! judge.begin(alloc)?;                                    // for each plan
-//! if !judge.take_known(b"move a b")                       // for each step: by its bytes
-//!     && !judge.take_row(alloc, b"move a b")? {           // or by the numbers of its names, and learned
-//!     let why = judge.take(alloc, step)?;                 // or by its words, which says why it is not applicable
+//! if !judge.take_known(b"move a b") {                     // for each step: by its bytes
+//!     match judge.take_row(alloc, b"move a b")? {         // or by the numbers of its names, and learned
+//!         RowStep::Taken => ..,
+//!         RowStep::Faulty(why) => ..,                     // the names are wrong
+//!         RowStep::NotTaken => judge.take(alloc, step)?,  // or by its words, which says why it is not applicable
+//!     }
 //! }
 //! let assessment = judge.finish(alloc)?;
 //! ```
@@ -35,5 +38,5 @@ mod room;
 mod steps;
 mod usage;
 
-pub use judge::{Judge, MOST_LATER};
+pub use judge::{Judge, MOST_LATER, RowStep};
 pub use room::{ALL_CELLS, ALL_CODES, ALL_KEY_BYTES, ALL_NUMBERS, ALL_RECENT_NAMES, MOST_JUDGES};

@@ -12,3 +12,4 @@ pub mod Searches
 pub mod StepLaws
 pub mod VerdictLaws
 pub mod NumberedSteps
+pub mod NameFaults

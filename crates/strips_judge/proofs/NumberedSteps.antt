@@ -1,6 +1,6 @@
 -- Steps by numbers: one word more, and what the numbers of all words say of a step.
 
-use Rattle.std.proofs.Common.{◌≡◌, ◌<◌, ◌+◌, ℕ, suc, Bool, true, false, cond, List, [], ◌∷◌, ◌++◌, Some, None, All, refl, ap, sym, ◌∙◌, length, map, eqb, is_none, slice_get, option_map, option_and_then, arith, true≢false}
+use Rattle.std.proofs.Common.{◌≡◌, ◌<◌, ◌+◌, ℕ, suc, Bool, false, cond, List, [], ◌∷◌, ◌++◌, Some, None, All, refl, ap, sym, ◌∙◌, length, map, is_none, slice_get, option_map, option_and_then, arith, true≢false, eq-eqb}
 use Rattle.std.specs.List.{position_from, cons_option, zip}
 use Rattle.std.specs.Map.{keys_of, values_of}
 use Rattle.std.specs.Option.{option_or}
@@ -115,15 +115,15 @@ module _ (parts : TaskParts) where
       pub bound_action : action_named parts step.action ≡ Some action
       bound_action = let head : number_named parts.actions step.action ≡ Some number = cc in ap (option_and_then (slice_get (values_of parts.actions))) head ∙ at
 
-      -- a step with the right number of objects, each of which fits, has no fault
-      pub bound_faultless : length objects ≡ length action.params → position_from (is_ill_typed parts) 1 (zip action.params objects) ≡ None → fault parts step ≡ None
-      bound_faultless count fits =
+      -- a step with the right number of objects has no other fault than an object that does not fit
+      pub bound_fault : length objects ≡ length action.params → fault parts step ≡ option_map WrongType (position_from (is_ill_typed parts) 1 (zip action.params objects))
+      bound_fault count =
           ap (λ a. fault_by parts a step.args) bound_action
           ∙ ap (λ (b : Bool). cond b (option_or (option_map UnknownObject (position_from (is_unknown parts) 1 step.args)) (option_map WrongType (position_from (is_ill_typed parts) 1 (zip action.params (objects_named parts step.args))))) (Some WrongCount))
-          (counted (length step.args) (length action.params) (as_many step.args objects args_are ∙ count))
+          (eq-eqb (length step.args) (length action.params) (as_many step.args objects args_are ∙ count))
           ∙ ap (λ o. option_or (option_map UnknownObject o) (option_map WrongType (position_from (is_ill_typed parts) 1 (zip action.params (objects_named parts step.args))))) (all_known step.args objects 1 args_are)
           ∙ ap (λ l. option_map WrongType (position_from (is_ill_typed parts) 1 (zip action.params l))) (sym bound_objects)
-          ∙ ap (option_map WrongType) fits
-        where
-          counted : (a b : ℕ) → a ≡ b → eqb a b ≡ true
-          counted a b e = grind (arith, e)
+
+      -- a step with the right number of objects, each of which fits, has no fault
+      pub bound_faultless : length objects ≡ length action.params → position_from (is_ill_typed parts) 1 (zip action.params objects) ≡ None → fault parts step ≡ None
+      bound_faultless count fits = bound_fault count ∙ ap (option_map WrongType) fits

@@ -26,6 +26,7 @@ mod effects;
 mod grounding;
 mod judging;
 pub mod laws;
+mod name_faults;
 mod numbered_steps;
 mod recent_names;
 mod single_cells;
@@ -37,6 +38,7 @@ mod verdict;
 
 pub use codes::{CodeBuffer, StepCode, take_by_code};
 pub use judging::{Scratch, judge, judge_goal, take_step};
+pub use name_faults::fault_of_row;
 pub use numbered_steps::{code_of_numbered, take_numbered};
 pub use state::NumberedState;
 pub use step_names::StepNames;

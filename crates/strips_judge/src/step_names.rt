@@ -1,9 +1,9 @@
 //! The names of steps as they are written, found by number.
-ghost use Rattle.std.specs.Prelude.{◌≡◌, ◌<◌, true, IfOk, IfSome, IsTrue, Some};
+ghost use Rattle.std.specs.Prelude.{◌≡◌, ◌<◌, true, IfOk, IfNone, IfSome, IsTrue, None, Some};
 ghost use Rattle.pddl_words.specs.Words.{is_name, folded};
 ghost use Rattle.strips_task.specs.Names.{number_named};
 ghost use Rattle.strips_task.specs.Spelled.{IsSpelled, step_spelled};
-ghost use Rattle.strips_judge.specs.StepNumbers.{AreWithin, IsNumbered, number_by};
+ghost use Rattle.strips_judge.specs.StepNumbers.{AreWithin, IsNumbered, IsNumberedFront, number_by};
 
 use crate::recent_names::RecentNames;
 use pddl_words::{RowWords, WordKind, word_kind};
@@ -52,7 +52,7 @@ impl<'t> StepNames<'t> {
     }
 
     /// Finds the numbers of the names of a step, if the row spells one and each name is known: the action's, and then those of the objects. Returns
-    /// whether it did.
+    /// whether it did. Otherwise the numbers are those of the words before the first that is no known name.
     ///
     /// A name takes a hash and one read of memory if it was used recently, another one if it has at most 16 bytes, and otherwise one look-up in the
     /// task's table. Takes memory for that once.
@@ -61,7 +61,8 @@ impl<'t> StepNames<'t> {
         ensures task { self.new ≡ self.old }
         ensures spelled { IfOk result (λ found. IsTrue found → IsSpelled row.now) }
         ensures numbered { IfOk result (λ found. IsTrue found → IsNumbered self.old (step_spelled row.now) numbers.new.items) }
-        ensures within { IfOk result (λ found. IsTrue found → AreWithin self.old numbers.new.items) }
+        ensures within { IfOk result (λ _. AreWithin self.old numbers.new.items) }
+        ensures front { IfOk result (λ _. IsSpelled row.now → IsNumberedFront self.old (step_spelled row.now) numbers.new.items) }
     {
         numbers.clear();
         let mut words = RowWords::new(row);
@@ -79,6 +80,7 @@ impl<'t> StepNames<'t> {
     fn number_of(&mut self, is_action: bool, word: &[u8]) -> Result<Option<u16>, AllocError>
         ensures task { self.new ≡ self.old }
         ensures named { IfOk result (λ found. IfSome found (λ number. (is_name word.now ≡ true) × (number_by self.old is_action (folded word.now) ≡ Some number))) }
+        ensures unknown { IfOk result (λ found. IfNone found (is_name word.now ≡ true → number_by self.old is_action (folded word.now) ≡ None)) }
     {
         if is_action {
             self.action(word)
@@ -92,6 +94,7 @@ impl<'t> StepNames<'t> {
     fn action(&mut self, word: &[u8]) -> Result<Option<u16>, AllocError>
         ensures task { self.new ≡ self.old }
         ensures named { IfOk result (λ found. IfSome found (λ number. (is_name word.now ≡ true) × (number_named self.old.actions (folded word.now) ≡ Some number))) }
+        ensures unknown { IfOk result (λ found. IfNone found (is_name word.now ≡ true → number_named self.old.actions (folded word.now) ≡ None)) }
     {
         if let Some(number) = self.actions.find(word) {
             return Ok(Some(number));
@@ -108,6 +111,7 @@ impl<'t> StepNames<'t> {
     fn object(&mut self, word: &[u8]) -> Result<Option<u16>, AllocError>
         ensures task { self.new ≡ self.old }
         ensures named { IfOk result (λ found. IfSome found (λ number. (is_name word.now ≡ true) × (number_named self.old.objects (folded word.now) ≡ Some number))) }
+        ensures unknown { IfOk result (λ found. IfNone found (is_name word.now ≡ true → number_named self.old.objects (folded word.now) ≡ None)) }
     {
         if let Some(number) = self.objects.find(word) {
             return Ok(Some(number));
@@ -124,6 +128,7 @@ impl<'t> StepNames<'t> {
     fn action_in_table(&mut self, word: &[u8]) -> Result<Option<u16>, AllocError>
         ensures task { self.new ≡ self.old }
         ensures named { IfOk result (λ found. IfSome found (λ number. (is_name word.now ≡ true) × (number_named self.old.actions (folded word.now) ≡ Some number))) }
+        ensures unknown { IfOk result (λ found. IfNone found (is_name word.now ≡ true → number_named self.old.actions (folded word.now) ≡ None)) }
     {
         match self.task.action_spelled(word) {
             Some(number) => Ok(Some(number)),
@@ -136,6 +141,7 @@ impl<'t> StepNames<'t> {
     fn action_folded(&mut self, word: &[u8]) -> Result<Option<u16>, AllocError>
         ensures task { self.new ≡ self.old }
         ensures named { IfOk result (λ found. IfSome found (λ number. (is_name word.now ≡ true) × (number_named self.old.actions (folded word.now) ≡ Some number))) }
+        ensures unknown { IfOk result (λ found. IfNone found (is_name word.now ≡ true → number_named self.old.actions (folded word.now) ≡ None)) }
     {
         if !is_name(word) {
             return Ok(None);
@@ -150,6 +156,7 @@ impl<'t> StepNames<'t> {
     fn object_in_table(&mut self, word: &[u8]) -> Result<Option<u16>, AllocError>
         ensures task { self.new ≡ self.old }
         ensures named { IfOk result (λ found. IfSome found (λ number. (is_name word.now ≡ true) × (number_named self.old.objects (folded word.now) ≡ Some number))) }
+        ensures unknown { IfOk result (λ found. IfNone found (is_name word.now ≡ true → number_named self.old.objects (folded word.now) ≡ None)) }
     {
         match self.task.object_spelled(word) {
             Some(number) => Ok(Some(number)),
@@ -162,6 +169,7 @@ impl<'t> StepNames<'t> {
     fn object_folded(&mut self, word: &[u8]) -> Result<Option<u16>, AllocError>
         ensures task { self.new ≡ self.old }
         ensures named { IfOk result (λ found. IfSome found (λ number. (is_name word.now ≡ true) × (number_named self.old.objects (folded word.now) ≡ Some number))) }
+        ensures unknown { IfOk result (λ found. IfNone found (is_name word.now ≡ true → number_named self.old.objects (folded word.now) ≡ None)) }
     {
         if !is_name(word) {
             return Ok(None);
@@ -174,7 +182,7 @@ impl<'t> StepNames<'t> {
 
 /// Whether a word is a name.
 fn is_name(word: &[u8]) -> bool
-    ensures { IsTrue result → is_name word.now ≡ true }
+    ensures { result ≡ is_name word.now }
 {
     matches!(word_kind(word), WordKind::Name)
 }

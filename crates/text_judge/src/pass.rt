@@ -4,18 +4,20 @@ ghost use Rattle.pddl_words.specs.Words.{folded};
 ghost use Rattle.strips_task.specs.declared.plans.Plan.TheVariants.{Steps, Unreadable};
 ghost use Rattle.strips_task.specs.declared.steps.StepText.{StepText};
 ghost use Rattle.strips_task.specs.declared.steps.TheConstants.{MOST_STEPS};
+ghost use Rattle.strips_task.specs.Spelled.{IsSpelled, step_spelled};
 ghost use Rattle.strips_task.specs.Steps.{step_of};
 ghost use Rattle.strips_task.specs.StepView.{step_shown};
 ghost use Rattle.plan_text.specs.PlanReading.{plan_of};
 ghost use Rattle.plan_text.specs.Walks.{HasPassed};
-ghost use Rattle.step_memo.specs.Judging.{HasTaken};
-ghost use Rattle.plan_text.specs.WalkFinds.{IsOnward};
-ghost use Rattle.text_judge.specs.declared.pass.Tried.{Tried};
-ghost use Rattle.text_judge.specs.Passes.{AreTogether, EndsPass, FailsNext, GoOn, GoOnOrEnd};
+ghost use Rattle.step_memo.specs.Judging.{HasTaken, Judging};
+ghost use Rattle.plan_text.specs.WalkFinds.{ComesNext, IsOnward};
+ghost use Rattle.text_judge.specs.declared.pass.Tried.TheVariants.{Taken};
+ghost use Rattle.text_judge.specs.Passes.{AfterTrial, AreTogether, EndsPass, FailsNext, GoOnOrEnd, ended};
 
+use pddl_tokens::Group;
 use plan_text::{Onward, PlanSteps, StepWords, TextStep};
 use std::alloc::{AllocError, Global};
-use step_memo::Judge;
+use step_memo::{Judge, RowStep};
 use strips_judge::Why;
 use strips_task::{MOST_VARIABLES, OpenSteps, StepView};
 
@@ -57,11 +59,7 @@ pub(crate) fn pass(
     ensures passed { IfOk result (λ passed. EndsPass passed walk.new judge.new) }
 {
     'steps: loop {
-        let tried = go_on(alloc, judge, walk)?;
-        if let Tried::Taken = tried {
-            continue 'steps;
-        }
-        if let Some(passed) = take_next(alloc, judge, step, walk, tried)? {
+        if let Some(passed) = advance(alloc, judge, step, walk)? {
             return Ok(passed);
         }
     }
@@ -81,31 +79,37 @@ pub(crate) fn advance(
     ensures next { IfOk result (λ passed. (steps : List StepText) → HasPassed walk.old steps → HasTaken judge.old steps → GoOnOrEnd passed walk.new judge.new steps) }
     ensures shorter { IfOk result (λ passed. passed ≡ None → length walk.new.rest < length walk.old.rest) }
 {
-    match go_on(alloc, judge, walk)? {
-        Tried::Taken => Ok(None),
-        tried => take_next(alloc, judge, step, walk, tried),
-    }
+    let is_list = match go_on(alloc, judge, walk)? {
+        Tried::Taken => return Ok(None),
+        Tried::Ends(passed) => return Ok(Some(passed)),
+        Tried::NotTaken => true,
+        Tried::NoList => false,
+    };
+    take_next(alloc, judge, step, walk, is_list)
 }
 
 /// What came of trying to take the next step by its bytes.
-#[derive(Clone, Copy)]
+#[derive(Drop)]
 enum Tried {
     /// It was taken.
     Taken,
-    /// It was not, though it may be one.
+    /// It ends the pass.
+    Ends(Passed),
+    /// It was not taken, though it may be applicable.
     NotTaken,
     /// No list was seen to come next.
-    NoGroup,
+    NoList,
 }
 
-/// Takes the next step by its words, or passes a stamp or a number, or returns how the pass ends here. Taking the step by its bytes was tried before.
+/// Takes the next step by its words, or passes a stamp or a number, or returns how the pass ends here. Taking the step by its bytes was tried before,
+/// if a list was seen to come next.
 #[inline(always)]
 fn take_next(
     alloc: Global,
     judge: &mut Judge<'_>,
     step: &mut OpenSteps,
     walk: &mut PlanSteps<'_>,
-    tried: Tried,
+    is_list: bool,
 ) -> Result<Option<Passed>, AllocError>
     requires { AreTogether walk.old judge.old }
     ensures task { judge.new.task ≡ judge.old.task }
@@ -113,7 +117,7 @@ fn take_next(
     ensures next { IfOk result (λ passed. (steps : List StepText) → HasPassed walk.old steps → HasTaken judge.old steps → GoOnOrEnd passed walk.new judge.new steps) }
     ensures shorter { IfOk result (λ passed. passed ≡ None → length walk.new.rest < length walk.old.rest) }
 {
-    match read_next(walk, tried) {
+    match read_next(walk, is_list) {
         Onward::Number => Ok(None),
         Onward::Found(TextStep::End) => Ok(Some(Passed::All)),
         Onward::Found(TextStep::Unreadable { line }) => Ok(Some(Passed::Unreadable { line })),
@@ -129,20 +133,20 @@ fn take_next(
     }
 }
 
-/// Reads the next step, or a stamp or a number before it, in the way that is faster after trying to take the step by its bytes.
+/// Reads the next step, or a stamp or a number before it, in the way that is faster if a list was seen to come next, or if not.
 #[inline(always)]
-fn read_next<'a>(walk: &mut PlanSteps<'a>, tried: Tried) -> Onward<'a>
+fn read_next<'a>(walk: &mut PlanSteps<'a>, is_list: bool) -> Onward<'a>
     ensures { IsOnward result walk.old walk.new }
 {
-    match tried {
-        Tried::NoGroup => walk.read_on(),
-        Tried::Taken | Tried::NotTaken => Onward::Found(walk.next_step()),
+    if is_list {
+        return Onward::Found(walk.next_step());
     }
+    walk.read_on()
 }
 
 /// Takes the next step, if it begins right here, the bytes between its parentheses are its names with single spaces between them, and it is applicable.
-/// A step that the judge knows is found by those bytes as a whole. If the step is not taken, the walk stays where it
-/// is.
+/// A step that the judge knows is found by those bytes as a whole. One with names that are wrong ends the pass. If the step is not taken
+/// otherwise, the walk stays where it is.
 #[inline(always)]
 fn go_on(
     alloc: Global,
@@ -152,13 +156,13 @@ fn go_on(
     requires { AreTogether walk.old judge.old }
     ensures task { judge.new.task ≡ judge.old.task }
     ensures text { walk.new.text ≡ walk.old.text }
-    ensures next { IfOk result (λ tried. (steps : List StepText) → HasPassed walk.old steps → HasTaken judge.old steps → GoOn walk.new judge.new steps) }
-    ensures together { IfOk result (λ tried. AreTogether walk.new judge.new) }
-    ensures shorter { IfOk result (λ tried. tried ≡ Tried.Taken → length walk.new.rest < length walk.old.rest) }
-    ensures stays { IfOk result (λ tried. tried ≢ Tried.Taken → walk.new ≡ walk.old) }
+    ensures next { IfOk result (λ tried. (steps : List StepText) → HasPassed walk.old steps → HasTaken judge.old steps → AfterTrial tried walk.new judge.new steps) }
+    ensures together { IfOk result (λ tried. ended tried ≡ None → AreTogether walk.new judge.new) }
+    ensures shorter { IfOk result (λ tried. tried ≡ Taken → length walk.new.rest < length walk.old.rest) }
+    ensures stays { IfOk result (λ tried. ended tried ≡ None → tried ≢ Taken → walk.new ≡ walk.old) }
 {
     let Some(group) = walk.next_group() else {
-        return Ok(Tried::NoGroup);
+        return Ok(Tried::NoList);
     };
     if group.key.len() > LONGEST_ROW {
         return Ok(Tried::NotTaken);
@@ -167,11 +171,35 @@ fn go_on(
         walk.skip(group);
         return Ok(Tried::Taken);
     }
-    if !judge.take_row(alloc, group.key)? {
-        return Ok(Tried::NotTaken);
+    match judge.take_row(alloc, group.key)? {
+        RowStep::Taken => {
+            walk.skip(group);
+            Ok(Tried::Taken)
+        }
+        RowStep::Faulty(why) => Ok(fail_at(walk, group, why)),
+        RowStep::NotTaken => Ok(Tried::NotTaken),
+    }
+}
+
+/// Passes the next step, if the key of its group spells it, and ends the pass there for this reason.
+#[inline(never)]
+fn fail_at<'a>(walk: &mut PlanSteps<'a>, group: Group<'a>, why: Why) -> Tried
+    requires next { ComesNext walk.old group }
+    requires passed { (steps : List StepText) × HasPassed walk.old steps }
+    ensures text { walk.new.text ≡ walk.old.text }
+    ensures fails { (judging : Judging) (steps : List StepText) → HasPassed walk.old steps
+        → (IsSpelled group.entry.key.now → FailsNext judging.task steps (step_spelled group.entry.key.now) why) → HasTaken judging steps → AfterTrial result walk.new judging steps }
+    ensures not { result ≢ Taken }
+    ensures stays { ended result ≡ None → walk.new ≡ walk.old }
+{
+    if !group.are_names() {
+        return Tried::NotTaken;
     }
     walk.skip(group);
-    Ok(Tried::Taken)
+    Tried::Ends(Passed::Fails {
+        step: walk.count() as u32,
+        why,
+    })
 }
 
 /// Takes a step of these words, or returns why it is not applicable.

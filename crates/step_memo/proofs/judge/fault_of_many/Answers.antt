@@ -1,4 +1,5 @@
-use Rattle.step_memo.proofs.ManyArguments.{many_arguments, no_action}
+use Rattle.strips_judge.proofs.NameFaults.{no_action}
+use Rattle.step_memo.proofs.ManyArguments.{many_arguments}
 use Rattle.step_memo.proofs.judge.fault_of_many.Goals as goal
 
 pub returns-in-Some : goal.returns-in-Some

@@ -6,7 +6,7 @@ use Rattle.text_judge.proofs.pass.pass.Goals as goal
 
 pub returns-in-Some-clause-passed : goal.returns-in-Some-clause-passed
 returns-in-Some-clause-passed c =
-    let together = c.in_ok-tried.ensures.together in
-    let end = subst (λ (o : Option Passed). GoOnOrEnd o c.take_next.new.walk c.take_next.new.judge together.0) c.in-Some.is
+    let together = c.steps.invariant.together in
+    let end = subst (λ (o : Option Passed). GoOnOrEnd o c.advance.new.walk c.advance.new.judge together.0) c.in-Some.is
     (c.in_ok-passed.ensures.next together.0 together.1 together.2) in
-    ends_pass c.in-Some.passed c.take_next.new.walk c.take_next.new.judge together.0 end
+    ends_pass c.in-Some.passed c.advance.new.walk c.advance.new.judge together.0 end

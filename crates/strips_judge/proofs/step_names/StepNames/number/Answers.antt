@@ -1,4 +1,4 @@
-use Rattle.std.proofs.Common.{◌≡◌, ℕ, true, false, [], ◌∷◌, ◌++◌, Option, Some, IfSome, eqb, map, length, ap, sym, subst, ◌∙◌, rules, tests, arith}
+use Rattle.std.proofs.Common.{◌≡◌, ℕ, true, false, [], ◌∷◌, ◌++◌, Option, Some, None, IfSome, IfNone, eqb, map, length, ap, sym, subst, ◌∙◌, rules, tests, arith}
 use Rattle.std.specs.List.{list_all}
 use Rattle.std.specs.Vec.{vec_len}
 use Rattle.std.proofs.lemmas.List.{append_assoc, append-nil}
@@ -7,6 +7,7 @@ use Rattle.pddl_words.specs.Words.{is_name, folded}
 use Rattle.strips_judge.specs.StepNumbers.{number_by, numbers_named}
 use Rattle.strips_task.proofs.NamedRows.{none_yet, none_yet-length, names_more}
 use Rattle.strips_judge.proofs.NumberedSteps.{numbered_more, numbered_within, spelled_numbered}
+use Rattle.strips_judge.proofs.NameFaults.{front_numbered, front_of, name_within, some_words}
 use Rattle.strips_judge.proofs.step_names.StepNames.number.Goals as goal
 
 pub words-preserved : goal.words-preserved
@@ -45,5 +46,36 @@ returns-clause-numbered c = λ some.
     spelled_numbered parts (words_of c.args.row.now) items (ap (λ l. numbers_named parts (map folded l)) whole ∙ c.words.invariant.numbered) not_empty
 
 pub returns-clause-within : goal.returns-clause-within
-returns-clause-within c = λ some.
+returns-clause-within c =
     numbered_within c.args.self.now (map folded c.words.invariant.passed) c.words.numbers.items c.words.invariant.numbered
+
+pub returns-clause-front : goal.returns-clause-front
+returns-clause-front c = λ spelled.
+    let parts = c.args.self.now in
+    let row = c.args.row.now in
+    let passed = c.words.invariant.passed in
+    let items = c.words.numbers.items in
+    let whole : words_of row ≡ passed = c.words.invariant.words ∙ ap (λ ws. passed ++ ws) c.in_default.ensures ∙ append-nil passed in
+    front_of parts (map folded (words_of row)) items [] tt
+    (ap (λ l. numbers_named parts (map folded l)) whole ∙ c.words.invariant.numbered ∙ sym (append-nil (map Some items))) (some_words row)
+
+pub returns-in-None-clause-within : goal.returns-in-None-clause-within
+returns-in-None-clause-within c =
+    numbered_within c.args.self.now (map folded c.words.invariant.passed) c.words.numbers.items c.words.invariant.numbered
+
+pub returns-in-None-clause-front : goal.returns-in-None-clause-front
+returns-in-None-clause-front c = λ spelled.
+    let parts = c.args.self.now in
+    let row = c.args.row.now in
+    let passed = c.words.invariant.passed in
+    let word = c.in-Some.word.now in
+    let items = c.words.numbers.items in
+    let len : vec_len c.words.numbers ≡ length items = search rules in
+    let empty : c.is_empty.result ≡ none_yet items = c.is_empty.ensures ∙ ap (λ n. eqb n 0) len ∙ none_yet-length items in
+    let whole : words_of row ≡ passed ++ word ∷ c.next.new.self = c.words.invariant.words ∙ ap (λ ws. passed ++ ws) c.in-Some.ensures in
+    let name : is_name word ≡ true = name_within passed word c.next.new.self (ap (list_all is_name) (sym whole) ∙ spelled) in
+    let unknown = subst (λ (o : Option ℕ). IfNone o (is_name word ≡ true → number_by c.words.self c.is_empty.result (folded word) ≡ None)) c.in-None.is c.in_ok-number.ensures.unknown in
+    let none : number_by parts (none_yet items) (folded word) ≡ None =
+    ap (λ p. number_by p (none_yet items) (folded word)) (sym c.words.invariant.task) ∙ ap (λ e. number_by c.words.self e (folded word)) (sym empty) ∙ unknown name in
+    let front = front_numbered parts passed c.next.new.self items word c.words.invariant.numbered none in
+    front_of parts (map folded (words_of row)) items (None ∷ front.0) tt (ap (λ l. numbers_named parts (map folded l)) whole ∙ front.1) (some_words row)
