@@ -9,6 +9,7 @@ pub mod Fits
 pub mod Growth
 pub mod Runs
 pub mod Searches
+pub mod RisingOrder
 pub mod StepLaws
 pub mod VerdictLaws
 pub mod NumberedSteps

@@ -5,6 +5,7 @@ pub mod State
 pub mod SingleCells
 pub mod AtomsFound
 pub mod Step
+pub mod Places
 pub mod Verdict
 pub mod Validity
 pub mod Laws

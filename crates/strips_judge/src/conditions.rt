@@ -9,10 +9,12 @@ ghost use Rattle.strips_task.specs.Atom.{cond_eq};
 ghost use Rattle.strips_task.specs.Within.{IsFormulaWithin};
 ghost use Rattle.strips_judge.specs.Grounding.{ground_condition};
 ghost use Rattle.strips_judge.specs.NumberedState.{state_of};
+ghost use Rattle.strips_judge.specs.Places.{are_rising};
 ghost use Rattle.strips_judge.specs.State.{holds};
 ghost use Rattle.strips_judge.specs.Step.{missing};
 
 use crate::grounding::{ground_condition, object_of};
+use crate::rising::are_rising;
 use crate::state::NumberedState;
 use indexmap::IndexSet;
 use std::alloc::{AllocError, Global};
@@ -40,8 +42,42 @@ pub(crate) fn missing(
     listed(alloc, found)
 }
 
-/// The ground conditions that do not hold, in order, each only once. One that is the same as the last of them is not looked up.
+/// The ground conditions that do not hold, in order, each only once.
 pub(crate) fn missing_ground(
+    alloc: Global,
+    state: &NumberedState<'_>,
+    conds: &[GroundCond],
+) -> Result<CondList, AllocError>
+    ensures { IfOk result (λ found. found ≡ missing (state_of state.now) conds.now) }
+{
+    if are_rising(conds) {
+        missing_rising(alloc, state, conds)
+    } else {
+        missing_in_any_order(alloc, state, conds)
+    }
+}
+
+/// The ground conditions that do not hold, in order, if they come in rising order and are therefore all different.
+fn missing_rising(
+    alloc: Global,
+    state: &NumberedState<'_>,
+    conds: &[GroundCond],
+) -> Result<CondList, AllocError>
+    requires { are_rising 0 conds.now ≡ true }
+    ensures { IfOk result (λ found. found ≡ missing (state_of state.now) conds.now) }
+{
+    let mut found = Vec::new(alloc);
+    for cond in conds {
+        if !holds_ground(state, cond) {
+            found.push(cond.copy(alloc)?)?;
+        }
+    }
+    found.shrink_to_fit();
+    Ok(CondList::from_vec(found))
+}
+
+/// The ground conditions that do not hold, in order, each only once, by a set of them. One that is the same as the last of them is not looked up.
+fn missing_in_any_order(
     alloc: Global,
     state: &NumberedState<'_>,
     conds: &[GroundCond],

@@ -29,6 +29,7 @@ pub mod laws;
 mod name_faults;
 mod numbered_steps;
 mod recent_names;
+mod rising;
 mod single_cells;
 mod slot_count;
 mod state;

@@ -3,8 +3,8 @@ use Rattle.indexmap.specs.IndexSet.{insert_key}
 use Rattle.strips_task.specs.Atom.{cond_eq}
 use Rattle.strips_judge.specs.NumberedState.{state_of}
 use Rattle.strips_judge.proofs.StepLaws.{taken_more, missing-none, missing-more_holds, missing-more_fails, missing-more_known}
-use Rattle.strips_judge.proofs.conditions.missing_ground.Goals as goal
-use Rattle.strips_judge.proofs.conditions.missing_ground.Goals.{then-not-is_known+then-not-holds_ground+in_ok-copy+in_ok-note, then-not-is_known+else-not-holds_ground, else-not-is_known}
+use Rattle.strips_judge.proofs.conditions.missing_in_any_order.Goals as goal
+use Rattle.strips_judge.proofs.conditions.missing_in_any_order.Goals.{then-not-is_known+then-not-holds_ground+in_ok-copy+in_ok-note, then-not-is_known+else-not-holds_ground, else-not-is_known}
 
 pub loop-cond-init : goal.loop-cond-init
 loop-cond-init c = c.with_hasher-found.ensures.empty ∙ sym (missing-none (state_of c.args.state.now))

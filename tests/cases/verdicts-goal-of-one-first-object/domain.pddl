@@ -1,0 +1,2 @@
+(define (domain stack)
+  (:predicates (on ?x ?y)))

@@ -1,0 +1,2 @@
+(define (domain shelf)
+  (:predicates (clean ?x) (dry ?x)))
