@@ -1,5 +1,6 @@
+pub mod Batches
 pub mod Cutting
-pub mod Planners
+pub mod Outcomes
 pub mod Reading
 pub mod Refusals
 pub mod ReplayAnswers
@@ -9,6 +10,7 @@ pub mod TextFaults
 pub mod TooLarge
 pub mod Writing
 pub mod Tallies
+pub mod Telling
 pub mod PlanCounts
 pub mod Files
 pub mod Texts

@@ -11,3 +11,4 @@ pub mod Requests
 pub mod Run
 pub mod Status
 pub mod Tally
+pub mod Telling

@@ -39,3 +39,7 @@ plan_of_cut bundles cut = plan_of_part cut.planner (slice_range (bytes_of bundle
 -- the plans of ranges
 abbrev pub plans_of_cuts : List BundleValue → List Cut → List SubmissionParts
 plans_of_cuts bundles cuts = map (plan_of_cut bundles) cuts
+
+-- the plans of ranges as one planner's
+abbrev pub handed_in : List BundleValue → List Cut → List SubmissionParts
+handed_in bundles cuts = map (λ cut. record { planner = 0; plan = (plan_of_cut bundles cut).plan }) cuts

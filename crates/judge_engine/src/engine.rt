@@ -2,25 +2,26 @@
 //!
 //! [`judge_bytes`] reads the domain and the problem, cuts the planners' files into plans, has these read and judged on several threads, and
 //! makes the whole report. Its contract says that the report is the stated function of the bytes that came in, for any number of threads.
-ghost use Rattle.std.specs.Prelude.{◌≡◌, ◌≢◌, ◌↔◌, ◌+◌, ◌<◌, ◌≤◌, ℕ, length, map, IfOk, IfErr, Some, None, Err};
-ghost use Rattle.judge_bench.specs.Findings.{findings_of};
+ghost use Rattle.std.specs.Prelude.{◌≡◌, ◌≢◌, ◌↔◌, ◌<◌, ◌≤◌, ◌++◌, [], ℕ, length, map, IfOk, IfErr, Some, None, Err};
 ghost use Rattle.pddl_syntax.specs.declared.fault.ReadFault as read_fault;
 ghost use Rattle.pddl_syntax.specs.Trees.{text_fault};
 ghost use Rattle.explanations.specs.AllValid.{task_in};
 ghost use Rattle.judge_engine.specs.Answer.{answer, answer_as, answer_in, planner_of, too_large, plan_count, most_planners, most_plans};
 ghost use Rattle.judge_engine.specs.Plans.{AreCutsOf, plans_of_cuts, plans_of_files};
 ghost use Rattle.judge_engine.specs.Refusal.{IsOfTexts, ReadingCallsFor, TextsCallFor, TextsCallForIn};
+ghost use Rattle.judge_engine.specs.Telling.{before, told};
 ghost use Rattle.report_text.specs.Format.{report};
 ghost use Rattle.judge_engine.specs.declared.fault.Input.{Input};
 ghost use Rattle.judge_engine.specs.declared.fault.JudgeFault.TheVariants.{OutOfMemory, TooLarge, TooManyPlanners, TooManyPlans, Domain, Held};
 
+use crate::batch::{batch_size, free_room, judge_batch};
 use crate::bundle::Bundle;
 use crate::fault::{Input, JudgeFault};
 use crate::inlet::FILE_LIMIT;
-use crate::planner::push_planner;
-use crate::plans::{Cut, CutPlans, cut_plans};
+use crate::planner::{Standing, push_plans, push_sum};
+use crate::plans::{Cut, cut_plans};
 use crate::report::Report;
-use judge_bench::{Findings, Gate, run};
+use judge_bench::Gate;
 use pddl_reader::{Dialect, FaultKind, ReadFault, read_domain_in, read_problem_in};
 use plan_cost::CostedTask;
 use report_text::{Format, Text, push_head};
@@ -231,65 +232,87 @@ fn judge_planners<R: Threads + Wait + Sync, G: Gate + Sync>(
     ensures refusal { IfErr result (λ fault. IsOfTexts fault → (fault ≡ TooManyPlans) × (most_plans < plan_count bundles.now)) }
     ensures held { IfErr result (λ fault. (job : ℕ) → fault ≡ Held job → G.may_hold gate.now job) }
 {
-    let cuts = match cut_plans(alloc, bundles) {
-        Ok(Some(cuts)) => cuts,
-        Ok(None) => return Err(JudgeFault::TooManyPlans),
-        Err(AllocError) => return Err(JudgeFault::OutOfMemory),
-    };
-    match judge_plans(rt, alloc, task, bundles, cuts, workers, gate) {
-        Ok(findings) => match report_of(alloc, format, task, bundles, &findings) {
-            Ok(report) => Ok(report),
-            Err(AllocError) => Err(JudgeFault::OutOfMemory),
-        },
-        Err(fault) => Err(fault),
+    match cut_plans(alloc, bundles) {
+        Ok(Some(cuts)) => report_of(
+            rt,
+            alloc,
+            format,
+            task,
+            bundles,
+            cuts.as_slice(),
+            workers,
+            gate,
+        ),
+        Ok(None) => Err(JudgeFault::TooManyPlans),
+        Err(AllocError) => Err(JudgeFault::OutOfMemory),
     }
 }
 
-/// What is found about the plans of all files. No more threads judge than there are plans.
-fn judge_plans<R: Threads + Wait + Sync, G: Gate + Sync>(
+/// The report of a task's plans.
+fn report_of<R: Threads + Wait + Sync, G: Gate + Sync>(
     rt: &R,
-    alloc: Global,
-    task: &CostedTask,
-    bundles: &[Bundle],
-    cuts: Vec<Cut>,
-    workers: u32,
-    gate: &G,
-) -> Result<Findings, JudgeFault>
-    requires planners { length bundles.now ≤ 64 }
-    requires within { AreCutsOf bundles.now cuts.items }
-    requires plans { plans_of_cuts bundles.now cuts.items ≡ plans_of_files 0 bundles.now }
-    requires few { plan_count bundles.now ≤ most_plans }
-    requires workers { (1 ≤ workers) × (workers ≤ 32) }
-    ensures findings { IfOk result (λ findings. findings ≡ findings_of task.now (length bundles.now) (plans_of_files 0 bundles.now)) }
-    ensures refusal { IfErr result (λ fault. IsOfTexts fault → ⊥) }
-    ensures held { IfErr result (λ fault. (job : ℕ) → fault ≡ Held job → G.may_hold gate.now job) }
-{
-    let planners = bundles.len() as u32;
-    let slots = cuts.len() as u32;
-    let mut intake = CutPlans::new(bundles, cuts);
-    let workers = workers.min(slots).max(1);
-    match run(rt, alloc, task, planners, slots, &mut intake, workers, gate) {
-        Ok(findings) => Ok(findings),
-        Err(fault) => Err(JudgeFault::from(fault)),
-    }
-}
-
-/// The report of a task's plans, from what was found about them.
-fn report_of(
     alloc: Global,
     format: Format,
     task: &CostedTask,
     bundles: &[Bundle],
-    findings: &Findings,
-) -> Result<Report, AllocError>
-    requires findings { findings.now ≡ findings_of task.now (length bundles.now) (plans_of_files 0 bundles.now) }
-    requires plans { plan_count bundles.now ≤ most_plans }
-    ensures { IfOk result (λ text. text ≡ report format task.now (map (planner_of task.now) bundles.now)) }
+    cuts: &[Cut],
+    workers: u32,
+    gate: &G,
+) -> Result<Report, JudgeFault>
+    requires within { AreCutsOf bundles.now cuts.now }
+    requires plans { plans_of_cuts bundles.now cuts.now ≡ plans_of_files 0 bundles.now }
+    requires few { plan_count bundles.now ≤ most_plans }
+    requires workers { (1 ≤ workers) × (workers ≤ 32) }
+    ensures report { IfOk result (λ text. text ≡ report format task.now (map (planner_of task.now) bundles.now)) }
+    ensures refusal { IfErr result (λ fault. IsOfTexts fault → ⊥) }
+    ensures held { IfErr result (λ fault. (job : ℕ) → fault ≡ Held job → G.may_hold gate.now job) }
 {
     let mut text = Text::new(alloc);
     push_head(&mut text, format, &task.task)?;
-    for (planner, bundle) in bundles.iter().enumerate() {
-        push_planner(&mut text, format, task, bundle.name(), findings, planner)?;
+    if bundles.is_empty() {
+        return Ok(Report::from_bytes(text.into_bytes()));
     }
+    let last = push_batches(
+        rt, alloc, &mut text, format, task, bundles, cuts, workers, gate,
+    )?;
+    push_sum(&mut text, format, task, bundles, last)?;
     Ok(Report::from_bytes(text.into_bytes()))
+}
+
+/// Adds the plans of all planners to a report, batch by batch, and answers where it stands then.
+fn push_batches<R: Threads + Wait + Sync, G: Gate + Sync>(
+    rt: &R,
+    alloc: Global,
+    text: &mut Text,
+    format: Format,
+    task: &CostedTask,
+    bundles: &[Bundle],
+    cuts: &[Cut],
+    workers: u32,
+    gate: &G,
+) -> Result<Standing, JudgeFault>
+    requires some { 0 < length bundles.now }
+    requires within { AreCutsOf bundles.now cuts.now }
+    requires few { length cuts.now ≤ 65536 }
+    requires workers { (1 ≤ workers) × (workers ≤ 32) }
+    ensures told { IfOk result (λ last. text.new ++ told format task.now bundles.now last []
+        ≡ text.old ++ told format task.now bundles.now (before 0) (plans_of_cuts bundles.now cuts.now)) }
+    ensures known { IfOk result (λ last. last.planner < length bundles.now) }
+    ensures refusal { IfErr result (λ fault. IsOfTexts fault → ⊥) }
+    ensures held { IfErr result (λ fault. (job : ℕ) → fault ≡ Held job → G.may_hold gate.now job) }
+{
+    let size = batch_size(bundles, cuts.len());
+    if size < cuts.len() {
+        free_room(alloc)?;
+    }
+    let mut standing = Standing::before(0);
+    let mut from = 0;
+    'batches: while from < cuts.len() {
+        let to = from.saturating_add(size).min(cuts.len());
+        let batch = &cuts[from..to];
+        let findings = judge_batch(rt, alloc, task, bundles, batch, from as u32, workers, gate)?;
+        standing = push_plans(text, format, task, bundles, batch, &findings, standing)?;
+        from = to;
+    }
+    Ok(standing)
 }

@@ -13,6 +13,7 @@
 //! [`program::main_with`] reads the command line and the files, and writes what they answer.
 #![tactic(auto)]
 
+mod batch;
 pub mod bundle;
 pub mod command;
 pub mod engine;

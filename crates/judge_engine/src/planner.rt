@@ -1,9 +1,14 @@
-//! What a report says about one planner: what was found about its plans, how many of them are valid, and the best of these.
-ghost use Rattle.std.specs.Prelude.{◌≡◌, ◌++◌, ◌<◌, ◌≤◌, [], length, map, slice_index_or, OnOk};
-ghost use Rattle.report_text.specs.Format.{planner_text};
+//! What a report says about the planners, one after the other: what was found about the plans of each, how many of them are valid, and the best of these.
+ghost use Rattle.std.specs.Prelude.{◌≡◌, ◌+◌, ◌-◌, ◌++◌, ◌<◌, ◌≤◌, List, length, IfOk, OnOk};
+ghost use Rattle.judge_bench.specs.Findings.{findings_of};
+ghost use Rattle.judge_bench.specs.Submissions.{SubmissionParts};
 ghost use Rattle.report_text.specs.Report.{as_judged, defined_cost, least_cost, steps_if_valid};
+ghost use Rattle.judge_engine.specs.Plans.{AreCutsOf, handed_in, plans_of_cuts};
 ghost use Rattle.judge_engine.specs.Tally.{lesser, tally_over, tally_with};
+ghost use Rattle.judge_engine.specs.Telling.{IsStanding, before, next_text, standing_with, sum_text, told, turn_text, turned};
 
+use crate::bundle::Bundle;
+use crate::plans::Cut;
 use intake_rules::Finding;
 use judge_bench::Findings;
 use plan_cost::{Cost, CostedTask, Costs};
@@ -24,40 +29,129 @@ pub(crate) struct Tally {
     pub(crate) cost: Option<u128>,
 }
 
-/// Adds all that a report says about a planner: its plans, counted from 1, and their sum.
-pub(crate) fn push_planner(
+/// How far a report is: whose plans it tells, and what those that it has told sum up to.
+#[derive(Clone, Copy, Debug)]
+pub(crate) struct Standing {
+    /// The planner, counted from 0.
+    pub(crate) planner: u32,
+    /// The sum of its plans so far.
+    pub(crate) tally: Tally,
+}
+
+impl Standing {
+    /// Before the first plan of a planner.
+    pub(crate) fn before(planner: u32) -> Standing
+        ensures { result ≡ before planner }
+    {
+        Standing {
+            planner,
+            tally: Tally {
+                plans: 0,
+                valid: 0,
+                best: None,
+                cost: None,
+            },
+        }
+    }
+}
+
+/// Adds plans with what was found about them, each counted from 1 among the plans of its planner. Where the planner changes, the sum of the one before
+/// is added first.
+pub(crate) fn push_plans(
     text: &mut Text,
     format: Format,
     task: &CostedTask,
-    name: &[u8],
+    bundles: &[Bundle],
+    cuts: &[Cut],
     findings: &Findings,
-    planner: usize,
-) -> Result<(), AllocError>
-    requires planner { planner < length findings.now }
-    requires plans { length (slice_index_or findings.now planner []) ≤ 65536 }
-    ensures { OnOk result (text.new ≡ text.old ++ planner_text format task.now
-        (record { name = name.now; plans = map as_judged (slice_index_or findings.now planner []) })) }
+    start: Standing,
+) -> Result<Standing, AllocError>
+    requires within { AreCutsOf bundles.now cuts.now }
+    requires findings { findings.now ≡ findings_of task.now 1 (handed_in bundles.now cuts.now) }
+    requires start { IsStanding (length bundles.now) (65536 - length cuts.now) start × (length cuts.now ≤ 65536) }
+    ensures told { IfOk result (λ next. (rest : List SubmissionParts) → text.new ++ told format task.now bundles.now next rest
+        ≡ text.old ++ told format task.now bundles.now start (plans_of_cuts bundles.now cuts.now ++ rest)) }
+    ensures standing { IfOk result (IsStanding (length bundles.now) (start.tally.plans + length cuts.now)) }
 {
-    let mut tally = Tally {
-        plans: 0,
-        valid: 0,
-        best: None,
-        cost: None,
-    };
-    for index in 0..findings.plans(planner) {
-        let finding = findings.get(planner, index);
-        push_plan_in(text, format, &task.task, name, index + 1, finding)?;
-        tally = counted(tally, finding);
+    let mut standing = start;
+    for (index, cut) in cuts.iter().enumerate() {
+        let finding = findings.get(0, index);
+        standing = push_next(text, format, task, bundles, cut.planner, finding, standing)?;
     }
-    let cost = least_cost(&task.costs, tally.cost);
+    Ok(standing)
+}
+
+/// Adds the next plan of a report, a plan of this planner.
+fn push_next(
+    text: &mut Text,
+    format: Format,
+    task: &CostedTask,
+    bundles: &[Bundle],
+    planner: u32,
+    finding: &Finding,
+    standing: Standing,
+) -> Result<Standing, AllocError>
+    requires planner { planner < length bundles.now }
+    requires standing { IsStanding (length bundles.now) 65535 standing }
+    ensures text { OnOk result (text.new ≡ text.old ++ next_text format task.now bundles.now standing planner (as_judged finding.now)) }
+    ensures standing { IfOk result (λ next. next ≡ standing_with standing planner (as_judged finding.now)) }
+{
+    let standing = turn(text, format, task, bundles, planner, standing)?;
+    push_plan_in(
+        text,
+        format,
+        &task.task,
+        bundles[planner as usize].name(),
+        standing.tally.plans + 1,
+        finding,
+    )?;
+    Ok(Standing {
+        planner,
+        tally: counted(standing.tally, finding),
+    })
+}
+
+/// Turns to a planner. If it is another one than before, the sum of that is added.
+fn turn(
+    text: &mut Text,
+    format: Format,
+    task: &CostedTask,
+    bundles: &[Bundle],
+    planner: u32,
+    standing: Standing,
+) -> Result<Standing, AllocError>
+    requires { standing.planner < length bundles.now }
+    ensures text { OnOk result (text.new ≡ text.old ++ turn_text format task.now bundles.now standing planner) }
+    ensures standing { IfOk result (λ next. next ≡ turned standing planner) }
+{
+    if planner == standing.planner {
+        return Ok(standing);
+    }
+    push_sum(text, format, task, bundles, standing)?;
+    let next = Standing::before(planner);
+    Ok(next)
+}
+
+/// Adds the sum of a planner.
+pub(crate) fn push_sum(
+    text: &mut Text,
+    format: Format,
+    task: &CostedTask,
+    bundles: &[Bundle],
+    standing: Standing,
+) -> Result<(), AllocError>
+    requires { standing.planner < length bundles.now }
+    ensures { OnOk result (text.new ≡ text.old ++ sum_text format task.now bundles.now standing) }
+{
+    let Standing { planner, tally } = standing;
     push_summary_in(
         text,
         format,
-        name,
+        bundles[planner as usize].name(),
         tally.plans,
         tally.valid,
         tally.best,
-        cost,
+        least_cost(&task.costs, tally.cost),
     )
 }
 

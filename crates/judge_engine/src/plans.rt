@@ -5,7 +5,7 @@
 ghost use Rattle.std.specs.Prelude.{◌≡◌, ◌≤◌, ◌<◌, ◌+◌, ◌++◌, ◌∷◌, [], length, map, IfOk, OnOk, MatchBool, MatchOption};
 ghost use Rattle.plan_text.specs.Bundle.{parts};
 ghost use Rattle.judge_engine.specs.Answer.{plan_count, most_plans};
-ghost use Rattle.judge_engine.specs.Plans.{AreCutsOf, bytes_of, plan_of_part, plans_of_cuts, plans_of_files};
+ghost use Rattle.judge_engine.specs.Plans.{AreCutsOf, bytes_of, handed_in, plan_of_part, plans_of_cuts, plans_of_files};
 
 use crate::bundle::Bundle;
 use crate::engine::MOST_PLANS;
@@ -13,45 +13,47 @@ use judge_bench::{Intake, Submission};
 use plan_text::{PartEnd, part_from};
 use std::alloc::{AllocError, Global};
 use std::marker::Model;
-use std::vec::IntoIter;
 
 /// A plan of a planner's file, as the range of its bytes.
 #[derive(Clone, Copy, Debug)]
 pub(crate) struct Cut {
-    planner: u32,
+    /// Whose plan it is, counted from 0.
+    pub(crate) planner: u32,
     start: u32,
     end: u32,
 }
 
-/// The plans of planners' files, in order. Contracts see those that are still to come.
+/// The plans of some ranges, in order, all handed in as plans of one planner: their findings are then in the same order. Contracts see the plans that
+/// are still to come.
 #[derive(Drop)]
 pub(crate) struct CutPlans<'b> {
     bundles: &'b [Bundle],
-    rest: IntoIter<Cut>,
+    cuts: &'b [Cut],
+    next: usize,
 }
 
 impl<'b> Model for CutPlans<'b> {
-    ghost use Rattle.std.specs.Prelude.{◌≡◌, List, length};
-    ghost use Rattle.std.specs.Vec.Iter.{into_iter_items, into_iter_len};
+    ghost use Rattle.std.specs.Prelude.{◌≤◌, List, drop, length};
     ghost use Rattle.judge_bench.specs.Submissions.{SubmissionParts};
-    ghost use Rattle.judge_engine.specs.Plans.{AreCutsOf, plans_of_cuts};
+    ghost use Rattle.judge_engine.specs.Plans.{AreCutsOf, handed_in};
 
     ghost Value = { List SubmissionParts };
 
-    ghost view = { λ plans. plans_of_cuts plans.bundles.now (into_iter_items plans.rest) };
+    ghost view = { λ plans. handed_in plans.bundles.now (drop plans.next plans.cuts.now) };
 
-    ghost invariant = { λ plans. (into_iter_len plans.rest ≡ length (into_iter_items plans.rest)) × AreCutsOf plans.bundles.now (into_iter_items plans.rest) };
+    ghost invariant = { λ plans. (plans.next ≤ length plans.cuts.now) × AreCutsOf plans.bundles.now plans.cuts.now };
 }
 
 impl<'b> CutPlans<'b> {
     /// The plans of these ranges. Takes no memory.
-    pub(crate) fn new(bundles: &'b [Bundle], cuts: Vec<Cut>) -> CutPlans<'b>
-        requires { AreCutsOf bundles.now cuts.items }
-        ensures { result ≡ plans_of_cuts bundles.now cuts.items }
+    pub(crate) fn new(bundles: &'b [Bundle], cuts: &'b [Cut]) -> CutPlans<'b>
+        requires { AreCutsOf bundles.now cuts.now }
+        ensures { result ≡ handed_in bundles.now cuts.now }
     {
         CutPlans {
             bundles,
-            rest: cuts.into_iter(),
+            cuts,
+            next: 0,
         }
     }
 }
@@ -60,18 +62,13 @@ impl<'b> Intake for CutPlans<'b> {
     ghost to_come = { λ plans. plans };
 
     fn next(&mut self) -> Result<Option<Submission>, AllocError> {
-        let Some(
-            Cut {
-                planner,
-                start,
-                end,
-            },
-        ) = self.rest.next()
-        else {
+        if self.next == self.cuts.len() {
             return Ok(None);
-        };
-        let plan = self.bundles[planner as usize].plan(start, end)?;
-        Ok(Some(Submission { planner, plan }))
+        }
+        let cut = self.cuts[self.next];
+        let plan = self.bundles[cut.planner as usize].plan(cut.start, cut.end)?;
+        self.next += 1;
+        Ok(Some(Submission { planner: 0, plan }))
     }
 }
 

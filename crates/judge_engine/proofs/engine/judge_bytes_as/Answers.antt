@@ -6,7 +6,7 @@ use Rattle.judge_engine.specs.declared.fault.JudgeFault.TheVariants.{Domain, Too
 use Rattle.judge_engine.specs.Answer.{answer_as, planner_of, plan_count, most_plans}
 use Rattle.judge_engine.specs.Refusal.{IsOfTexts, TextsCallForIn}
 use Rattle.report_text.specs.Format.{report}
-use Rattle.judge_engine.proofs.Planners.{if_ok_more, if_err_more}
+use Rattle.judge_engine.proofs.Outcomes.{if_ok_more, if_err_more}
 use Rattle.judge_engine.proofs.Refusals.{same_error, large_told, no_large_told, read_cause, read_no_size, read_not_held, not_memory, plans_cause, plans_no_size}
 use Rattle.judge_engine.proofs.RunAnswers.{none_if_large, none_if_many, none_if_full, none_without_task, some_of_task}
 use Rattle.judge_engine.proofs.engine.judge_bytes_as.Goals as goal

@@ -1,41 +1,26 @@
-use Rattle.std.proofs.Common.{◌≡◌, ◌++◌, [], length, map, ap, ◌∙◌, sym, Some, slice_get, arith}
-use Rattle.std.proofs.lemmas.Option.{slice_get-get_or}
-use Rattle.std.specs.Prelude.{slice_index_or}
-use Rattle.judge_engine.specs.Answer.{planner_of}
-use Rattle.judge_bench.specs.Findings.{findings_of}
-use Rattle.judge_engine.specs.Plans.{plans_of_files}
-use Rattle.report_text.specs.Format.{planner_text}
-use Rattle.report_text.specs.Report.{as_judged, Planner}
-use Rattle.judge_engine.proofs.PlanCounts.{count_each}
-use Rattle.judge_engine.proofs.Planners.{report_more}
-use Rattle.judge_engine.proofs.Submitted.{found_of_file, count_of_file, list_of_each}
+use Rattle.std.proofs.Common.{◌≡◌, ◌<◌, ◌≤◌, ◌++◌, length, ap, sym, ◌∙◌, arith}
+use Rattle.std.proofs.lemmas.List.{length-map}
+use Rattle.report_text.specs.Format.{head_in}
+use Rattle.judge_engine.specs.Plans.{plan_of_cut}
+use Rattle.judge_engine.specs.Telling.{before, told}
+use Rattle.judge_engine.proofs.Submitted.{count_is}
+use Rattle.judge_engine.proofs.Telling.{last_told, report_told, some_file}
 use Rattle.judge_engine.proofs.engine.report_of.Goals as goal
 
-pub push_planner-requires : goal.push_planner-requires
-push_planner-requires c =
-    let task = c.args.task.now in
-    let bundles = c.args.bundles.now in
-    let i = c.loop-planner.planner in
-    let bundle = c.index-bundles-planner.result in
-    let at : slice_get bundles i ≡ Some bundle = slice_get-get_or bundles i bundle (omega arith) ∙ ap Some (sym c.index-bundles-planner.is) in
-    let lists = ap length c.requires.findings ∙ list_of_each task (length bundles) (plans_of_files 0 bundles) in
-    let plans = ap (λ l. length (slice_index_or l i [])) c.requires.findings ∙ count_of_file task bundles i bundle c.loop-planner-test.true at in
-    record {
-      planner = omega (arith, lists, c.loop-planner-test.true);
-      plans = omega (arith, plans, c.requires.plans, count_each bundles i bundle c.loop-planner-test.true c.index-bundles-planner.is);
-    }
+pub push_batches-requires-clause-few : goal.push_batches-requires-clause-few
+push_batches-requires-clause-few g c κs within =
+    omega (arith, ap length c.requires.plans, length-map c.args.cuts.now (plan_of_cut c.args.bundles.now), count_is 0 c.args.bundles.now, c.requires.few)
 
-pub loop-planner-preserved : goal.loop-planner-preserved
-loop-planner-preserved c =
+pub returns-clause-report : goal.returns-clause-report
+returns-clause-report g c =
+    let format = c.args.format in
     let task = c.args.task.now in
     let bundles = c.args.bundles.now in
-    let i = c.loop-planner.planner in
-    let bundle = c.index-bundles-planner.result in
-    let at : slice_get bundles i ≡ Some bundle = slice_get-get_or bundles i bundle (omega arith) ∙ ap Some (sym c.index-bundles-planner.is) in
-    let found : map as_judged (slice_index_or c.args.findings.now i []) ≡ map as_judged (slice_index_or (findings_of task (length bundles) (plans_of_files 0 bundles)) i []) =
-    ap (λ l. map as_judged (slice_index_or l i [])) c.requires.findings in
-    let named : ◌≡◌ {A = Planner} (record { name = c.name.result.now; plans = map as_judged (slice_index_or c.args.findings.now i []) }) (planner_of task bundle) =
-    (λ j. record { name = c.name.ensures j; plans = found j }) ∙ found_of_file task bundles i bundle c.loop-planner-test.true at in
-    c.in_ok-push_planner.ensures
-    ∙ (λ j. c.loop-planner.invariant j ++ planner_text c.args.format task (named j))
-    ∙ sym (report_more c.args.format task (planner_of task) bundles i bundle at)
+    let head = c.in_ok-push_head.ensures ∙ ap (λ l. l ++ head_in format task.task) c.new-text.ensures in
+    c.from_bytes-2.ensures
+    ∙ c.into_bytes-2.ensures
+    ∙ c.in_ok-push_sum.ensures
+    ∙ ap (λ l. c.push_batches.new.text ++ l) (last_told format task bundles c.in_ok-last.last)
+    ∙ c.in_ok-last.ensures.told
+    ∙ (λ j. head j ++ told format task bundles (before 0) (c.requires.plans j))
+    ∙ report_told format task bundles (some_file bundles (sym c.is_empty.ensures ∙ c.if-is_empty.false))

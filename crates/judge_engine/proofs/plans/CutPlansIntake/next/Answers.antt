@@ -1,38 +1,50 @@
-use Rattle.std.proofs.Common.{◌≤◌, ◌∷◌, arith, length, subst, sym, ap, ◌∙◌, List, ℕ}
+use Rattle.std.proofs.Common.{◌≡◌, ◌<◌, ◌≤◌, ◌+◌, ◌∷◌, [], get_or, drop, length, arith, subst, sym, ap, ◌∙◌, List, ℕ}
 use Rattle.std.specs.Prelude.{slice_range}
-use Rattle.std.specs.Vec.Iter.{into_iter_items}
-use Rattle.std.proofs.lemmas.List.Elements.{All-head, All-rest}
+use Rattle.std.proofs.lemmas.List.{drop_all, get_or_default}
+use Rattle.strips_judge.proofs.Searches.{left}
 use Rattle.strips_task.specs.declared.plans.Plan.{Plan}
 use Rattle.plan_text.specs.PlanReading.{plan_of}
 use Rattle.judge_engine.specs.Bundle.{BundleValue}
-use Rattle.judge_engine.specs.Plans.{AreCutsOf, IsCutOf, plans_of_cuts}
+use Rattle.judge_engine.specs.Plans.{IsCutOf, handed_in}
+use Rattle.judge_engine.specs.declared.plans.Cut.{Cut}
 use Rattle.judge_engine.proofs.Cutting.{bytes_are}
 use Rattle.judge_engine.proofs.plans.CutPlansIntake.next.Goals as goal
+
+pub returns-then-self : goal.returns-then-self
+returns-then-self c =
+    let none = sym c.self.view_is ∙ ap (handed_in c.self.inside.bundles.now) (drop_all c.self.inside.next c.self.inside.cuts.now (omega (arith, c.if-self.true))) in
+    (none, none)
+
+pub plan-requires-clause-ordered : goal.plan-requires-clause-ordered
+plan-requires-clause-ordered c =
+    let lt : c.self.inside.next < length c.self.inside.cuts.now = omega (arith, c.self.invariant.0, c.if-self.false) in
+    (c.self.invariant.1 c.self.inside.next (record { planner = 0; start = 0; end = 0 }) lt).1
 
 pub plan-requires-clause-within : goal.plan-requires-clause-within
 plan-requires-clause-within c =
     let bundles = c.self.inside.bundles.now in
-    let cut = c.in-Some.field-0 in
-    let first = All-head (IsCutOf bundles) cut (into_iter_items c.next.new.self) (subst (AreCutsOf bundles) c.in-Some.ensures.items c.self.invariant.1) in
+    let empty : Cut = record { planner = 0; start = 0; end = 0 } in
+    let cut : Cut = get_or c.self.inside.cuts.now c.self.inside.next empty in
+    let lt : c.self.inside.next < length c.self.inside.cuts.now = omega (arith, c.self.invariant.0, c.if-self.false) in
+    let one : IsCutOf bundles cut = c.self.invariant.1 c.self.inside.next empty lt in
     subst (λ (bs : List ℕ). cut.end ≤ length bs)
-    (bytes_are bundles cut.planner c.index-self-planner.result first.0 c.index-self-planner.is ∙ ap (λ (b : BundleValue). b.bytes) c.index-self-planner.is)
-    first.2
+    (bytes_are bundles cut.planner c.index-self-cut.result one.0 c.index-self-cut.is ∙ ap (λ (b : BundleValue). b.bytes) c.index-self-cut.is)
+    one.2
 
-pub invariant_of-self-in_err-plan : goal.invariant_of-self-in_err-plan
-invariant_of-self-in_err-plan c =
-    (omega (arith, c.in-Some.ensures.len, ap length c.in-Some.ensures.items, c.self.invariant.0), All-rest (IsCutOf c.self.inside.bundles.now) _ _ _ c.in-Some.ensures.items c.self.invariant.1)
-
-pub invariant_of-self-2 : goal.invariant_of-self-2
-invariant_of-self-2 c =
-    (omega (arith, c.in-Some.ensures.len, ap length c.in-Some.ensures.items, c.self.invariant.0), All-rest (IsCutOf c.self.inside.bundles.now) _ _ _ c.in-Some.ensures.items c.self.invariant.1)
+pub invariant_of-self : goal.invariant_of-self
+invariant_of-self c = (omega (arith, c.self.invariant.0, c.if-self.false), c.self.invariant.1)
 
 pub returns : goal.returns
 returns c =
     let bundles = c.self.inside.bundles.now in
-    let cut = c.in-Some.field-0 in
-    let first = All-head (IsCutOf bundles) cut (into_iter_items c.next.new.self) (subst (AreCutsOf bundles) c.in-Some.ensures.items c.self.invariant.1) in
-    let bytes = bytes_are bundles cut.planner c.index-self-planner.result first.0 c.index-self-planner.is ∙ ap (λ (b : BundleValue). b.bytes) c.index-self-planner.is in
+    let cuts = c.self.inside.cuts.now in
+    let next = c.self.inside.next in
+    let empty : Cut = record { planner = 0; start = 0; end = 0 } in
+    let cut : Cut = get_or cuts next empty in
+    let lt : next < length cuts = omega (arith, c.self.invariant.0, c.if-self.false) in
+    let one : IsCutOf bundles cut = c.self.invariant.1 next empty lt in
+    let bytes = bytes_are bundles cut.planner c.index-self-cut.result one.0 c.index-self-cut.is ∙ ap (λ (b : BundleValue). b.bytes) c.index-self-cut.is in
     sym c.self.view_is
-    ∙ ap (plans_of_cuts bundles) c.in-Some.ensures.items
-    ∙ ap (λ (p : Plan). record { planner = cut.planner; plan = p } ∷ plans_of_cuts bundles (into_iter_items c.next.new.self))
+    ∙ ap (handed_in bundles) (left cuts next cut lt (get_or_default cuts next empty cut lt))
+    ∙ ap (λ (p : Plan). record { planner = 0; plan = p } ∷ handed_in bundles (drop (next + 1) cuts))
     (ap (λ (bs : List ℕ). plan_of (slice_range bs cut.start cut.end)) bytes ∙ sym c.in_ok-plan.ensures)

@@ -1,0 +1,3 @@
+(define (domain bell)
+  (:predicates (rung))
+  (:action ring :effect (rung)))

@@ -1,0 +1,1 @@
+(define (problem bell-1) (:domain bell) (:goal (rung)))
