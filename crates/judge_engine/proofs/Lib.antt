@@ -1,4 +1,3 @@
-pub mod Batches
 pub mod Cutting
 pub mod Outcomes
 pub mod Reading
@@ -10,7 +9,7 @@ pub mod TextFaults
 pub mod TooLarge
 pub mod Writing
 pub mod Tallies
-pub mod Telling
+pub mod Standing
 pub mod PlanCounts
 pub mod Files
 pub mod Texts

@@ -5,6 +5,7 @@ use Rattle.std.specs.List.{position_from, sum_by}
 use Rattle.std.specs.Option.{option_map}
 use Rattle.plan_cost.specs.declared.costs.CostedTask.{CostedTask}
 use Rattle.plan_cost.specs.Assessments.{assessment}
+use Rattle.strips_task.specs.declared.plans.Plan.{Plan}
 use Rattle.plan_text.specs.Bundle.{parts}
 use Rattle.plan_text.specs.PlanReading.{plan_of}
 use Rattle.pddl_syntax.specs.declared.dialect.Dialect.{Dialect}
@@ -27,13 +28,13 @@ most_planners = 64
 abbrev pub most_plans : ℕ
 most_plans = 65536
 
+-- a plan with its verdict and its cost
+unfoldable pub judged_plan : CostedTask → Plan → Judged
+judged_plan task plan = record { plan = plan; verdict = (assessment task plan).verdict; cost = (assessment task plan).cost }
+
 -- the plan of a text with its verdict and its cost
 unfoldable pub judged : CostedTask → List ℕ → Judged
-judged task text = record {
-  plan = plan_of text;
-  verdict = (assessment task (plan_of text)).verdict;
-  cost = (assessment task (plan_of text)).cost;
-}
+judged task text = judged_plan task (plan_of text)
 
 -- a planner with its plans, their verdicts and their costs
 unfoldable pub planner_of : CostedTask → BundleValue → Planner

@@ -11,4 +11,4 @@ pub mod Requests
 pub mod Run
 pub mod Status
 pub mod Tally
-pub mod Telling
+pub mod Standing

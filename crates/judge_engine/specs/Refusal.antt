@@ -1,6 +1,6 @@
 -- The refusal that the texts of a run call for: why they have no answer.
 
-use Rattle.std.specs.Prelude.{⊤, ◌≡◌, ◌≢◌, ℕ, ◌+◌, ◌<◌, ◌≤◌, min, List, length, Option, Some, None}
+use Rattle.std.specs.Prelude.{⊤, ◌≡◌, ◌≢◌, ℕ, ◌<◌, ◌≤◌, List, length, Option, Some, None}
 use Rattle.judge_bench.specs.declared.running.RunFault.{RunFault}
 use Rattle.judge_bench.specs.declared.running.RunFault.TheVariants as run
 use Rattle.pddl_syntax.specs.declared.fault.FaultKind.TheVariants.{OutOfMemory as Memory}
@@ -28,12 +28,6 @@ IsOfTexts (Steps fault) = ⊤
 IsOfTexts OutOfMemory = ⊥
 IsOfTexts NoThread = ⊥
 IsOfTexts (Held job) = ⊥
-
--- a fault of a batch of plans, whose first job has this number, as a fault of the run over all plans
-abbrev pub among_all : ℕ → RunFault → RunFault
-among_all first run.OutOfMemory = run.OutOfMemory
-among_all first run.NoThread = run.NoThread
-among_all first (run.Held job) = run.Held (min 4294967295 (first + job))
 
 -- the refusal for a fault of the run over the texts
 abbrev pub refusal_of_run : RunFault → JudgeFault

@@ -6,22 +6,23 @@ ghost use Rattle.std.specs.Prelude.{◌≡◌, ◌≢◌, ◌↔◌, ◌<◌, �
 ghost use Rattle.pddl_syntax.specs.declared.fault.ReadFault as read_fault;
 ghost use Rattle.pddl_syntax.specs.Trees.{text_fault};
 ghost use Rattle.explanations.specs.AllValid.{task_in};
+ghost use Rattle.judge_bench.specs.Findings.{findings_of};
 ghost use Rattle.judge_engine.specs.Answer.{answer, answer_as, answer_in, planner_of, too_large, plan_count, most_planners, most_plans};
-ghost use Rattle.judge_engine.specs.Plans.{AreCutsOf, plans_of_cuts, plans_of_files};
+ghost use Rattle.judge_engine.specs.Plans.{AreCutsOf, handed_in, plans_of_cuts, plans_of_files};
 ghost use Rattle.judge_engine.specs.Refusal.{IsOfTexts, ReadingCallsFor, TextsCallFor, TextsCallForIn};
-ghost use Rattle.judge_engine.specs.Telling.{before, told};
+ghost use Rattle.judge_engine.specs.Standing.{start_of, rest_text};
 ghost use Rattle.report_text.specs.Format.{report};
 ghost use Rattle.judge_engine.specs.declared.fault.Input.{Input};
 ghost use Rattle.judge_engine.specs.declared.fault.JudgeFault.TheVariants.{OutOfMemory, TooLarge, TooManyPlanners, TooManyPlans, Domain, Held};
 
-use crate::batch::{batch_size, free_room, judge_batch};
 use crate::bundle::Bundle;
 use crate::fault::{Input, JudgeFault};
 use crate::inlet::FILE_LIMIT;
 use crate::planner::{Standing, push_plans, push_sum};
-use crate::plans::{Cut, cut_plans};
+use crate::plans::{Cut, CutPlans, cut_plans};
 use crate::report::Report;
-use judge_bench::Gate;
+use crate::short_plans::{are_quick, push_one_by_one};
+use judge_bench::{Findings, Gate, run};
 use pddl_reader::{Dialect, FaultKind, ReadFault, read_domain_in, read_problem_in};
 use plan_cost::CostedTask;
 use report_text::{Format, Text, push_head};
@@ -116,7 +117,8 @@ pub fn judge_bytes_in<R: Threads + Wait + Sync, G: Gate + Sync>(
 ///
 /// A file holds one plan or more (`plan_text::Parts`). No plan is a reason to refuse the run: a text that is no plan gets a verdict, too.
 /// The plans are jobs, numbered from 0 in the order of the files and of the parts of each. The threads read and judge them side by
-/// side, and the gate is asked before each is judged. If the domain declares `total-cost`, the cost of each valid plan is reported
+/// side, and the gate is asked before each is judged. Very many very short plans of a task with few conditions are judged on the
+/// calling thread alone. If the domain declares `total-cost`, the cost of each valid plan is reported
 /// with its verdict, and the least of them in the planner's last line. The whole report is made before anything is written; without
 /// planners it is only its head. Tables of names and atoms hash with the seed; the report does not depend on it.
 /// Waits until all threads are done.
@@ -155,8 +157,9 @@ pub fn judge_bytes_as<R: Threads + Wait + Sync, G: Gate + Sync>(
             if bundles.len() > MOST_PLANNERS {
                 return Err(JudgeFault::TooManyPlanners);
             }
+            let size = domain.len();
             match read_task(alloc, seed, dialect, domain, problem) {
-                Ok(task) => judge_planners(rt, alloc, format, &task, bundles, workers, gate),
+                Ok(task) => judge_planners(rt, alloc, format, &task, size, bundles, workers, gate),
                 Err(fault) => Err(fault),
             }
         }
@@ -216,12 +219,13 @@ fn refusal(fault: ReadFault, other: JudgeFault) -> JudgeFault
     }
 }
 
-/// The report of a task's plans, unless there are too many.
+/// The report of a task's plans, unless there are too many. The domain has `size` bytes.
 fn judge_planners<R: Threads + Wait + Sync, G: Gate + Sync>(
     rt: &R,
     alloc: Global,
     format: Format,
     task: &CostedTask,
+    size: usize,
     bundles: &[Bundle],
     workers: u32,
     gate: &G,
@@ -238,6 +242,7 @@ fn judge_planners<R: Threads + Wait + Sync, G: Gate + Sync>(
             alloc,
             format,
             task,
+            size,
             bundles,
             cuts.as_slice(),
             workers,
@@ -254,6 +259,7 @@ fn report_of<R: Threads + Wait + Sync, G: Gate + Sync>(
     alloc: Global,
     format: Format,
     task: &CostedTask,
+    size: usize,
     bundles: &[Bundle],
     cuts: &[Cut],
     workers: u32,
@@ -272,20 +278,21 @@ fn report_of<R: Threads + Wait + Sync, G: Gate + Sync>(
     if bundles.is_empty() {
         return Ok(Report::from_bytes(text.into_bytes()));
     }
-    let last = push_batches(
-        rt, alloc, &mut text, format, task, bundles, cuts, workers, gate,
+    let last = push_all(
+        rt, alloc, &mut text, format, task, size, bundles, cuts, workers, gate,
     )?;
     push_sum(&mut text, format, task, bundles, last)?;
     Ok(Report::from_bytes(text.into_bytes()))
 }
 
-/// Adds the plans of all planners to a report, batch by batch, and answers where it stands then.
-fn push_batches<R: Threads + Wait + Sync, G: Gate + Sync>(
+/// Adds the plans of all planners to a report, and answers where it stands then.
+fn push_all<R: Threads + Wait + Sync, G: Gate + Sync>(
     rt: &R,
     alloc: Global,
     text: &mut Text,
     format: Format,
     task: &CostedTask,
+    size: usize,
     bundles: &[Bundle],
     cuts: &[Cut],
     workers: u32,
@@ -295,24 +302,38 @@ fn push_batches<R: Threads + Wait + Sync, G: Gate + Sync>(
     requires within { AreCutsOf bundles.now cuts.now }
     requires few { length cuts.now ≤ 65536 }
     requires workers { (1 ≤ workers) × (workers ≤ 32) }
-    ensures told { IfOk result (λ last. text.new ++ told format task.now bundles.now last []
-        ≡ text.old ++ told format task.now bundles.now (before 0) (plans_of_cuts bundles.now cuts.now)) }
+    ensures text { IfOk result (λ last. text.new ++ rest_text format task.now bundles.now last []
+        ≡ text.old ++ rest_text format task.now bundles.now (start_of 0) (plans_of_cuts bundles.now cuts.now)) }
     ensures known { IfOk result (λ last. last.planner < length bundles.now) }
     ensures refusal { IfErr result (λ fault. IsOfTexts fault → ⊥) }
     ensures held { IfErr result (λ fault. (job : ℕ) → fault ≡ Held job → G.may_hold gate.now job) }
 {
-    let size = batch_size(bundles, cuts.len());
-    if size < cuts.len() {
-        free_room(alloc)?;
+    if are_quick(size, &task.task, bundles, cuts.len()) {
+        return push_one_by_one(alloc, text, format, task, bundles, cuts, gate);
     }
-    let mut standing = Standing::before(0);
-    let mut from = 0;
-    'batches: while from < cuts.len() {
-        let to = from.saturating_add(size).min(cuts.len());
-        let batch = &cuts[from..to];
-        let findings = judge_batch(rt, alloc, task, bundles, batch, from as u32, workers, gate)?;
-        standing = push_plans(text, format, task, bundles, batch, &findings, standing)?;
-        from = to;
-    }
-    Ok(standing)
+    let findings = judge_together(rt, alloc, task, bundles, cuts, workers, gate)?;
+    Ok(push_plans(text, format, task, bundles, cuts, &findings)?)
+}
+
+/// What is found about the plans of these ranges, all handed in as plans of one planner. No more threads judge than there are plans.
+fn judge_together<R: Threads + Wait + Sync, G: Gate + Sync>(
+    rt: &R,
+    alloc: Global,
+    task: &CostedTask,
+    bundles: &[Bundle],
+    cuts: &[Cut],
+    workers: u32,
+    gate: &G,
+) -> Result<Findings, JudgeFault>
+    requires within { AreCutsOf bundles.now cuts.now }
+    requires few { length cuts.now ≤ 65536 }
+    requires workers { (1 ≤ workers) × (workers ≤ 32) }
+    ensures findings { IfOk result (λ findings. findings ≡ findings_of task.now 1 (handed_in bundles.now cuts.now)) }
+    ensures refusal { IfErr result (λ fault. IsOfTexts fault → ⊥) }
+    ensures held { IfErr result (λ fault. (job : ℕ) → fault ≡ Held job → G.may_hold gate.now job) }
+{
+    let slots = cuts.len() as u32;
+    let mut intake = CutPlans::new(bundles, cuts);
+    let workers = workers.min(slots).max(1);
+    Ok(run(rt, alloc, task, 1, slots, &mut intake, workers, gate)?)
 }

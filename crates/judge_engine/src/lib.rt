@@ -13,7 +13,6 @@
 //! [`program::main_with`] reads the command line and the files, and writes what they answer.
 #![tactic(auto)]
 
-mod batch;
 pub mod bundle;
 pub mod command;
 pub mod engine;
@@ -29,6 +28,7 @@ pub mod replay;
 mod replies;
 pub mod report;
 mod requests;
+mod short_plans;
 
 pub use pddl_reader::Dialect;
 pub use report_text::Format;

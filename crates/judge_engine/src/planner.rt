@@ -1,11 +1,10 @@
 //! What a report says about the planners, one after the other: what was found about the plans of each, how many of them are valid, and the best of these.
-ghost use Rattle.std.specs.Prelude.{◌≡◌, ◌+◌, ◌-◌, ◌++◌, ◌<◌, ◌≤◌, List, length, IfOk, OnOk};
+ghost use Rattle.std.specs.Prelude.{◌≡◌, ◌+◌, ◌++◌, ◌<◌, ◌≤◌, [], length, IfOk, OnOk};
 ghost use Rattle.judge_bench.specs.Findings.{findings_of};
-ghost use Rattle.judge_bench.specs.Submissions.{SubmissionParts};
 ghost use Rattle.report_text.specs.Report.{as_judged, defined_cost, least_cost, steps_if_valid};
 ghost use Rattle.judge_engine.specs.Plans.{AreCutsOf, handed_in, plans_of_cuts};
 ghost use Rattle.judge_engine.specs.Tally.{lesser, tally_over, tally_with};
-ghost use Rattle.judge_engine.specs.Telling.{IsStanding, before, next_text, standing_with, sum_text, told, turn_text, turned};
+ghost use Rattle.judge_engine.specs.Standing.{IsStanding, start_of, next_text, standing_with, sum_text, rest_text, turn_text, turned};
 
 use crate::bundle::Bundle;
 use crate::plans::Cut;
@@ -29,7 +28,7 @@ pub(crate) struct Tally {
     pub(crate) cost: Option<u128>,
 }
 
-/// How far a report is: whose plans it tells, and what those that it has told sum up to.
+/// How far a report is: at which planner, and the sum of those of its plans that are in the report.
 #[derive(Clone, Copy, Debug)]
 pub(crate) struct Standing {
     /// The planner, counted from 0.
@@ -40,8 +39,8 @@ pub(crate) struct Standing {
 
 impl Standing {
     /// Before the first plan of a planner.
-    pub(crate) fn before(planner: u32) -> Standing
-        ensures { result ≡ before planner }
+    pub(crate) fn start_of(planner: u32) -> Standing
+        ensures { result ≡ start_of planner }
     {
         Standing {
             planner,
@@ -55,8 +54,8 @@ impl Standing {
     }
 }
 
-/// Adds plans with what was found about them, each counted from 1 among the plans of its planner. Where the planner changes, the sum of the one before
-/// is added first.
+/// Adds plans with what was found about them, each counted from 1 among the plans of its planner, and answers where the report stands then. Where the
+/// planner changes, the sum of the one before is added first.
 pub(crate) fn push_plans(
     text: &mut Text,
     format: Format,
@@ -64,16 +63,16 @@ pub(crate) fn push_plans(
     bundles: &[Bundle],
     cuts: &[Cut],
     findings: &Findings,
-    start: Standing,
 ) -> Result<Standing, AllocError>
+    requires some { 0 < length bundles.now }
     requires within { AreCutsOf bundles.now cuts.now }
+    requires few { length cuts.now ≤ 65536 }
     requires findings { findings.now ≡ findings_of task.now 1 (handed_in bundles.now cuts.now) }
-    requires start { IsStanding (length bundles.now) (65536 - length cuts.now) start × (length cuts.now ≤ 65536) }
-    ensures told { IfOk result (λ next. (rest : List SubmissionParts) → text.new ++ told format task.now bundles.now next rest
-        ≡ text.old ++ told format task.now bundles.now start (plans_of_cuts bundles.now cuts.now ++ rest)) }
-    ensures standing { IfOk result (IsStanding (length bundles.now) (start.tally.plans + length cuts.now)) }
+    ensures text { IfOk result (λ last. text.new ++ rest_text format task.now bundles.now last []
+        ≡ text.old ++ rest_text format task.now bundles.now (start_of 0) (plans_of_cuts bundles.now cuts.now)) }
+    ensures known { IfOk result (λ last. last.planner < length bundles.now) }
 {
-    let mut standing = start;
+    let mut standing = Standing::start_of(0);
     for (index, cut) in cuts.iter().enumerate() {
         let finding = findings.get(0, index);
         standing = push_next(text, format, task, bundles, cut.planner, finding, standing)?;
@@ -82,7 +81,7 @@ pub(crate) fn push_plans(
 }
 
 /// Adds the next plan of a report, a plan of this planner.
-fn push_next(
+pub(crate) fn push_next(
     text: &mut Text,
     format: Format,
     task: &CostedTask,
@@ -111,7 +110,7 @@ fn push_next(
     })
 }
 
-/// Turns to a planner. If it is another one than before, the sum of that is added.
+/// Turns to a planner. If that is another one, the sum of the planner before it is added.
 fn turn(
     text: &mut Text,
     format: Format,
@@ -128,7 +127,7 @@ fn turn(
         return Ok(standing);
     }
     push_sum(text, format, task, bundles, standing)?;
-    let next = Standing::before(planner);
+    let next = Standing::start_of(planner);
     Ok(next)
 }
 

@@ -5,7 +5,7 @@
 ghost use Rattle.std.specs.Prelude.{◌≡◌, ◌≤◌, ◌<◌, ◌+◌, ◌++◌, ◌∷◌, [], length, map, IfOk, OnOk, MatchBool, MatchOption};
 ghost use Rattle.plan_text.specs.Bundle.{parts};
 ghost use Rattle.judge_engine.specs.Answer.{plan_count, most_plans};
-ghost use Rattle.judge_engine.specs.Plans.{AreCutsOf, bytes_of, handed_in, plan_of_part, plans_of_cuts, plans_of_files};
+ghost use Rattle.judge_engine.specs.Plans.{AreCutsOf, IsCutOf, bytes_of, handed_in, plan_of_cut, plan_of_part, plans_of_cuts, plans_of_files};
 
 use crate::bundle::Bundle;
 use crate::engine::MOST_PLANS;
@@ -13,6 +13,7 @@ use judge_bench::{Intake, Submission};
 use plan_text::{PartEnd, part_from};
 use std::alloc::{AllocError, Global};
 use std::marker::Model;
+use submitted_plan::SubmittedPlan;
 
 /// A plan of a planner's file, as the range of its bytes.
 #[derive(Clone, Copy, Debug)]
@@ -21,6 +22,16 @@ pub(crate) struct Cut {
     pub(crate) planner: u32,
     start: u32,
     end: u32,
+}
+
+impl Cut {
+    /// The plan of this range. Its text is not read yet. Copies nothing; the only error is that the file's bytes have too many owners.
+    pub(crate) fn plan(self, bundles: &[Bundle]) -> Result<SubmittedPlan, AllocError>
+        requires { IsCutOf bundles.now self }
+        ensures { IfOk result (λ plan. plan ≡ (plan_of_cut bundles.now self).plan) }
+    {
+        bundles[self.planner as usize].plan(self.start, self.end)
+    }
 }
 
 /// The plans of some ranges, in order, all handed in as plans of one planner: their findings are then in the same order. Contracts see the plans that
@@ -65,8 +76,7 @@ impl<'b> Intake for CutPlans<'b> {
         if self.next == self.cuts.len() {
             return Ok(None);
         }
-        let cut = self.cuts[self.next];
-        let plan = self.bundles[cut.planner as usize].plan(cut.start, cut.end)?;
+        let plan = self.cuts[self.next].plan(self.bundles)?;
         self.next += 1;
         Ok(Some(Submission { planner: 0, plan }))
     }

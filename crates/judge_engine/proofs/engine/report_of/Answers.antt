@@ -1,14 +1,14 @@
-use Rattle.std.proofs.Common.{◌≡◌, ◌<◌, ◌≤◌, ◌++◌, length, ap, sym, ◌∙◌, arith}
+use Rattle.std.proofs.Common.{◌++◌, length, ap, sym, ◌∙◌, arith}
 use Rattle.std.proofs.lemmas.List.{length-map}
 use Rattle.report_text.specs.Format.{head_in}
 use Rattle.judge_engine.specs.Plans.{plan_of_cut}
-use Rattle.judge_engine.specs.Telling.{before, told}
+use Rattle.judge_engine.specs.Standing.{start_of, rest_text}
 use Rattle.judge_engine.proofs.Submitted.{count_is}
-use Rattle.judge_engine.proofs.Telling.{last_told, report_told, some_file}
+use Rattle.judge_engine.proofs.Standing.{last_sum, whole_report, some_file}
 use Rattle.judge_engine.proofs.engine.report_of.Goals as goal
 
-pub push_batches-requires-clause-few : goal.push_batches-requires-clause-few
-push_batches-requires-clause-few g c κs within =
+pub push_all-requires-clause-few : goal.push_all-requires-clause-few
+push_all-requires-clause-few g c κs within =
     omega (arith, ap length c.requires.plans, length-map c.args.cuts.now (plan_of_cut c.args.bundles.now), count_is 0 c.args.bundles.now, c.requires.few)
 
 pub returns-clause-report : goal.returns-clause-report
@@ -20,7 +20,7 @@ returns-clause-report g c =
     c.from_bytes-2.ensures
     ∙ c.into_bytes-2.ensures
     ∙ c.in_ok-push_sum.ensures
-    ∙ ap (λ l. c.push_batches.new.text ++ l) (last_told format task bundles c.in_ok-last.last)
-    ∙ c.in_ok-last.ensures.told
-    ∙ (λ j. head j ++ told format task bundles (before 0) (c.requires.plans j))
-    ∙ report_told format task bundles (some_file bundles (sym c.is_empty.ensures ∙ c.if-is_empty.false))
+    ∙ ap (λ l. c.push_all.new.text ++ l) (last_sum format task bundles c.in_ok-last.last)
+    ∙ c.in_ok-last.ensures.text
+    ∙ (λ j. head j ++ rest_text format task bundles (start_of 0) (c.requires.plans j))
+    ∙ whole_report format task bundles (some_file bundles (sym c.is_empty.ensures ∙ c.if-is_empty.false))

@@ -1,27 +1,24 @@
-use Rattle.std.proofs.Common.{◌≡◌, ◌+◌, ◌++◌, List, ℕ, length, ap, sym, ◌∙◌, subst, arith, append_assoc}
+use Rattle.std.proofs.Common.{◌≡◌, ◌+◌, ◌++◌, List, ℕ, length, ap, sym, ◌∙◌, arith, append_assoc}
 use Rattle.report_text.specs.Format.{plan_in}
 use Rattle.report_text.specs.Report.{as_judged}
 use Rattle.judge_engine.specs.Tally.{tally_with}
-use Rattle.judge_engine.specs.Telling.{IsStanding, name_of, turn_text}
-use Rattle.judge_engine.proofs.Telling.{name_is, turned_well}
+use Rattle.judge_engine.specs.Standing.{name_of, turn_text}
+use Rattle.judge_engine.proofs.Standing.{name_is, turned_stands_well}
 use Rattle.judge_engine.proofs.planner.push_next.Goals as goal
 
 pub overflow_add-standing : goal.overflow_add-standing
 overflow_add-standing c =
-    let well = subst (IsStanding (length c.args.bundles.now) 65535) (sym c.in_ok-standing.ensures.standing)
-    (turned_well (length c.args.bundles.now) 65535 c.args.planner c.args.standing c.requires.planner c.requires.standing) in
+    let well = turned_stands_well (length c.args.bundles.now) 65535 c.args.planner c.args.standing c.in_ok-standing.standing c.requires.planner c.requires.standing c.in_ok-standing.ensures.standing in
     omega (arith, well.few)
 
 pub counted-requires-clause-few : goal.counted-requires-clause-few
 counted-requires-clause-few c =
-    let well = subst (IsStanding (length c.args.bundles.now) 65535) (sym c.in_ok-standing.ensures.standing)
-    (turned_well (length c.args.bundles.now) 65535 c.args.planner c.args.standing c.requires.planner c.requires.standing) in
+    let well = turned_stands_well (length c.args.bundles.now) 65535 c.args.planner c.args.standing c.in_ok-standing.standing c.requires.planner c.requires.standing c.in_ok-standing.ensures.standing in
     omega (arith, well.few)
 
 pub counted-requires-clause-some : goal.counted-requires-clause-some
 counted-requires-clause-some c =
-    let well = subst (IsStanding (length c.args.bundles.now) 65535) (sym c.in_ok-standing.ensures.standing)
-    (turned_well (length c.args.bundles.now) 65535 c.args.planner c.args.standing c.requires.planner c.requires.standing) in
+    let well = turned_stands_well (length c.args.bundles.now) 65535 c.args.planner c.args.standing c.in_ok-standing.standing c.requires.planner c.requires.standing c.in_ok-standing.ensures.standing in
     well.some
 
 pub returns-clause-text : goal.returns-clause-text

@@ -1,8 +1,8 @@
 use Rattle.std.proofs.Common.{◌≡◌, ◌++◌, List, ℕ, sym, ◌∙◌}
 use Rattle.report_text.specs.Format.{summary_in}
 use Rattle.report_text.proofs.Rendering.{on_ok_more}
-use Rattle.judge_engine.specs.Telling.{name_of}
-use Rattle.judge_engine.proofs.Telling.{name_is}
+use Rattle.judge_engine.specs.Standing.{name_of}
+use Rattle.judge_engine.proofs.Standing.{name_is}
 use Rattle.judge_engine.proofs.planner.push_sum.Goals as goal
 
 pub returns : goal.returns

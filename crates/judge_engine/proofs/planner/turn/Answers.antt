@@ -1,5 +1,5 @@
 use Rattle.std.proofs.Common.{◌++◌, ap, sym, ◌∙◌, append-nil}
-use Rattle.judge_engine.proofs.Telling.{turn_other, turn_same}
+use Rattle.judge_engine.proofs.Standing.{turn_other, turn_same}
 use Rattle.judge_engine.proofs.planner.turn.Goals as goal
 
 pub returns-then-planner-standing-clause-text : goal.returns-then-planner-standing-clause-text
@@ -18,4 +18,4 @@ returns-clause-text c =
 
 pub returns-clause-standing : goal.returns-clause-standing
 returns-clause-standing c =
-    c.before-next.ensures ∙ sym (turn_other c.args.format c.args.task.now c.args.bundles.now c.args.standing c.args.planner c.if-planner-standing.false).1
+    c.start_of-next.ensures ∙ sym (turn_other c.args.format c.args.task.now c.args.bundles.now c.args.standing c.args.planner c.if-planner-standing.false).1

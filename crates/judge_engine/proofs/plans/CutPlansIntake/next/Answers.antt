@@ -1,13 +1,9 @@
-use Rattle.std.proofs.Common.{◌≡◌, ◌<◌, ◌≤◌, ◌+◌, ◌∷◌, [], get_or, drop, length, arith, subst, sym, ap, ◌∙◌, List, ℕ}
-use Rattle.std.specs.Prelude.{slice_range}
+use Rattle.std.proofs.Common.{◌<◌, ◌+◌, ◌∷◌, get_or, drop, length, arith, sym, ap, ◌∙◌}
 use Rattle.std.proofs.lemmas.List.{drop_all, get_or_default}
 use Rattle.strips_judge.proofs.Searches.{left}
 use Rattle.strips_task.specs.declared.plans.Plan.{Plan}
-use Rattle.plan_text.specs.PlanReading.{plan_of}
-use Rattle.judge_engine.specs.Bundle.{BundleValue}
-use Rattle.judge_engine.specs.Plans.{IsCutOf, handed_in}
+use Rattle.judge_engine.specs.Plans.{handed_in}
 use Rattle.judge_engine.specs.declared.plans.Cut.{Cut}
-use Rattle.judge_engine.proofs.Cutting.{bytes_are}
 use Rattle.judge_engine.proofs.plans.CutPlansIntake.next.Goals as goal
 
 pub returns-then-self : goal.returns-then-self
@@ -15,21 +11,10 @@ returns-then-self c =
     let none = sym c.self.view_is ∙ ap (handed_in c.self.inside.bundles.now) (drop_all c.self.inside.next c.self.inside.cuts.now (omega (arith, c.if-self.true))) in
     (none, none)
 
-pub plan-requires-clause-ordered : goal.plan-requires-clause-ordered
-plan-requires-clause-ordered c =
+pub plan-requires : goal.plan-requires
+plan-requires c =
     let lt : c.self.inside.next < length c.self.inside.cuts.now = omega (arith, c.self.invariant.0, c.if-self.false) in
-    (c.self.invariant.1 c.self.inside.next (record { planner = 0; start = 0; end = 0 }) lt).1
-
-pub plan-requires-clause-within : goal.plan-requires-clause-within
-plan-requires-clause-within c =
-    let bundles = c.self.inside.bundles.now in
-    let empty : Cut = record { planner = 0; start = 0; end = 0 } in
-    let cut : Cut = get_or c.self.inside.cuts.now c.self.inside.next empty in
-    let lt : c.self.inside.next < length c.self.inside.cuts.now = omega (arith, c.self.invariant.0, c.if-self.false) in
-    let one : IsCutOf bundles cut = c.self.invariant.1 c.self.inside.next empty lt in
-    subst (λ (bs : List ℕ). cut.end ≤ length bs)
-    (bytes_are bundles cut.planner c.index-self-cut.result one.0 c.index-self-cut.is ∙ ap (λ (b : BundleValue). b.bytes) c.index-self-cut.is)
-    one.2
+    c.self.invariant.1 c.self.inside.next (record { planner = 0; start = 0; end = 0 }) lt
 
 pub invariant_of-self : goal.invariant_of-self
 invariant_of-self c = (omega (arith, c.self.invariant.0, c.if-self.false), c.self.invariant.1)
@@ -42,9 +27,6 @@ returns c =
     let empty : Cut = record { planner = 0; start = 0; end = 0 } in
     let cut : Cut = get_or cuts next empty in
     let lt : next < length cuts = omega (arith, c.self.invariant.0, c.if-self.false) in
-    let one : IsCutOf bundles cut = c.self.invariant.1 next empty lt in
-    let bytes = bytes_are bundles cut.planner c.index-self-cut.result one.0 c.index-self-cut.is ∙ ap (λ (b : BundleValue). b.bytes) c.index-self-cut.is in
     sym c.self.view_is
     ∙ ap (handed_in bundles) (left cuts next cut lt (get_or_default cuts next empty cut lt))
-    ∙ ap (λ (p : Plan). record { planner = 0; plan = p } ∷ handed_in bundles (drop (next + 1) cuts))
-    (ap (λ (bs : List ℕ). plan_of (slice_range bs cut.start cut.end)) bytes ∙ sym c.in_ok-plan.ensures)
+    ∙ ap (λ (p : Plan). record { planner = 0; plan = p } ∷ handed_in bundles (drop (next + 1) cuts)) (sym c.in_ok-plan.ensures)

@@ -1,6 +1,6 @@
-use Rattle.std.proofs.Common.{◌<◌, All, ap, length, sym, subst, ◌∙◌, arith}
+use Rattle.std.proofs.Common.{◌<◌, All, ap, length, sym, subst, arith}
 use Rattle.judge_engine.proofs.Submitted.{all_of_first, count_handed}
-use Rattle.judge_engine.proofs.batch.judge_batch.Goals as goal
+use Rattle.judge_engine.proofs.engine.judge_together.Goals as goal
 
 pub overflow_cast-slots : goal.overflow_cast-slots
 overflow_cast-slots g c = omega (arith, c.requires.few)

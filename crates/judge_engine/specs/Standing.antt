@@ -1,13 +1,12 @@
--- How a report tells the plans of the planners, plan by plan. Wherever another planner's plans begin, the sum of the one before comes first.
+-- How a report goes through the plans of the planners, one by one. Wherever another planner's plans begin, the sum of the one before comes first.
 
 use Rattle.std.specs.Prelude.{ℕ, ◌+◌, ◌<◌, ◌≤◌, ◌==◌, List, [], ◌∷◌, ◌++◌, map, get_or, None, if◌then◌else◌}
 use Rattle.plan_cost.specs.declared.costs.CostedTask.{CostedTask}
-use Rattle.plan_cost.specs.Assessments.{assessment}
-use Rattle.strips_task.specs.declared.plans.Plan.{Plan}
 use Rattle.judge_bench.specs.Submissions.{SubmissionParts}
 use Rattle.report_text.specs.declared.format.Format.{Format}
 use Rattle.report_text.specs.Format.{plan_in, summary_in}
 use Rattle.report_text.specs.Report.{Judged, least_cost}
+use Rattle.judge_engine.specs.Answer.{judged_plan}
 use Rattle.judge_engine.specs.Bundle.{BundleValue}
 use Rattle.judge_engine.specs.declared.planner.Standing.{Standing}
 use Rattle.judge_engine.specs.Tally.{tally_with}
@@ -16,15 +15,11 @@ use Rattle.judge_engine.specs.Tally.{tally_with}
 abbrev pub name_of : List BundleValue → ℕ → List ℕ
 name_of bundles planner = get_or (map (λ (bundle : BundleValue). bundle.name) bundles) planner []
 
--- a plan with its verdict and its cost
-unfoldable pub judged_plan : CostedTask → Plan → Judged
-judged_plan task plan = record { plan = plan; verdict = (assessment task plan).verdict; cost = (assessment task plan).cost }
-
 -- before the first plan of a planner
-abbrev pub before : ℕ → Standing
-before planner = record { planner = planner; tally = record { plans = 0; valid = 0; best = None; cost = None } }
+abbrev pub start_of : ℕ → Standing
+start_of planner = record { planner = planner; tally = record { plans = 0; valid = 0; best = None; cost = None } }
 
--- one of so many planners, with at most so many plans told, and no more of them valid
+-- it is at one of so many planners, and has at most so many plans of it, of which no more are valid
 pub record IsStanding (planners most : ℕ) (standing : Standing) : Type 0 where
   pub known : standing.planner < planners
   pub few : standing.tally.plans ≤ most
@@ -37,7 +32,7 @@ sum_text format task bundles standing =
 
 -- where a report stands once it turned to a planner
 abbrev pub turned : Standing → ℕ → Standing
-turned standing planner = if planner == standing.planner then standing else before planner
+turned standing planner = if planner == standing.planner then standing else start_of planner
 
 -- what it adds when it turns to a planner: nothing if that is the same one
 abbrev pub turn_text : Format → CostedTask → List BundleValue → Standing → ℕ → List ℕ
@@ -53,9 +48,9 @@ next_text format task bundles standing planner judged =
     turn_text format task bundles standing planner
     ++ plan_in format task.task (name_of bundles planner) ((turned standing planner).tally.plans + 1) judged
 
--- all that is still to come: these plans and the last sum
-unfoldable pub told : Format → CostedTask → List BundleValue → Standing → List SubmissionParts → List ℕ
-told format task bundles standing [] = sum_text format task bundles standing
-told format task bundles standing (submitted ∷ plans) =
+-- the rest of a report: these plans and the last sum
+unfoldable pub rest_text : Format → CostedTask → List BundleValue → Standing → List SubmissionParts → List ℕ
+rest_text format task bundles standing [] = sum_text format task bundles standing
+rest_text format task bundles standing (submitted ∷ plans) =
     next_text format task bundles standing submitted.planner (judged_plan task submitted.plan)
-    ++ told format task bundles (standing_with standing submitted.planner (judged_plan task submitted.plan)) plans
+    ++ rest_text format task bundles (standing_with standing submitted.planner (judged_plan task submitted.plan)) plans
