@@ -13,5 +13,6 @@ mod PlanLaws
 mod OnlyPlan
 mod WholeSteps
 mod WalkSteps
+mod WrittenRows
 mod Extensions
 mod Comparisons

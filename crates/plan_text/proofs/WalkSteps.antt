@@ -1,7 +1,10 @@
 -- Reading on token by token, up to the end of a step.
 
 use Rattle.std.proofs.Common.{◌≡◌, ℕ, ◌+◌, ◌<◌, ◌≤◌, Bool, true, false, List, [], ◌∷◌, ◌++◌, length, map, replicate, Some, None, refl, sym, ap, ◌∙◌, subst, arith, append_assoc, length-append}
+use Rattle.std.specs.List.{list_all}
+use Rattle.std.proofs.lemmas.Bool.{and_from}
 use Rattle.std.proofs.lemmas.List.{append-nil, map-append, length-replicate}
+use Rattle.std.proofs.lemmas.List.Folds.{list_all-append}
 use Rattle.pddl_words.specs.Words.{is_name, folded}
 use Rattle.pddl_tokens.specs.declared.spans.Span.{Span}
 use Rattle.pddl_tokens.specs.declared.spans.TokenKind.{TokenKind}
@@ -146,6 +149,7 @@ pub record IsInStep (text : List ℕ) (some : Bool) (old rest : List Piece) : Ty
   pub read : List (List ℕ)
   pub split : words_before old ≡ read ++ words_before rest
   pub named : some ≡ true → 0 < length read
+  pub names : list_all is_name read ≡ true
   pub within : AreWithin (length text) rest
   pub shorter : length rest ≤ length old
   pub same :
@@ -157,6 +161,7 @@ step_starts text old within = record {
   read = [];
   split = refl;
   named = λ some. absurd cc;
+  names = refl;
   within = within;
   shorter = omega arith;
   same = λ least steps. refl;
@@ -172,6 +177,7 @@ goes_on text some old rest span bytes before is = record {
   read = before.read ++ bytes ∷ [];
   split = before.split ∙ sym (append_assoc before.read (bytes ∷ []) (words_before rest));
   named = λ t. omega (arith, length-append before.read (bytes ∷ []));
+  names = list_all-append is_name before.read (bytes ∷ []) ∙ and_from _ _ before.names (and_from _ _ is refl);
   within = before.within.1;
   shorter = omega (arith, before.shorter);
   same = λ least steps.
@@ -189,6 +195,7 @@ closes text old rest span bytes before =
     let all : before.read ≡ words_before old = sym (append-nil before.read) ∙ sym before.split in
     record {
       some = subst (λ (words : List (List ℕ)). 0 < length words) all (before.named refl);
+      names = subst (λ (words : List (List ℕ)). list_all is_name words ≡ true) all before.names;
       shorter = omega (arith, before.shorter);
       within = before.within.1;
       same = λ least steps.

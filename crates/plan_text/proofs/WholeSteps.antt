@@ -128,4 +128,4 @@ row_some row = has_some (words_of row) (row_has_words row)
 -- the step of a group, by its words
 pub takes_group : (old new : Walk) (row : List ℕ) (words : List (List ℕ)) → words ≡ words_of row → IsSpelled row → GoesBehind old new (step_spelled row) → IsStepFound old new words (Some row)
 takes_group old new row words are spelled behind =
-    subst (λ (ws : List (List ℕ)). IsStepFound old new ws (Some row)) (sym are) (record { some = row_some row; behind = behind; spelled = (spelled, refl) })
+    subst (λ (ws : List (List ℕ)). IsStepFound old new ws (Some row)) (sym are) (record { some = row_some row; names = spelled; behind = behind; spelled = (spelled, refl) })

@@ -1,6 +1,7 @@
 -- What a walk over the steps of a plan text finds next.
 
 use Rattle.std.specs.Prelude.{◌≡◌, ℕ, ◌<◌, ◌≤◌, Bool, true, false, List, [], ◌∷◌, ◌++◌, length, map, IfSome, Option, Some, None, Result, Ok, Err}
+use Rattle.std.specs.List.{list_all}
 use Rattle.std.specs.Option.{option_copied}
 use Rattle.pddl_words.specs.Words.{is_name, folded}
 use Rattle.pddl_tokens.specs.declared.scan.Group.{Group}
@@ -38,9 +39,10 @@ pub record ComesNext (walk : Walk) (group : Group) : Type 0 where
   pub first : IsPlain group.key.now → walk.rest ≡ group_pieces group.start group.key.now ++ group.rest
   pub within : IsPlain group.key.now → AreWithin (length walk.text) group.rest
 
--- a step of these words came next and was passed; if there is a key, it spells the step
+-- a step of these words, which are names, came next and was passed; if there is a key, it spells the step
 pub record IsStepFound (old new : Walk) (words : List (List ℕ)) (key : Option (List ℕ)) : Type 0 where
   pub some : 0 < length words
+  pub names : list_all is_name words ≡ true
   pub behind : GoesBehind old new (step_of (map folded words))
   pub spelled : IfSome key (λ row. IsSpelled row × (step_spelled row ≡ step_of (map folded words)))
 
@@ -116,9 +118,10 @@ IsInside i.Close some kind text = (kind ≡ Right) × (some ≡ true)
 IsInside i.Fault some kind text =
     (least : ℕ) (steps : List StepText) (words : List (List ℕ)) → read_on (reading_inside some least steps words) (symbol_of kind text) ≡ None
 
--- a step was closed: the words before the `)` are those of the step
+-- a step was closed: the words before the `)` are those of the step, and names
 pub record IsClosed (text : List ℕ) (old new : List Piece) : Type 0 where
   pub some : 0 < length (words_before old)
+  pub names : list_all is_name (words_before old) ≡ true
   pub shorter : length new ≤ length old
   pub within : AreWithin (length text) new
   pub same :

@@ -1,6 +1,6 @@
 -- A walk over the steps of a plan text, and what it finds.
 
-use Rattle.std.specs.Prelude.{◌≡◌, ℕ, ◌<◌, ◌≤◌, List, [], ◌∷◌, ◌++◌, length}
+use Rattle.std.specs.Prelude.{◌≡◌, ℕ, ◌+◌, ◌<◌, ◌≤◌, List, [], ◌∷◌, ◌++◌, length}
 use Rattle.pddl_tokens.specs.declared.spans.TokenKind.TheVariants.{Left, Right, Word}
 use Rattle.pddl_tokens.specs.Tokens.{Piece, token, bad}
 use Rattle.strips_task.specs.declared.steps.StepText.{StepText}
@@ -63,3 +63,8 @@ words_before (bad at ∷ pieces) = []
 words_before (token Left span bytes ∷ pieces) = []
 words_before (token Right span bytes ∷ pieces) = []
 words_before (token Word span bytes ∷ pieces) = bytes ∷ words_before pieces
+
+-- how many bytes words take in a row, with a space behind each
+abbrev pub row_size : List (List ℕ) → ℕ
+row_size [] = 0
+row_size (word ∷ words) = length word + 1 + row_size words

@@ -15,7 +15,7 @@ use Rattle.step_memo.specs.Judging.{Judging, HasTaken}
 use Rattle.text_judge.specs.declared.pass.Passed.{Passed}
 use Rattle.text_judge.specs.declared.pass.Passed.TheVariants.{All, Fails, Unreadable as Faulty}
 use Rattle.text_judge.specs.declared.pass.Tried.{Tried}
-use Rattle.text_judge.specs.declared.pass.Tried.TheVariants.{Taken, Ends, NotTaken, NoList}
+use Rattle.text_judge.specs.declared.pass.Tried.TheVariants.{Taken, Ends, NotTaken, NotTried}
 
 -- the judge has taken just the steps that the walk has passed
 abbrev pub AreTogether : Walk → Judging → Type 0
@@ -66,11 +66,11 @@ abbrev pub ended : Tried → Option Passed
 ended Taken = None
 ended (Ends passed) = Some passed
 ended NotTaken = None
-ended NoList = None
+ended NotTried = None
 
 -- what becomes of a walk and a judge that were after these steps where the next step is tried: both go on by one, or the pass ends there, or both stay
 abbrev pub AfterTrial : Tried → Walk → Judging → List StepText → Type 0
 AfterTrial Taken walk judging steps = (step : StepText) × HasPassed walk (steps ++ step ∷ []) × HasTaken judging (steps ++ step ∷ [])
 AfterTrial (Ends passed) walk judging steps = GoOnOrEnd (Some passed) walk judging steps
 AfterTrial NotTaken walk judging steps = HasPassed walk steps × HasTaken judging steps
-AfterTrial NoList walk judging steps = HasPassed walk steps × HasTaken judging steps
+AfterTrial NotTried walk judging steps = HasPassed walk steps × HasTaken judging steps

@@ -10,11 +10,11 @@ ghost use Rattle.text_judge.specs.History.{AreLastChanges, state_after};
 ghost use Rattle.text_judge.specs.Passes.{with_next};
 ghost use Rattle.text_judge.specs.Watches.{AreWatched, EndsWatch, IsWatched, WatchTogether};
 
-use crate::pass::{Passed, advance};
+use crate::pass::{Passed, Words, advance};
 use plan_text::PlanSteps;
 use std::alloc::{AllocError, Global};
 use step_memo::Judge;
-use strips_task::{Atom, OpenSteps};
+use strips_task::Atom;
 
 /// What is kept of an atom that is watched: whether it is true, and which step changed that last, counted from 1.
 #[derive(Clone, Copy, Debug)]
@@ -47,7 +47,7 @@ pub(crate) fn watch_all(
 pub(crate) fn watch_steps(
     alloc: Global,
     judge: &mut Judge<'_>,
-    step: &mut OpenSteps,
+    words: &mut Words,
     walk: &mut PlanSteps<'_>,
     atoms: &[Atom],
     watches: &mut [Watch],
@@ -58,7 +58,7 @@ pub(crate) fn watch_steps(
     ensures passed { IfOk result (λ passed. EndsWatch passed walk.new judge.new atoms.now watches.new) }
 {
     'steps: loop {
-        if let Some(passed) = advance(alloc, judge, step, walk)? {
+        if let Some(passed) = advance(alloc, judge, words, walk)? {
             return Ok(passed);
         }
         note(judge, atoms, watches);

@@ -13,22 +13,22 @@ ghost use Rattle.text_judge.specs.Passes.{unreadable};
 ghost use Rattle.text_judge.specs.Watches.{AreWatched};
 
 use crate::history::{Watch, changes_of, watch_all, watch_steps};
-use crate::pass::{Passed, fault_behind, pass};
+use crate::pass::{Passed, Words, fault_behind, pass};
 use plan_cost::{Assessment, Cost, CostedTask};
 use plan_text::PlanSteps;
 use std::alloc::{AllocError, Global};
 use std::marker::Model;
 use step_memo::Judge;
 use strips_judge::Verdict;
-use strips_task::{Atom, OpenSteps};
+use strips_task::Atom;
 
 /// A judge of the plans of one task, for one thread. Contracts see the task.
 #[derive(Drop)]
 pub struct TextJudge<'t> {
     task: &'t CostedTask,
     judge: Judge<'t>,
-    /// The step that is being read, if it is not known.
-    step: OpenSteps,
+    /// The words of the step that is being read.
+    words: Words,
 }
 
 impl<'t> Model for TextJudge<'t> {
@@ -54,7 +54,7 @@ impl<'t> TextJudge<'t> {
         Ok(TextJudge {
             task,
             judge: Judge::new(alloc, task, judges)?,
-            step: OpenSteps::new(alloc),
+            words: Words::new(alloc),
         })
     }
 
@@ -74,7 +74,7 @@ impl<'t> TextJudge<'t> {
         ensures task { self.new ≡ self.old }
     {
         match PlanSteps::new(text) {
-            Some(mut walk) => assess_steps(alloc, &mut self.judge, &mut self.step, &mut walk),
+            Some(mut walk) => assess_steps(alloc, &mut self.judge, &mut self.words, &mut walk),
             None => Ok(unreadable(1)),
         }
     }
@@ -101,7 +101,7 @@ impl<'t> TextJudge<'t> {
                 follow(
                     alloc,
                     &mut self.judge,
-                    &mut self.step,
+                    &mut self.words,
                     &mut walk,
                     atoms,
                     watches.as_mut_slice(),
@@ -117,7 +117,7 @@ impl<'t> TextJudge<'t> {
 fn follow(
     alloc: Global,
     judge: &mut Judge<'_>,
-    step: &mut OpenSteps,
+    words: &mut Words,
     walk: &mut PlanSteps<'_>,
     atoms: &[Atom],
     watches: &mut [Watch],
@@ -129,7 +129,7 @@ fn follow(
     ensures watched { IfOk result (λ _. (steps : List StepText) → plan_of walk.old.text ≡ Steps steps
         → AreWatched judge.old.task.task (steps_taken (verdict judge.old.task.task (Steps steps)) steps) atoms.now watches.new) }
 {
-    match watch_steps(alloc, judge, step, walk, atoms, watches)? {
+    match watch_steps(alloc, judge, words, walk, atoms, watches)? {
         Passed::All => Ok(()),
         Passed::Unreadable { .. } => Ok(()),
         Passed::Fails { .. } => {
@@ -143,7 +143,7 @@ fn follow(
 fn assess_steps(
     alloc: Global,
     judge: &mut Judge<'_>,
-    step: &mut OpenSteps,
+    words: &mut Words,
     walk: &mut PlanSteps<'_>,
 ) -> Result<Assessment, AllocError>
     requires { HasPassed walk.old [] }
@@ -152,7 +152,7 @@ fn assess_steps(
     ensures task { judge.new.task ≡ judge.old.task }
 {
     judge.begin(alloc)?;
-    match pass(alloc, judge, step, walk)? {
+    match pass(alloc, judge, words, walk)? {
         Passed::All => judge.finish(alloc),
         Passed::Unreadable { line } => Ok(unreadable(line)),
         Passed::Fails { step, why } => match fault_behind(walk) {

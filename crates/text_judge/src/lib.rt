@@ -8,7 +8,10 @@
 //!
 //! A [`TextJudge`] takes each step of a text as it reads it. Most steps of a planner's plans are repeated, spelled the same, so the judge keeps
 //! what it learned of a step under the bytes between its parentheses (`step_memo`). A step that it knows is not read again, only tested and
-//! taken by the numbers of its atoms. Any other step is read word by word, judged and learned.
+//! taken by the numbers of its atoms. Any other step is judged by its names, and learned.
+//!
+//! The names must stand with single spaces between them to be looked up so. A step with other blanks or with comments inside is read word by word, and
+//! looked up by its words, written anew with single spaces.
 //!
 //! If a step fails, the judge still reads the text to its end: the text may be unreadable further on, and then that is the answer.
 //!

@@ -1,6 +1,7 @@
 //! One pass over a text: a walk over its steps, and a judge that takes each.
-ghost use Rattle.std.specs.Prelude.{◌≡◌, ◌≢◌, ◌<◌, ◌≤◌, ◌++◌, ◌∷◌, [], List, None, Option, length, map, false, IsTrue, IfOk, IfNone, IfSome, MatchOption};
-ghost use Rattle.pddl_words.specs.Words.{folded};
+ghost use Rattle.std.specs.Prelude.{◌≡◌, ◌≢◌, ◌<◌, ◌≤◌, ◌++◌, ◌∷◌, [], List, None, Option, length, map, false, true, IsTrue, IfOk, IfNone, IfSome, MatchOption};
+ghost use Rattle.std.specs.List.{list_all};
+ghost use Rattle.pddl_words.specs.Words.{folded, is_name};
 ghost use Rattle.strips_task.specs.declared.plans.Plan.TheVariants.{Steps, Unreadable};
 ghost use Rattle.strips_task.specs.declared.steps.StepText.{StepText};
 ghost use Rattle.strips_task.specs.declared.steps.TheConstants.{MOST_STEPS};
@@ -10,6 +11,7 @@ ghost use Rattle.strips_task.specs.StepView.{step_shown};
 ghost use Rattle.plan_text.specs.PlanReading.{plan_of};
 ghost use Rattle.plan_text.specs.Walks.{HasPassed};
 ghost use Rattle.step_memo.specs.Judging.{HasTaken, Judging};
+ghost use Rattle.step_memo.specs.declared.judge.RowStep.TheVariants.{Faulty, Taken as RowTaken};
 ghost use Rattle.plan_text.specs.WalkFinds.{ComesNext, IsOnward};
 ghost use Rattle.text_judge.specs.declared.pass.Tried.TheVariants.{Taken};
 ghost use Rattle.text_judge.specs.Passes.{AfterTrial, AreTogether, EndsPass, FailsNext, GoOnOrEnd, ended};
@@ -46,11 +48,43 @@ pub(crate) enum Passed {
     },
 }
 
+/// What a pass keeps from one step to the next: room for a step that is read word by word, and whether the last one was.
+#[derive(Drop)]
+pub(crate) struct Words {
+    /// The words of the step as they are in the text, with a space between each two.
+    row: Vec<u8>,
+    /// Its words in lower case.
+    step: OpenSteps,
+    /// Whether the last step that was not known was read word by word.
+    are_read: bool,
+}
+
+impl Words {
+    /// Takes no memory.
+    pub(crate) fn new(alloc: Global) -> Words {
+        Words {
+            row: Vec::new(alloc),
+            step: OpenSteps::new(alloc),
+            are_read: false,
+        }
+    }
+
+    /// Whether the step of a group is read word by word at once: if the last one was, and its key is no row of names.
+    #[inline(always)]
+    fn are_expected(&mut self, group: &Group<'_>) -> bool {
+        if !self.are_read {
+            return false;
+        }
+        self.are_read = !group.are_names();
+        self.are_read
+    }
+}
+
 /// Takes the steps of a text one after the other, up to one that can't be taken, a fault of the text, or its end.
 pub(crate) fn pass(
     alloc: Global,
     judge: &mut Judge<'_>,
-    step: &mut OpenSteps,
+    words: &mut Words,
     walk: &mut PlanSteps<'_>,
 ) -> Result<Passed, AllocError>
     requires { AreTogether walk.old judge.old }
@@ -59,7 +93,7 @@ pub(crate) fn pass(
     ensures passed { IfOk result (λ passed. EndsPass passed walk.new judge.new) }
 {
     'steps: loop {
-        if let Some(passed) = advance(alloc, judge, step, walk)? {
+        if let Some(passed) = advance(alloc, judge, words, walk)? {
             return Ok(passed);
         }
     }
@@ -70,7 +104,7 @@ pub(crate) fn pass(
 pub(crate) fn advance(
     alloc: Global,
     judge: &mut Judge<'_>,
-    step: &mut OpenSteps,
+    words: &mut Words,
     walk: &mut PlanSteps<'_>,
 ) -> Result<Option<Passed>, AllocError>
     requires { AreTogether walk.old judge.old }
@@ -79,13 +113,13 @@ pub(crate) fn advance(
     ensures next { IfOk result (λ passed. (steps : List StepText) → HasPassed walk.old steps → HasTaken judge.old steps → GoOnOrEnd passed walk.new judge.new steps) }
     ensures shorter { IfOk result (λ passed. passed ≡ None → length walk.new.rest < length walk.old.rest) }
 {
-    let is_list = match go_on(alloc, judge, walk)? {
+    let was_tried = match go_on(alloc, judge, words, walk)? {
         Tried::Taken => return Ok(None),
         Tried::Ends(passed) => return Ok(Some(passed)),
         Tried::NotTaken => true,
-        Tried::NoList => false,
+        Tried::NotTried => false,
     };
-    take_next(alloc, judge, step, walk, is_list)
+    take_next(alloc, judge, words, walk, was_tried)
 }
 
 /// What came of trying to take the next step by its bytes.
@@ -97,19 +131,19 @@ enum Tried {
     Ends(Passed),
     /// It was not taken, though it may be applicable.
     NotTaken,
-    /// No list was seen to come next.
-    NoList,
+    /// It was not tried: no row of names was seen to come next.
+    NotTried,
 }
 
-/// Takes the next step by its words, or passes a stamp or a number, or returns how the pass ends here. Taking the step by its bytes was tried before,
-/// if a list was seen to come next.
+/// Takes the next step by its words, or passes a stamp or a number, or returns how the pass ends here. Whether the step was tried by its bytes before
+/// is only of use for speed.
 #[inline(always)]
 fn take_next(
     alloc: Global,
     judge: &mut Judge<'_>,
-    step: &mut OpenSteps,
+    words: &mut Words,
     walk: &mut PlanSteps<'_>,
-    is_list: bool,
+    was_tried: bool,
 ) -> Result<Option<Passed>, AllocError>
     requires { AreTogether walk.old judge.old }
     ensures task { judge.new.task ≡ judge.old.task }
@@ -117,12 +151,16 @@ fn take_next(
     ensures next { IfOk result (λ passed. (steps : List StepText) → HasPassed walk.old steps → HasTaken judge.old steps → GoOnOrEnd passed walk.new judge.new steps) }
     ensures shorter { IfOk result (λ passed. passed ≡ None → length walk.new.rest < length walk.old.rest) }
 {
-    match read_next(walk, is_list) {
+    match read_next(walk, was_tried) {
         Onward::Number => Ok(None),
         Onward::Found(TextStep::End) => Ok(Some(Passed::All)),
         Onward::Found(TextStep::Unreadable { line }) => Ok(Some(Passed::Unreadable { line })),
-        Onward::Found(TextStep::Step { words, .. }) => match take_words(
-            alloc, judge, step, words,
+        Onward::Found(TextStep::Step { words: found, key }) => match take_found(
+            alloc,
+            judge,
+            words,
+            found,
+            key.is_none(),
         )? {
             None => Ok(None),
             Some(why) => Ok(Some(Passed::Fails {
@@ -133,12 +171,12 @@ fn take_next(
     }
 }
 
-/// Reads the next step, or a stamp or a number before it, in the way that is faster if a list was seen to come next, or if not.
+/// Reads the next step, or a stamp or a number before it, in the way that is faster if the step was tried by its bytes, or if not.
 #[inline(always)]
-fn read_next<'a>(walk: &mut PlanSteps<'a>, is_list: bool) -> Onward<'a>
+fn read_next<'a>(walk: &mut PlanSteps<'a>, was_tried: bool) -> Onward<'a>
     ensures { IsOnward result walk.old walk.new }
 {
-    if is_list {
+    if was_tried {
         return Onward::Found(walk.next_step());
     }
     walk.read_on()
@@ -151,6 +189,7 @@ fn read_next<'a>(walk: &mut PlanSteps<'a>, is_list: bool) -> Onward<'a>
 fn go_on(
     alloc: Global,
     judge: &mut Judge<'_>,
+    words: &mut Words,
     walk: &mut PlanSteps<'_>,
 ) -> Result<Tried, AllocError>
     requires { AreTogether walk.old judge.old }
@@ -162,16 +201,15 @@ fn go_on(
     ensures stays { IfOk result (λ tried. ended tried ≡ None → tried ≢ Taken → walk.new ≡ walk.old) }
 {
     let Some(group) = walk.next_group() else {
-        return Ok(Tried::NoList);
+        return Ok(Tried::NotTried);
     };
     if group.key.len() > LONGEST_ROW {
         return Ok(Tried::NotTaken);
     }
-    if judge.take_known(group.key) {
-        walk.skip(group);
-        return Ok(Tried::Taken);
+    if words.are_expected(&group) {
+        return Ok(Tried::NotTried);
     }
-    match judge.take_row(alloc, group.key)? {
+    match take_spelled(alloc, judge, group.key)? {
         RowStep::Taken => {
             walk.skip(group);
             Ok(Tried::Taken)
@@ -200,6 +238,53 @@ fn fail_at<'a>(walk: &mut PlanSteps<'a>, group: Group<'a>, why: Why) -> Tried
         step: walk.count() as u32,
         why,
     })
+}
+
+/// Takes the step that a row spells, if it is known, or if its names are and it is applicable. Otherwise no atom is changed.
+#[inline(always)]
+fn take_spelled(alloc: Global, judge: &mut Judge<'_>, row: &[u8]) -> Result<RowStep, AllocError>
+    requires { judge.old.count < MOST_STEPS }
+    ensures task { judge.new.task ≡ judge.old.task }
+    ensures spelled { IfOk result (λ came. came ≡ RowTaken → IsSpelled row.now) }
+    ensures taken { IfOk result (λ came. came ≡ RowTaken → (steps : List StepText) → HasTaken judge.old steps
+        → HasTaken judge.new (steps ++ step_spelled row.now ∷ [])) }
+    ensures faulty { IfOk result (λ came. (why : Why) → came ≡ Faulty why → IsSpelled row.now → (steps : List StepText) → HasTaken judge.old steps
+        → FailsNext judge.old.task steps (step_spelled row.now) why) }
+    ensures not { IfOk result (λ came. came ≢ RowTaken → (steps : List StepText) → HasTaken judge.old steps → HasTaken judge.new steps) }
+    ensures count { IfOk result (λ came. came ≢ RowTaken → judge.new.count ≡ judge.old.count) }
+{
+    if judge.take_known(row) {
+        return Ok(RowStep::Taken);
+    }
+    judge.take_row(alloc, row)
+}
+
+/// Takes a step of these words, or returns why it is not applicable. A step that was read word by word (`are_read`) is first looked up by its words with
+/// single spaces between them.
+fn take_found(
+    alloc: Global,
+    judge: &mut Judge<'_>,
+    words: &mut Words,
+    found: StepWords<'_>,
+    are_read: bool,
+) -> Result<Option<Why>, AllocError>
+    requires some { 0 < length found }
+    requires names { list_all is_name found ≡ true }
+    requires room { judge.old.count < MOST_STEPS }
+    ensures task { judge.new.task ≡ judge.old.task }
+    ensures taken { IfOk result (λ why. IfNone why ((steps : List StepText) → HasTaken judge.old steps → HasTaken judge.new (steps ++ step_of (map folded found.entry) ∷ []))) }
+    ensures fails { IfOk result (λ why. IfSome why (λ why. (steps : List StepText) → HasTaken judge.old steps
+        → FailsNext judge.old.task steps (step_of (map folded found.entry)) why)) }
+{
+    words.are_read = are_read;
+    if are_read && found.write_row(LONGEST_ROW, &mut words.row)? {
+        match take_spelled(alloc, judge, words.row.as_slice())? {
+            RowStep::Taken => return Ok(None),
+            RowStep::Faulty(why) => return Ok(Some(why)),
+            RowStep::NotTaken => {}
+        }
+    }
+    take_words(alloc, judge, &mut words.step, found)
 }
 
 /// Takes a step of these words, or returns why it is not applicable.

@@ -1,0 +1,5 @@
+(define (problem doors-1)
+  (:domain doors)
+  (:objects front back - door brass - key)
+  (:init (shut front) (shut back))
+  (:goal (open front)))
