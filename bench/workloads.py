@@ -3,6 +3,8 @@
 Each workload is a function that yields (name of a file, its text) pairs: a domain, a problem and one file a planner. All randomness
 comes from one seeded generator, so the same scale gives the same bytes on every machine.
 """
+import collections
+import itertools
 import random
 
 WALK = """(define (domain walk)
@@ -60,6 +62,27 @@ def as_a_log(steps):
         lines.append("%d.%03d: (%s) [1]  ; cost 1\n" % (number // 1000, number % 1000, step.upper()))
     lines[-1:] = [lines[-1], "; cost = %d (unit cost)\n" % len(steps)]
     return "".join(lines)
+
+
+def each_its_own(spelled):
+    """Spells the uses of each step by their numbers, so that hardly two of them have the same text."""
+    def written(steps):
+        uses, lines = collections.Counter(), []
+        for step in steps:
+            lines.append("(%s)\n" % spelled(step, uses[step]))
+            uses[step] += 1
+        return "".join(lines)
+    return written
+
+
+def in_other_letters(step, use):
+    """Upper case for some letters: for those whose bits are set in the number of the use."""
+    letters = itertools.count()
+    return "".join(c.upper() if c.isalpha() and use >> next(letters) & 1 else c for c in step)
+
+
+def with_other_blanks(step, use):
+    return " " * (use % 8) + step.replace(" ", " " * (use // 8 % 8 + 1), 1) + " " * (use // 64 % 64)
 
 
 def grid(side):
@@ -152,6 +175,8 @@ WORKLOADS = [
     ("costs", "many, where each action has a cost", on_a_grid(8, 5, 2000, 100, plain, COSTLY)),
     ("long", "one plan of 600,000 steps on a small grid", on_a_grid(8, 1, 1, 600000, plain)),
     ("log", "one plan of 350,000 steps with stamps, costs and comments", on_a_grid(8, 1, 1, 350000, as_a_log)),
+    ("letters", "one plan of 300,000 steps, with other letters in upper case in each", on_a_grid(8, 1, 1, 300000, each_its_own(in_other_letters))),
+    ("blanks", "one plan of 300,000 steps, with other blanks in each", on_a_grid(8, 1, 1, 300000, each_its_own(with_other_blanks))),
     ("wide", "one plan of 600,000 steps where 190,000 atoms are true", on_a_grid(190, 1, 1, 600000, plain)),
     ("wide-many", "10,000 plans of 50 steps where 190,000 atoms are true", on_a_grid(190, 5, 2000, 50, plain)),
     ("types", "500,000 steps over types 1,000 deep", deep_types),

@@ -151,7 +151,6 @@ impl<'a> Cursor<'a> {
 fn skip_blanks(text: &[u8], mut at: usize) -> usize
     requires { at ≤ length text.now }
     ensures same { pieces_at text.now result ≡ pieces_at text.now at }
-    ensures behind { at ≤ result }
     ensures within { result ≤ length text.now }
 {
     'blanks: while at < text.len() {
@@ -188,8 +187,8 @@ fn first_from(text: &[u8], mut at: usize) -> Front
             return Front::End;
         }
         match class_of(text[at]) {
-            ByteClass::LineEnd => at = skip_blanks(text, at + 1),
-            ByteClass::Blank => at = skip_blanks(text, at + 1),
+            ByteClass::LineEnd => at += 1,
+            ByteClass::Blank => at += 1,
             ByteClass::Semicolon => at += comment_len(text, at),
             ByteClass::Left => {
                 return Front::Token {

@@ -8,12 +8,12 @@ returns-then-at-text c = sym c.skipping.invariant.0 ∙ end_step _ _ (omega arit
 pub skipping-preserved-in-LineEnd : goal.skipping-preserved-in-LineEnd
 skipping-preserved-in-LineEnd c =
     let lt : c.skipping.at < length c.args.text.now = omega arith in
-    (c.skip_blanks-at.ensures.same ∙ sym (line_end_step _ _ lt (sym c.in-LineEnd.ensures)) ∙ c.skipping.invariant.0, c.skip_blanks-at.ensures.within)
+    (sym (line_end_step _ _ lt (sym c.in-LineEnd.ensures)) ∙ c.skipping.invariant.0, omega arith)
 
 pub skipping-preserved-in-Blank : goal.skipping-preserved-in-Blank
 skipping-preserved-in-Blank c =
     let lt : c.skipping.at < length c.args.text.now = omega arith in
-    (c.skip_blanks-at-in-Blank.ensures.same ∙ sym (blank_step _ _ lt (sym c.in-Blank.ensures)) ∙ c.skipping.invariant.0, c.skip_blanks-at-in-Blank.ensures.within)
+    (sym (blank_step _ _ lt (sym c.in-Blank.ensures)) ∙ c.skipping.invariant.0, omega arith)
 
 pub skipping-preserved : goal.skipping-preserved
 skipping-preserved c =

@@ -6,7 +6,6 @@ use Rattle.pddl_tokens.proofs.scan.skip_blanks.Given as goal
 abbrev pub invariant-blanks : goal.invariant-blanks
 invariant-blanks l = record {
   same : pieces_at l.text l.at ≡ pieces_at l.fn.text l.fn.at;
-  behind : l.fn.at ≤ l.at;
   within : l.at ≤ length l.text;
 }
 
