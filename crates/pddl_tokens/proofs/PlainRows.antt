@@ -30,7 +30,7 @@ behind_front : (front rest : List ℕ) → drop (length front) (front ++ rest) �
 behind_front [] rest = refl
 behind_front (b ∷ front) rest = behind_front front rest
 
-class_by : (class : ByteClass) → is_word_class class ≡ true → class ≡ c.WordByte
+pub class_by : (class : ByteClass) → is_word_class class ≡ true → class ≡ c.WordByte
 class_by c.WordByte is = refl
 class_by c.LineEnd is = absurd cc
 class_by c.Blank is = absurd cc

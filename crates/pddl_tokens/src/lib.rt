@@ -22,5 +22,5 @@ mod spans;
 
 pub use lines::line_of;
 pub use pddl_words::{WordKind, same_folded, word_kind};
-pub use scan::{Cursor, Group};
+pub use scan::{Cursor, Group, NextWord};
 pub use spans::{BadByte, Span, Token, TokenKind, TooLong};

@@ -1,6 +1,6 @@
 //! The cursor over the tokens of a text.
 
-ghost use Rattle.std.specs.Prelude.{◌≡◌, ◌+◌, ◌<◌, ◌≤◌, ◌^◌, ◌++◌, [], length, drop, IfOk, IfErr, IfSome, IsTrue};
+ghost use Rattle.std.specs.Prelude.{◌≡◌, ◌+◌, ◌<◌, ◌≤◌, ◌^◌, ◌∷◌, ◌++◌, [], length, drop, IfOk, IfErr, IfSome, IsTrue};
 ghost use Rattle.std.specs.List.{prefix_len};
 ghost use Rattle.pddl_tokens.specs.Bytes.{is_word_byte};
 ghost use Rattle.pddl_tokens.specs.Cut.{is_comment_byte};
@@ -108,14 +108,46 @@ impl<'a> Group<'a> {
     }
 }
 
+/// A word, and a cursor after it.
+#[derive(Debug, Drop)]
+pub struct NextWord<'a> {
+    /// Its bytes.
+    pub text: &'a [u8],
+    /// A cursor after its last byte.
+    pub rest: Cursor<'a>,
+}
+
 impl<'a> Cursor<'a> {
     ghost use Rattle.pddl_tokens.specs.Groups.{IsPlain, group_pieces};
+    ghost use Rattle.pddl_tokens.specs.Tokens.{token};
+    ghost use Rattle.pddl_tokens.specs.declared.spans.Span.{Span};
+    ghost use Rattle.pddl_tokens.specs.declared.spans.TokenKind.TheVariants.{Word};
 
     /// Whether only blanks follow. If not, no token may follow all the same: comments are not looked into.
     pub fn is_over(&self) -> bool
         ensures { IsTrue result → self.now ≡ [] }
     {
         skip_blanks(self.text, self.at) == self.text.len()
+    }
+
+    /// The next token, if it is a word and only blanks are before it. `None` says nothing about what follows.
+    #[inline(always)]
+    pub fn word(&self) -> Option<NextWord<'a>>
+        ensures { IfSome result (λ word. (span : Span) × (self.now ≡ token Word span word.text.now ∷ word.rest)) }
+    {
+        let text = self.text;
+        let start = skip_blanks(text, self.at);
+        if start == text.len() {
+            return None;
+        }
+        if !is_word_byte(text[start]) {
+            return None;
+        }
+        let end = start + word_len(text, start);
+        Some(NextWord {
+            text: &text[start..end],
+            rest: Cursor { text, at: end },
+        })
     }
 
     /// The bytes up to the next `)`, if a `(` follows.

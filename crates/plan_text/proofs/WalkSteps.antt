@@ -23,7 +23,7 @@ use Rattle.plan_text.specs.PlanGrammar.{left, right, word, symbol_of}
 use Rattle.strips_task.specs.declared.plans.Plan.TheVariants.{Steps}
 use Rattle.plan_text.specs.PlanReading.{plan_from, plan_of, read_on, at_end, unreadable}
 use Rattle.plan_text.specs.PlanSteps.{IsReady, ReadsBetween}
-use Rattle.plan_text.specs.Walks.{Walk, RestsAt, HasPassed, GoesBehind, reading_behind, words_before}
+use Rattle.plan_text.specs.Walks.{Walk, RestsAt, HasPassed, GoesBehind, GoesOn, reading_behind, words_before}
 use Rattle.plan_text.specs.WalkFinds.{IsNumberRead, IsOpened, IsStuck, IsOpening, IsClosed, IsBroken, IsInside, ended, reading_inside}
 use Rattle.plan_text.specs.Wants.{takes_name}
 use Rattle.plan_text.proofs.Runs.{read_name}
@@ -287,3 +287,15 @@ number_read text now next count old rest kind span bytes first within rests read
       ap (plan_from text (reading_behind now.want now.least_stamp steps)) first
       ∙ plan_goes_on text (reading_behind now.want now.least_stamp steps) kind span bytes rest _ (reads (plan_with steps) counted (rests_ready now.want count steps rests counted)).0;
 }
+
+-- a walk at these pieces goes on behind a stamp or a number
+pub goes_on_behind : (old : Walk) (text : List ℕ) (now next : Expected) (count : ℕ) (pieces rest : List Piece) → record { text = text; rest = pieces; want = now.want; least = now.least_stamp; count = count } ≡ old → IsNumberRead text now count next pieces rest → GoesOn old (record { text = text; rest = rest; want = next.want; least = next.least_stamp; count = count }) × (length rest < length old.rest)
+goes_on_behind old text now next count pieces rest is read =
+    let behind : Walk = record { text = text; rest = rest; want = next.want; least = next.least_stamp; count = count } in
+    subst (λ (walk : Walk). GoesOn walk behind × (length rest < length walk.rest)) is (
+      record {
+        text = refl;
+        passed = λ steps passed. record { counted = passed.counted; few = passed.few; rests = read.rests; same = sym (read.same steps passed.counted) ∙ passed.same };
+      },
+      read.shorter,
+    )

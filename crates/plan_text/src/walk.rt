@@ -12,12 +12,12 @@ ghost use Rattle.strips_task.specs.declared.plans.Plan.TheVariants.{Unreadable};
 ghost use Rattle.strips_task.specs.Spelled.{IsSpelled, step_spelled};
 ghost use Rattle.strips_task.specs.Steps.{step_of};
 ghost use Rattle.plan_text.specs.PlanReading.{plan_of};
-ghost use Rattle.plan_text.specs.Walks.{HasPassed, GoesBehind, RestsAt, row_size, words_before};
+ghost use Rattle.plan_text.specs.Walks.{HasPassed, GoesBehind, GoesOn, RestsAt, row_size, words_before};
 ghost use Rattle.plan_text.specs.declared.walk.TextStep.TheVariants.{End};
 ghost use Rattle.plan_text.specs.WalkFinds.{ComesNext, IsBetweenSteps, IsFound, IsOnward, IsOpened, IsOpening, IsInside, IsEnding, ended};
 ghost use Rattle.strips_task.specs.declared.steps.TheConstants.{MOST_STEPS};
 
-use crate::between::read_between;
+use crate::between::{read_between, read_number};
 use crate::want::{Expected, Want};
 use pddl_tokens::{Cursor, Group, TokenKind, WordKind, line_of, word_kind};
 use std::alloc::AllocError;
@@ -290,7 +290,19 @@ impl<'a> PlanSteps<'a> {
 
     /// Reads on token by token to the end of the stamp or the number that comes next. If none does, reads to the end of the next step, as
     /// [`next_step`](PlanSteps::next_step) does.
+    #[inline(always)]
     pub fn read_on(&mut self) -> Onward<'a>
+        ensures { IsOnward result self.old self.new }
+    {
+        if self.pass_number() {
+            return Onward::Number;
+        }
+        self.read_tokens()
+    }
+
+    /// Reads on token by token, as [`read_on`](PlanSteps::read_on) does.
+    #[inline(never)]
+    fn read_tokens(&mut self) -> Onward<'a>
         ensures { IsOnward result self.old self.new }
     {
         if self.is_over() {
@@ -305,6 +317,26 @@ impl<'a> PlanSteps<'a> {
             }
             Between::Over { opening } => Onward::Found(self.find(cursor, opening)),
         }
+    }
+
+    /// Passes the stamp or the number that comes next, if only blanks are before it. Returns whether it did; if not, one may come all the same.
+    #[inline(always)]
+    fn pass_number(&mut self) -> bool
+        ensures passed { IsTrue result → GoesOn self.old self.new × (length self.new.rest < length self.old.rest) }
+        ensures stays { result ≡ false → self.new ≡ self.old }
+    {
+        let Some(word) = self.cursor.word() else {
+            return false;
+        };
+        let Some(next) = read_number(self.count, self.expected, word.text) else {
+            return false;
+        };
+        if next.want.takes_name() {
+            return false;
+        }
+        self.cursor = word.rest;
+        self.expected = next;
+        true
     }
 
     /// Whether the text may end here, and only blanks follow.
