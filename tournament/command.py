@@ -10,6 +10,7 @@ from . import packages
 from .entries import Wrong, from_folder, from_manifest, references
 from .exact import rounded
 from .judging import Judge, Program, judge_all
+from .last import Last
 from .names import shown
 from .scores import Tournament
 from .store import Store, write
@@ -33,6 +34,17 @@ class Words(argparse.ArgumentParser):
         sys.exit(2)
 
 
+class Once(argparse.Action):
+    """An option that may be given once only."""
+    is_given = False
+
+    def __call__(self, parser, given, value, spelling=None):
+        if self.is_given and spelling:
+            parser.error(spelling + " is given twice")
+        self.is_given = True
+        setattr(given, self.dest, True if self.nargs == 0 else value)
+
+
 def number_of_jobs(text):
     """A number of processes."""
     number = int(text)
@@ -50,6 +62,7 @@ def words_of(argv, text):
         print(text, end="")
         sys.exit(0)
     parser = Words(add_help=False, allow_abbrev=False)
+    parser.register("action", None, Once)
     parser.add_argument("folder", nargs="?")
     parser.add_argument("--manifest")
     parser.add_argument("--out")
@@ -58,7 +71,7 @@ def words_of(argv, text):
     parser.add_argument("--reference")
     parser.add_argument("--compare", nargs=2, action="append", default=[])
     parser.add_argument("--title", default="Standings")
-    parser.add_argument("--no-site", action="store_true")
+    parser.add_argument("--no-site", action=Once, nargs=0, default=False)
     given = parser.parse_args(argv)
     if (given.folder is None) == (given.manifest is None):
         parser.error("it takes either FOLDER or --manifest FILE.tsv")
@@ -103,7 +116,7 @@ def progress(text, count, unit="problem"):
 
 def judged(entries, given):
     """What plan_judge finds of the entries."""
-    judge = Judge(Program(given.dialect), Store(os.path.join(given.out, "reports")))
+    judge = Judge(Program(given.dialect), Store(os.path.join(given.out, "reports")), explains=not given.no_site)
     done = []
     try:
         with progress("judging", len(entries)) as tick:
@@ -120,17 +133,30 @@ def notes(tournament, known):
         place = "%s %s" % (shown(found.entry.domain), shown(found.entry.problem))
         if found.refused:
             lines.append("%s is refused: %s" % (place, shown(found.refused)))
+        if found.unscored:
+            lines.append("%s is not scored: %s" % (place, found.unscored))
+        if found.unexplained:
+            lines.append("%s cannot be explained: %s" % (place, found.unexplained))
         lines += ["%s, %s: %s" % (place, shown(it.planner), it.unread) for it in found.plans if it.unread]
-    for planner in tournament.planners:
-        if not tournament.total(planner).plans:
-            other = next((it.entry.others[planner] for it in tournament.found if planner in it.entry.others), None)
-            hint = "; files such as %s are passed over, since plans are called sas_plan* or plan.NUMBER" % shown(other) if other else ""
-            lines.append("%s has no plan at all%s" % (shown(planner), hint))
+    lines += [it for planner in tournament.planners for it in planners_notes(tournament, planner)]
     problems = {(shown(it.entry.domain), shown(it.entry.problem)) for it in tournament.found}
     strange = [it for it in known if it not in problems]
     if strange:
         lines.append("%d of %d references are for problems that are not here, as %s" % (len(strange), len(known), " ".join(strange[0])))
     return lines
+
+
+def planners_notes(tournament, planner):
+    """What the organiser should know of a planner: what is passed over, in one line however much that is, and whether it has no plan."""
+    passed = [it for found in tournament.found for it in found.entry.passed.get(planner, [])]
+    if passed:
+        (path, why), count = passed[0], len(passed)
+        front = "%s is passed over" % shown(path) if count == 1 else "%d files or folders are passed over, first %s" % (count, shown(path))
+        yield "%s: %s: %s" % (shown(planner), front, why)
+    if not tournament.total(planner).plans:
+        other = next((it.entry.others[planner] for it in tournament.found if planner in it.entry.others), None)
+        hint = "; files such as %s do not look like plans" % shown(other) if other else ""
+        yield "%s has no plan at all%s" % (shown(planner), hint)
 
 
 def standings_text(tournament):
@@ -152,19 +178,32 @@ def run(given):
         raise Wrong("no problem has a folder of a planner")
     check_pairs(given.compare, planners)
     with site_folder(given.out):
-        tournament = Tournament(judged(entries, given), known, given.dialect)
-        results = {"results.tsv": as_tsv(tournament).encode(), "results.json": as_json(tournament).encode()}
-        if given.no_site:
-            for name, data in results.items():
-                write(os.path.join(given.out, name), data)
-        else:
-            from .site import write_site
-            write_site(tournament, given, results, progress)
-    for line in notes(tournament, known):
+        found = judged(entries, given)
+        last, sound = Last(given, found, known), all(it.kept for it in found)
+        said = last.record["said"] if sound and last.unchanged() else write_all(found, known, given, last)
+    for line in said["notes"]:
         tell(line)
-    sys.stdout.write(standings_text(tournament))
+    sys.stdout.write(said["standings"])
     print(os.path.join(given.out, "results.tsv" if given.no_site else "index.html"))
-    return 0 if all(it.kept for it in tournament.found) else 1
+    return 0 if sound else 1
+
+
+def write_all(found, known, given, last):
+    """Writes the results and, unless only these are wanted, the site. Returns what there is to say."""
+    tournament = Tournament(found, known, given.dialect)
+    results = {"results.tsv": as_tsv(tournament).encode(), "results.json": as_json(tournament).encode()}
+    problems = {}
+    if given.no_site:
+        last.forget()
+        for name, data in results.items():
+            write(os.path.join(given.out, name), data)
+    else:
+        from .site import write_site
+        problems = write_site(tournament, given, results, last, progress)
+    said = {"notes": notes(tournament, known), "standings": standings_text(tournament)}
+    if all(it.kept for it in found):
+        last.keep(said, problems)
+    return said
 
 
 def check_pairs(pairs, planners):

@@ -5,8 +5,14 @@ import re
 
 from .exact import read_cost
 from .names import last_number, numeric_order, shown
+from .plans import UNPACK, is_compressed
 
-PLAN_NAME = re.compile(r"sas_plan.*|plan([._-]?[0-9]+)?", re.DOTALL)
+PLAN_NAME = re.compile(r"sas_plan.*|plan([._-]?[0-9]+)?|plan\.(ipc|txt)|.+\.(plan|soln|SOL)", re.DOTALL)
+LIKE_A_PLAN = re.compile(r"plan|soln|solution|(?<![a-z])sol(?![a-z])", re.IGNORECASE)
+LOG_NAME = re.compile(r".*\.(log|err)", re.DOTALL | re.IGNORECASE)
+PLAN, OTHER = "plan", "other"
+OTHER_NAME = "it is not named as plans are"
+FOLDER = "it is a folder, and plans are taken only from the planner's own folder"
 MANIFEST = ["domain", "problem", "planner", "domain_file", "problem_file", "plan_file"]
 REFERENCE = ["domain", "problem", "cost"]
 
@@ -19,13 +25,15 @@ class Wrong(Exception):
 class Entry:
     """A problem with the plan files of each planner, in their order. A planner without a file has no plan.
 
-    OTHERS has a file that is no plan by its name, for each planner that left some.
+    PASSED has, for each planner that left some, what is passed over and may be a plan all the same: pairs of a path and the reason. OTHERS has
+    one file of each planner that left files which do not look like plans.
     """
     domain: str
     problem: str
     domain_file: str
     problem_file: str
     plans: dict = dataclasses.field(default_factory=dict)
+    passed: dict = dataclasses.field(default_factory=dict)
     others: dict = dataclasses.field(default_factory=dict)
 
 
@@ -36,11 +44,29 @@ def folders(path):
     return sorted(names, key=numeric_order)
 
 
-def sorted_files(path):
-    """The plan files in a planner's folder, and its other files, in numeric order."""
-    names = sorted((it for it in os.listdir(path) if not os.path.isdir(os.path.join(path, it))), key=numeric_order)
-    plans = [it for it in names if PLAN_NAME.fullmatch(it)]
-    return [os.path.join(path, it) for it in plans], [os.path.join(path, it) for it in names if it not in plans]
+def kind_of(item):
+    """What a file or folder in a planner's folder is: PLAN, OTHER, or the reason why it is passed over although it may be a plan."""
+    if item.is_dir():
+        return OTHER if item.name.startswith(".") else FOLDER
+    packed = is_compressed(item.name)
+    name = os.path.splitext(item.name)[0] if packed else item.name
+    looks_like_one = LIKE_A_PLAN.search(name) and not LOG_NAME.fullmatch(name)
+    if packed:
+        return "it is " + UNPACK if looks_like_one else OTHER
+    if PLAN_NAME.fullmatch(item.name):
+        return PLAN
+    return OTHER_NAME if looks_like_one else OTHER
+
+
+def add_planner(entry, planner, path):
+    """Sorts what is in a planner's folder into an entry, in numeric order."""
+    with os.scandir(path) as found:
+        items = sorted(((it.name, it.path, kind_of(it)) for it in found), key=lambda it: numeric_order(it[0]))
+    entry.plans[planner] = [path for _, path, kind in items if kind == PLAN]
+    passed = [(path, kind) for _, path, kind in items if kind not in (PLAN, OTHER)]
+    others = [path for _, path, kind in items if kind == OTHER and not os.path.isdir(path)]
+    entry.passed.update({planner: passed} if passed else {})
+    entry.others.update({planner: it for it in others[:1]})
 
 
 def from_folder(top):
@@ -66,8 +92,7 @@ def entry_of(top, domain, problem):
     chosen = common if os.path.exists(common) and not os.path.lexists(own) else own
     entry = Entry(domain, problem, chosen, os.path.join(here, "problem.pddl"))
     for planner in folders(here):
-        entry.plans[planner], others = sorted_files(os.path.join(here, planner))
-        entry.others.update({planner: it for it in others[:1]})
+        add_planner(entry, planner, os.path.join(here, planner))
     return entry
 
 

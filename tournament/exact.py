@@ -1,4 +1,5 @@
 """Costs and scores, which are counted in fractions and rounded only where they are printed."""
+import functools
 import re
 from fractions import Fraction
 
@@ -10,6 +11,7 @@ def read_cost(text):
     return Fraction(text) if COST.fullmatch(text) else None
 
 
+@functools.lru_cache(65536)
 def cost_text(value):
     """A cost as a decimal number without zeros at its end, exactly, or - if there is none."""
     if value is None:
@@ -20,6 +22,7 @@ def cost_text(value):
     return rounded(value, digits)
 
 
+@functools.lru_cache(65536)
 def rounded(value, digits):
     """A number from 0 on with so many digits after its point; halves are rounded up."""
     units = (2 * value.numerator * 10 ** digits + value.denominator) // (2 * value.denominator)

@@ -1,4 +1,5 @@
 """Names of domains, problems and planners, as they are shown, sorted, and used for files."""
+import functools
 import hashlib
 import re
 
@@ -7,12 +8,14 @@ UNSAFE = re.compile(rb"[^A-Za-z0-9._-]|^[.-]")
 LONGEST = 150  # of a name of a file; the systems at hand take 255 bytes
 
 
+@functools.lru_cache(65536)
 def shown(name):
     """The name as text: control characters and bytes that are no UTF-8 become \\xNN, and a backslash is doubled."""
     text = name.replace("\\", "\\\\").encode("utf-8", "surrogateescape").decode("utf-8", "backslashreplace")
     return "".join(it if it.isprintable() else it.encode("unicode_escape").decode() for it in text)
 
 
+@functools.lru_cache(65536)
 def file_name(name):
     """A name for files and links, of letters, digits and . _ - ~ alone. Different names have different ones."""
     data = name.encode("utf-8", "surrogateescape")

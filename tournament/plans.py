@@ -11,6 +11,8 @@ MOST_PLANS = 65536  # of a call of plan_judge
 MOST_PLANNERS = 64  # of a call of plan_judge
 SEPARATOR = re.compile(rb"^---[ \t\r]*(?:\n|\Z)", re.MULTILINE)
 OWN_COST = re.compile(rb"^[ \t]*;[ \t]*cost[ \t]*[=:][ \t]*([0-9]{1,18}(?:\.[0-9]{1,18})?)(?![0-9.e])", re.MULTILINE | re.IGNORECASE)
+COMPRESSED = (".xz", ".gz", ".bz2", ".zip", ".zst")
+UNPACK = "compressed: unpack it first"
 
 
 class Unread(Exception):
@@ -55,14 +57,26 @@ class Bundle:
         return b"---\n".join(closed + self.texts[-1:])
 
 
+def is_compressed(name):
+    """Whether a file is compressed, by its name."""
+    return name.lower().endswith(COMPRESSED)
+
+
 def read_file(path, name):
     """The bytes of a file that plan_judge can take."""
+    if is_compressed(path):
+        raise Unread("%s is %s" % (name, UNPACK))
     try:
-        kind = os.stat(path)
-        if not stat.S_ISREG(kind.st_mode):
-            raise Unread("%s is no file" % name)
-        with open(path, "rb") as file:
-            text = file.read(MOST_BYTES + 1)
+        descriptor = os.open(path, os.O_RDONLY | os.O_NONBLOCK | os.O_CLOEXEC)  # so that a pipe does not block
+        try:
+            about = os.fstat(descriptor)
+            if not stat.S_ISREG(about.st_mode):
+                raise Unread("%s is no file" % name)
+            text = os.read(descriptor, min(about.st_size, MOST_BYTES) + 1)
+            while len(text) <= MOST_BYTES and (more := os.read(descriptor, MOST_BYTES)):
+                text += more
+        finally:
+            os.close(descriptor)
     except OSError as error:
         raise Unread("cannot read %s: %s" % (name, error.strerror)) from error
     if len(text) > MOST_BYTES:
@@ -82,21 +96,42 @@ def labels(paths):
     return [shown(it) for it in (names if len(set(names)) == len(names) else paths)]
 
 
-def planners_plans(planner, paths):
-    """A planner's plans with their bundles. A file with separators holds several plans."""
-    plans, bundles = [], []
-    for path, name in zip(paths, labels(paths)):
-        try:
-            texts = SEPARATOR.split(read_file(path, name))
-        except Unread as unread:
-            plans.append(Plan(planner, name, unread=str(unread)))
+@dataclasses.dataclass
+class PlanFile:
+    """A file of a planner, with its bytes, or why it cannot be judged."""
+    planner: str
+    name: str
+    text: bytes = b""
+    unread: str = ""
+
+
+def plan_files(plans):
+    """The files of all planners, read; plans has the paths of each."""
+    files = []
+    for planner, paths in plans.items():
+        for path, name in zip(paths, labels(paths)):
+            try:
+                files.append(PlanFile(planner, name, read_file(path, name)))
+            except Unread as unread:
+                files.append(PlanFile(planner, name, unread=str(unread)))
+    return files
+
+
+def bundled(files):
+    """The plans of files with their bundles. A file with separators holds several plans."""
+    plans, bundles = [], {}
+    for file in files:
+        if file.unread:
+            plans.append(Plan(file.planner, file.name, unread=file.unread))
             continue
+        own = bundles.setdefault(file.planner, [])
+        texts = SEPARATOR.split(file.text) if b"---" in file.text else [file.text]
         for part, text in enumerate(texts, 1):
-            if not bundles or not bundles[-1].has_room(text):
-                bundles.append(Bundle(file_name(planner) + ("+%d" % (len(bundles) + 1) if bundles else "")))
-            number = bundles[-1].add(text)
-            plans.append(Plan(planner, name, part if len(texts) > 1 else 0, own_cost(text), bundles[-1].name, number))
-    return plans, bundles
+            if not own or not own[-1].has_room(text):
+                own.append(Bundle(file_name(file.planner) + ("+%d" % (len(own) + 1) if own else "")))
+            number = own[-1].add(text)
+            plans.append(Plan(file.planner, file.name, part if len(texts) > 1 else 0, own_cost(text), own[-1].name, number))
+    return plans, [it for own in bundles.values() for it in own]
 
 
 def batches(bundles):

@@ -4,8 +4,10 @@ import dataclasses
 import functools
 from fractions import Fraction
 
-from .exact import satisficing
+from .exact import read_cost, satisficing
 from .names import numeric_order, shown
+
+NOT_SCORED = "not scored: "  # begins the status of a result on a problem whose metric is another one
 
 
 @dataclasses.dataclass
@@ -24,13 +26,20 @@ class Result:
     score: Fraction = Fraction(0)
     counts_costs: bool = False
     best: object = None  # the plan that counts
+    best_plan_steps: int = None  # how many steps it has
+    other_costs: int = 0  # valid plans that cost something else than the planner says
     best_line: int = 0  # the line of its verdict in the report
     summary_line: int = 0  # the line of the report with the numbers of plans
 
     @property
     def solved(self):
-        """Whether the planner has a valid plan."""
+        """Whether the planner has a valid plan, on a problem that is scored."""
         return self.status == "solved"
+
+    @property
+    def scored(self):
+        """Whether there is a score. A refused problem has the score 0."""
+        return not self.status.startswith(NOT_SCORED)
 
     @property
     def failed(self):
@@ -46,8 +55,11 @@ class Result:
 def results_of(found, planners, references):
     """The results of all planners on one problem."""
     entry = found.entry
-    results = [result_of(found, planner) for planner in planners]
-    if found.report is not None:
+    plans = collections.defaultdict(list)
+    for plan in found.plans:
+        plans[plan.planner].append(plan)
+    results = [result_of(found, planner, plans[planner]) for planner in planners]
+    if found.report is not None and not found.unscored:
         costs = [it.value for it in results if it.value is not None]
         given = references.get((shown(entry.domain), shown(entry.problem)))
         reference = min(costs + ([given] if given is not None else []), default=None)
@@ -57,10 +69,9 @@ def results_of(found, planners, references):
     return results
 
 
-def result_of(found, planner):
-    """The result of one planner on one problem, without its score."""
+def result_of(found, planner, plans):
+    """The result of one planner with these plans on one problem, without its score."""
     entry = found.entry
-    plans = [it for it in found.plans if it.planner == planner]
     result = Result(entry.domain, entry.problem, planner, len(plans), "no plan", 0)
     if found.report is None:
         result.status, result.valid = "refused: " + found.refused, None
@@ -70,6 +81,7 @@ def result_of(found, planner):
     judged = [(it, report.verdicts[it.bundle, it.number]) for it in plans if not it.unread]
     valid = [(plan, verdict) for plan, verdict in judged if verdict.valid]
     result.judged, result.valid = len(judged), len(valid)
+    result.other_costs = sum(says_other_cost(it, verdict, report.counts_costs) for it, verdict in valid)
     if judged:
         result.summary_line = report.summaries[judged[0][0].bundle]
     if valid:
@@ -79,7 +91,16 @@ def result_of(found, planner):
         result.status = "refused: " + next(it.unread for it in plans if it.unread)
     elif plans:
         result.status = "failed"
+    if found.unscored:
+        result.status = NOT_SCORED + found.unscored
     return result
+
+
+def says_other_cost(plan, verdict, counts_costs):
+    """Whether the planner says another cost of a valid plan than it has, or another number of steps where costs do not count."""
+    if not verdict.valid or not plan.own_cost:
+        return False
+    return read_cost(plan.own_cost) != (verdict.cost if counts_costs else verdict.steps)
 
 
 def take_best(result, valid):
@@ -90,7 +111,7 @@ def take_best(result, valid):
         result.best_cost = min(verdict.cost for _, verdict in priced)
     by_steps = min(valid, key=lambda it: it[1].steps)
     result.best, verdict = min(priced, key=lambda it: it[1].cost) if priced else by_steps
-    result.best_line = verdict.line
+    result.best_line, result.best_plan_steps = verdict.line, verdict.steps
 
 
 @dataclasses.dataclass
@@ -98,7 +119,7 @@ class Total:
     """The sums over results of one planner."""
     results: list
 
-    @property
+    @functools.cached_property
     def coverage(self):
         """How many problems are solved."""
         return sum(it.solved for it in self.results)
@@ -108,22 +129,27 @@ class Total:
         """The sum of the scores. As a fraction it may have thousands of digits."""
         return sum((it.score for it in self.results), Fraction(0))
 
-    @property
+    @functools.cached_property
     def plans(self):
         """How many plans there are."""
         return sum(it.plans for it in self.results)
 
-    @property
+    @functools.cached_property
     def valid(self):
         """How many plans are valid."""
         return sum(it.valid or 0 for it in self.results)
 
-    @property
+    @functools.cached_property
     def failed(self):
         """How many plans were judged and are not valid."""
         return sum(it.failed for it in self.results)
 
-    @property
+    @functools.cached_property
+    def other_costs(self):
+        """How many valid plans cost something else than the planner says."""
+        return sum(it.other_costs for it in self.results)
+
+    @functools.cached_property
     def unjudged(self):
         """How many plans were not judged."""
         return sum(it.plans - it.judged for it in self.results)
@@ -133,7 +159,7 @@ class Tournament:
     """All results, by problem and by planner."""
 
     def __init__(self, found, references, dialect):
-        self.found, self.dialect = found, dialect
+        self.found, self.references, self.dialect = found, references, dialect
         self.planners = sorted({name for it in found for name in it.entry.plans}, key=numeric_order)
         self.rows = [results_of(it, self.planners, references) for it in found]
         self.results = [result for row in self.rows for result in row]

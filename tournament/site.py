@@ -1,5 +1,6 @@
 """The site: static pages that open from disk, with nothing that is fetched from elsewhere."""
 import concurrent.futures
+import contextlib
 import itertools
 import multiprocessing
 import os
@@ -10,14 +11,16 @@ import jinja2
 import markupsafe
 
 from . import plots
-from .exact import cost_text, read_cost, rounded
+from .exact import cost_text, rounded
+from .judging import first_failing
+from .last import PAGES, RESULTS, files_below
 from .names import file_name, shown
-from .store import write
+from .scores import says_other_cost
+from .store import fingerprint, write
 
 MOST_PAIRED = 12  # planners of which each pair is drawn
 HERE = os.path.dirname(os.path.realpath(__file__))
-PARTS = ["results.tsv", "results.json", "index.html", "style.css", "planners", "domains", "problems", "compare", "plots"]
-MARKS = {"solved": "\u2713", "failed": "\u2717", "no plan": "\u2013", "refused": "!"}
+MARKS = {"solved": "\u2713", "failed": "\u2717", "no plan": "\u2013", "refused": "!", "not scored": "\u25cb"}
 
 
 def planner_page(planner):
@@ -35,6 +38,11 @@ def problem_page(entry):
     return "problems/%s/%s.html" % (file_name(entry.domain), file_name(entry.problem))
 
 
+def problem_plot(entry):
+    """Where the plot of a problem is, if it has one."""
+    return "plots/problems/%s/%s.svg" % (file_name(entry.domain), file_name(entry.problem))
+
+
 def pair_page(pair):
     """Where the page of two planners is."""
     return "compare/%s+%s.html" % tuple(map(file_name, pair))
@@ -50,6 +58,14 @@ def mark(status):
     return MARKS[status.split(":")[0]]
 
 
+def size_text(steps, cost, counts_costs):
+    """What a valid plan costs and how long it is, in words."""
+    length = "%d step%s" % (steps, "" if steps == 1 else "s")
+    if not counts_costs:
+        return length
+    return "%s in %s" % ("undefined cost" if cost is None else "cost " + cost_text(cost), length)
+
+
 def value_text(result):
     """What a result is worth: its cost or its steps, or why it has none."""
     if not result.solved:
@@ -57,23 +73,57 @@ def value_text(result):
     return "undefined" if result.value is None else cost_text(result.value)
 
 
-class Site:
-    """Writes the pages into a folder."""
+def point_name(one, other):
+    """The name of a problem's point in the plot of two planners."""
+    values = ["%s %s" % (shown(it.planner), value_text(it)) for it in (one, other)]
+    return "%s %s: %s" % (shown(one.domain), shown(one.problem), ", ".join(values))
 
-    def __init__(self, tournament, title, pairs, folder):
-        self.tournament, self.title, self.folder = tournament, shown(title), folder
+
+def same(path, data):
+    """Whether a file has this content."""
+    with contextlib.suppress(OSError):
+        with open(path, "rb") as file:
+            return file.read() == data
+    return False
+
+
+class Site:
+    """Writes the pages into a folder. Pages that are as they were in the old folder are taken over from there."""
+
+    def __init__(self, tournament, title, pairs, folder, last):
+        self.tournament, self.title, self.folder, self.last = tournament, shown(title), folder, last
         self.standings = tournament.standings()
         self.ranked = [planner for _, planner, _ in self.standings]
-        self.pairs = pairs or self.chosen_pairs()
+        self.columns = {planner: at for at, planner in enumerate(tournament.planners)}  # of a row of results
+        self.chosen = bool(pairs)  # whether the pairs were named
+        self.pairs = pairs or self.all_pairs()
         self.templates = jinja2.Environment(
             loader=jinja2.FileSystemLoader(os.path.join(HERE, "templates")), autoescape=True, undefined=jinja2.StrictUndefined,
             trim_blocks=True, lstrip_blocks=True)
         self.templates.globals.update(
             shown=shown, planner_page=planner_page, domain_page=domain_page, problem_page=problem_page, pair_page=pair_page,
-            report_line=report_line, value_text=value_text, cost_text=cost_text, mark=mark, score=lambda it: rounded(it, 2),
-            file_name=file_name, site=self, tournament=tournament)
+            report_line=report_line, value_text=value_text, size_text=size_text, cost_text=cost_text, mark=mark, score=lambda it: rounded(it, 2),
+            file_name=file_name, base_name=os.path.basename, site=self, tournament=tournament)
 
-    def chosen_pairs(self):
+    def put(self, path, data):
+        """Writes a file, or takes over the old one if it is the same."""
+        if same(os.path.join(self.last.folder, path), data):
+            self.take_over(path)
+        else:
+            write(os.path.join(self.folder, path), data)
+
+    def take_over(self, path):
+        """Takes over a file of the old folder, with its time. Two pages may show the same plot."""
+        new = os.path.join(self.folder, path)
+        if os.path.exists(new):
+            return
+        os.makedirs(os.path.dirname(new), exist_ok=True)
+        try:
+            os.link(os.path.join(self.last.folder, path), new)
+        except OSError:  # not all file systems have links
+            shutil.copy2(os.path.join(self.last.folder, path), new)
+
+    def all_pairs(self):
         """The planners that are drawn against each other: all pairs, or the first against each other one if there are many."""
         if len(self.ranked) <= MOST_PAIRED:
             return list(itertools.combinations(self.ranked, 2))
@@ -83,12 +133,11 @@ class Site:
         """Writes a page."""
         root = "../" * path.count("/")
         text = self.templates.get_template(template).render(root=root, **values)
-        write(os.path.join(self.folder, path), text.replace(plots.ROOT, root).encode())
+        self.put(path, text.replace(plots.ROOT, root).encode())
 
     def plot(self, path, text):
         """Writes a plot as a file, and returns what a page shows of it."""
-        path = "plots/%s.svg" % path
-        write(os.path.join(self.folder, path), plots.alone(text, "../" * path.count("/")).encode())
+        self.put(path, plots.alone(text, "../" * path.count("/")).encode())
         return {"svg": markupsafe.Markup(text), "file": path}
 
     def index(self):
@@ -98,21 +147,24 @@ class Site:
         score = plots.score_plot(self.standings, lambda planner: plots.ROOT + planner_page(planner))
         coverage = plots.coverage_plot(
             domains, self.ranked, lambda domain, planner: plots.ROOT + domain_page(domain) + "#" + file_name(planner))
-        shown_plots = {"score": self.plot("score", score), "coverage": self.plot("coverage", coverage)}
+        drawn = {"score": self.plot("plots/score.svg", score), "coverage": self.plot("plots/coverage.svg", coverage)}
+        drawn.update(bars=plots.MOST_BARS, lines=plots.MOST_SERIES)
         if self.pairs:
-            shown_plots["scatter"] = self.scatter(self.pairs[0])
-        self.page("index.html", "index.html", plots=shown_plots, most=plots.MOST_SERIES)
+            drawn["scatter"] = self.scatter(self.pairs[0])
+        highest = {domain: max(tournament.total(planner, domain).score for planner in self.ranked) for domain in tournament.domains()}
+        self.page("index.html", "index.html", plots=drawn, highest=highest, many=len(self.ranked) > MOST_PAIRED)
 
     def scatter(self, pair):
         """The plot of two planners."""
-        points = [(one.value, other.value, plots.ROOT + problem_page(one)) for one, other in self.met(pair) if one.solved or other.solved]
-        path = "compare/%s+%s" % tuple(map(file_name, pair))
+        points = [(one.value, other.value, plots.ROOT + problem_page(one), point_name(one, other))
+                  for one, other in self.met(pair) if one.solved or other.solved]
+        path = "plots/compare/%s+%s.svg" % tuple(map(file_name, pair))
         return self.plot(path, plots.scatter_plot(*pair, points, "scatter"))
 
     def met(self, pair):
         """The results of two planners, problem by problem."""
-        at = [self.tournament.planners.index(it) for it in pair]
-        return [(row[at[0]], row[at[1]]) for row in self.tournament.rows]
+        one, other = (self.columns[it] for it in pair)
+        return [(row[one], row[other]) for row in self.tournament.rows]
 
     def wins(self, one, other):
         """On how many problems the first planner has the higher score."""
@@ -132,23 +184,49 @@ class Site:
         """The page of a domain."""
         self.page(domain_page(domain), "domain.html", domain=domain, problems=self.tournament.problems(domain))
 
+    def problem_keys(self):
+        """For each problem's page a fingerprint of what it is made from."""
+        common, keys = [self.last.code, self.title, *self.ranked], {}
+        for found in self.tournament.found:
+            reference = self.tournament.references.get((shown(found.entry.domain), shown(found.entry.problem)))
+            keys[problem_page(found.entry)] = fingerprint([*common, found.mark, repr((reference, found.kept, found.entry.passed))])
+        return keys
+
     def problem(self, at):
-        """The page of a problem."""
-        found, row = self.tournament.found[at], self.tournament.rows[at]
-        plans = [plan_cells(found, plan) for plan in found.plans]
+        """The page of a problem, which is taken over if it was made from the same before and nobody has changed it since."""
+        entry, record = self.tournament.found[at].entry, self.last.record
+        page = problem_page(entry)
+        files = {it: record["files"][it] for it in (page, problem_plot(entry)) if it in record.get("files", {})}
+        if record.get("problems", {}).get(page) == self.keys[page] and files_below(self.last.folder, files) == files:
+            for path in files:
+                self.take_over(path)
+        else:
+            self.new_problem(at)
+
+    def new_problem(self, at):
+        """Makes the page of a problem."""
+        found, row = self.tournament.found[at], self.by_rank(self.tournament.rows[at])
+        failing = self.by_rank(first_failing(found))
+        explained = [(it, found.explained[file_name(it.planner)]) for it in failing if file_name(it.planner) in found.explained]
+        plans = [plan_cells(found, plan, any(plan is it for it, _ in explained)) for plan in self.by_rank(found.plans)]
+        passed = [(planner, *it) for planner in self.ranked for it in found.entry.passed.get(planner, [])]
         lines = self.progress_lines(found)
         plot = None
         if lines:
             unit = "cost" if found.report.counts_costs else "number of steps"
-            path = "problems/%s/%s" % (file_name(found.entry.domain), file_name(found.entry.problem))
-            plot = self.plot(path, plots.progress_plot(lines, unit, "progress"))
+            plot = self.plot(problem_plot(found.entry), plots.progress_plot(lines, unit, "progress"))
         holder = next((it for it in row if it.solved and it.value is not None and it.value == it.reference), None)
-        self.page(problem_page(found.entry), "problem.html", found=found, row=row, plans=plans, plot=plot, holder=holder,
-                  shown_lines=len(lines), most=plots.MOST_SERIES)
+        self.page(problem_page(found.entry), "problem.html", found=found, row=row, plans=plans, passed=passed, explained=explained, plot=plot,
+                  holder=holder, shown_lines=len(lines), most=plots.MOST_SERIES)
+
+    def by_rank(self, items):
+        """Results or plans in the order of the standings."""
+        places = {planner: at for at, planner in enumerate(self.ranked)}
+        return sorted(items, key=lambda it: places[it.planner])
 
     def progress_lines(self, found):
-        """For each planner with valid plans, the least cost up to each of them, if some planner has two plans."""
-        if found.report is None:
+        """For each planner with valid plans, the least cost up to each of them, if some planner has two plans and they are scored."""
+        if found.report is None or found.unscored:
             return []
         lines = []
         for planner in self.ranked:
@@ -165,19 +243,13 @@ class Site:
         return lines if any(pairs[-1][0] > 1 for _, pairs, _ in lines) else []
 
 
-def plan_cells(found, plan):
-    """What the problem's page shows of a plan."""
+def plan_cells(found, plan, explained):
+    """What the problem's page shows of a plan, which may be explained there."""
     verdict = None
     if found.report is not None and not plan.unread:
         verdict = found.report.verdicts[plan.bundle, plan.number]
-    return {"plan": plan, "verdict": verdict, "differs": differs(found, plan, verdict)}
-
-
-def differs(found, plan, verdict):
-    """Whether the planner says another cost of a valid plan than it has, or another number of steps where costs do not count."""
-    if verdict is None or not verdict.valid or not plan.own_cost:
-        return False
-    return read_cost(plan.own_cost) != (verdict.cost if found.report.counts_costs else verdict.steps)
+    differs = verdict is not None and says_other_cost(plan, verdict, found.report.counts_costs)
+    return {"plan": plan, "verdict": verdict, "differs": differs, "explained": explained}
 
 
 def write_part(work):
@@ -192,12 +264,16 @@ def ignore_interrupts():
     signal.signal(signal.SIGTERM, signal.SIG_DFL)
 
 
-def write_site(tournament, given, results, progress):
-    """Writes all pages and the files of results beside the old ones, and then puts them in their place."""
+def write_site(tournament, given, results, last, progress):
+    """Writes all pages and the files of results beside the old ones, and then puts them in their place.
+
+    Returns a fingerprint of what each problem's page is made from.
+    """
     new = os.path.join(given.out, ".new")
     shutil.rmtree(new, ignore_errors=True)
     # The processes are forked after this, so each has the site without a copy being sent.
-    site = write_part.site = Site(tournament, given.title, [tuple(it) for it in given.compare], new)
+    site = write_part.site = Site(tournament, given.title, [tuple(it) for it in given.compare], new, last)
+    site.keys = site.problem_keys()
     work = [("problem", at) for at in range(len(tournament.found))] + [("pair", it) for it in site.pairs]
     work += [("planner", it) for it in tournament.planners] + [("domain", it) for it in tournament.domains()]
     fork = multiprocessing.get_context("fork")
@@ -206,9 +282,11 @@ def write_site(tournament, given, results, progress):
             tick()
     site.index()
     for name, data in results.items():
-        write(os.path.join(new, name), data)
+        site.put(name, data)
     site.page("style.css", "style.css", light=plots.variables(plots.LIGHT), dark=plots.variables(plots.DARK))
+    last.forget()
     put_in_place(new, given.out)
+    return site.keys
 
 
 def put_in_place(new, folder):
@@ -216,7 +294,7 @@ def put_in_place(new, folder):
     old = os.path.join(folder, ".old")
     shutil.rmtree(old, ignore_errors=True)
     os.mkdir(old)
-    for part in PARTS:
+    for part in RESULTS + PAGES:
         if os.path.exists(os.path.join(folder, part)):
             os.rename(os.path.join(folder, part), os.path.join(old, part))
         if os.path.exists(os.path.join(new, part)):

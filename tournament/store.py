@@ -4,6 +4,7 @@ reports/DOMAIN/PROBLEM.txt is what plan_judge printed, and PROBLEM.json beside i
 the dialect, the domain, the problem and all plans. It is written last, so a report counts only when it is whole.
 """
 import contextlib
+import dataclasses
 import hashlib
 import json
 import os
@@ -30,6 +31,23 @@ def fingerprint(pieces):
     return whole.hexdigest()
 
 
+@dataclasses.dataclass
+class Answer:
+    """What plan_judge answers for a problem: why it refuses the input if it does, its report, and what else went wrong, if anything did.
+
+    EXPLAINED has explanations by the file names of planners: of each one's first plan that is not valid. Under the empty name it has that of
+    the refused input. It is None as long as nobody has asked for it. PLANS and LAYOUT say which plan is where in the report, and UNSCORED why
+    the problem is not scored, so that a kept answer is of use without reading the input again.
+    """
+    refused: str = ""
+    report: bytes = b""
+    trouble: str = ""
+    explained: dict = None
+    plans: list = dataclasses.field(default_factory=list)
+    layout: list = dataclasses.field(default_factory=list)
+    unscored: str = ""
+
+
 class Store:
     """The reports below a folder."""
 
@@ -40,19 +58,24 @@ class Store:
         """Where a problem's report or record is."""
         return os.path.join(self.folder, file_name(entry.domain), file_name(entry.problem) + ending)
 
+    def has(self, entry):
+        """Whether an answer for a problem is kept, which may be that for another input."""
+        return os.path.exists(self.path(entry, ".json"))
+
     def kept(self, entry, mark):
-        """The record and the report of a problem, if they were made from this input."""
+        """The answer for a problem, if it was made from this input."""
         with contextlib.suppress(OSError, ValueError, KeyError, TypeError):
             with open(self.path(entry, ".json"), "rb") as file:
                 record = json.load(file)
             with open(self.path(entry, ".txt"), "rb") as file:
                 report = file.read()
             if record["input"] == mark and record["report"] == fingerprint([report]):
-                return record["refused"], report
+                return Answer(report=report, **record["answer"])
         return None
 
-    def keep(self, entry, mark, refused, report):
-        """Keeps the report of a problem, or why it was refused."""
-        record = {"input": mark, "report": fingerprint([report]), "refused": refused}
-        write(self.path(entry, ".txt"), report)
-        write(self.path(entry, ".json"), json.dumps(record, indent=1).encode() + b"\n")
+    def keep(self, entry, mark, answer):
+        """Keeps the answer for a problem."""
+        rest = {it: getattr(answer, it) for it in ("refused", "explained", "plans", "layout", "unscored")}
+        record = {"input": mark, "report": fingerprint([answer.report]), "answer": rest}
+        write(self.path(entry, ".txt"), answer.report)
+        write(self.path(entry, ".json"), json.dumps(record).encode() + b"\n")

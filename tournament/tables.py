@@ -18,7 +18,7 @@ def cells(result):
     return [
         shown(result.domain), shown(result.problem), shown(result.planner), str(result.plans), number(result.valid),
         number(result.best_steps), cost_text(result.best_cost), cost_text(result.reference),
-        rounded(result.score, DIGITS), shown(result.status)]
+        rounded(result.score, DIGITS) if result.scored else "-", shown(result.status)]
 
 
 def as_tsv(tournament):
@@ -43,15 +43,19 @@ def result_record(result):
     record.update(plans=result.plans, valid=result.valid, best_steps=result.best_steps)
     for name, value in ("best_cost", result.best_cost), ("reference", result.reference):
         record[name] = None if value is None else cost_text(value)
-    record.update(failed=result.failed, exact_score=str(result.score), counts="cost" if result.counts_costs else "steps", best_plan=best)
+    if not result.scored:
+        record["score"] = None
+    exact_score = str(result.score) if result.scored else None
+    record.update(failed=result.failed, exact_score=exact_score, counts="cost" if result.counts_costs else "steps", best_plan=best)
     return record
 
 
 def as_json(tournament):
-    """The text of results.json."""
+    """The text of results.json, with a line for each record."""
     standings = [
         {"rank": rank, "planner": shown(planner), **total_record(total),
          "domains": {shown(it): total_record(tournament.total(planner, it)) for it in tournament.domains()}}
         for rank, planner, total in tournament.standings()]
-    whole = {"dialect": tournament.dialect, "standings": standings, "results": [result_record(it) for it in tournament.results]}
-    return json.dumps(whole, indent=1, ensure_ascii=False) + "\n"
+    lines = lambda records: ",\n".join(json.dumps(it, ensure_ascii=False) for it in records)
+    results = lines(result_record(it) for it in tournament.results)
+    return '{"dialect": %s,\n"standings": [\n%s\n],\n"results": [\n%s\n]}\n' % (json.dumps(tournament.dialect), lines(standings), results)

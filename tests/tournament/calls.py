@@ -30,9 +30,9 @@ class Calls(Folder):
         super().setUp()
         self.site = os.path.join(self.folder, "site")
 
-    def words(self, *words):
+    def words(self, *words, jobs="2"):
         """The words of a call that writes no pages."""
-        return [sys.executable, os.path.join(TOP, "bin", "tournament"), "--out", self.site, "--no-site", "-j", "2", *words]
+        return [sys.executable, os.path.join(TOP, "bin", "tournament"), "--out", self.site, "--no-site", "-j", jobs, *words]
 
     def call(self, *words, status=0, **environment):
         """Runs a call, and returns what it printed on standard error."""
@@ -110,7 +110,7 @@ class Going(Calls):
         program = self.counting('[ ! -e "%s/block" ] || [ $(wc -l < "%s/calls") -le 5 ] || exec sleep 100' % (self.folder, self.folder))
         block = self.write("block")
         environment = dict(os.environ, PLAN_JUDGE=program)
-        process = subprocess.Popen(self.words(OUTPUTS, "-j", "1"), env=environment, stdout=subprocess.DEVNULL, stderr=subprocess.PIPE, text=True,
+        process = subprocess.Popen(self.words(OUTPUTS, jobs="1"), env=environment, stdout=subprocess.DEVNULL, stderr=subprocess.PIPE, text=True,
                                    preexec_fn=take_interrupts)
         until = time.time() + SECONDS
         while self.calls() < 6 and time.time() < until:
@@ -137,6 +137,48 @@ class Going(Calls):
         self.assertEqual((self.calls(), [it[-1] for it in self.rows()]), (3, ["solved", "failed"]))
         self.call(outputs, "--dialect", "strips", PLAN_JUDGE=program)
         self.assertEqual(self.calls(), 5)
+
+    def test_a_plan_of_the_same_size_and_time_is_another_one(self):
+        outputs = self.lamp([("a", "(light)")])
+        path = os.path.join(outputs, "lamp", "one", "a", "sas_plan")
+        self.call(outputs)
+        before = os.stat(path)
+        with open(path, "r+") as file:
+            file.write("(lught)")
+        os.utime(path, ns=(before.st_atime_ns, before.st_mtime_ns))
+        after = os.stat(path)
+        self.assertEqual((before.st_size, before.st_mtime_ns, before.st_ino), (after.st_size, after.st_mtime_ns, after.st_ino))
+        self.call(outputs)
+        self.assertEqual([it[-1] for it in self.rows()], ["failed"])
+
+    def test_nothing_is_written_if_nothing_has_changed(self):
+        program = self.counting("")
+        outputs = self.lamp([("a", "(light)"), ("b", "")])
+        self.write("outputs/lamp/one/b/Plan", "")
+        files = [os.path.join(self.site, it) for it in ("results.tsv", "results.json", "reports/lamp/one.txt", "reports/lamp/one.json")]
+        times, said = [], []
+        for _ in range(2):
+            said.append(self.call(outputs, PLAN_JUDGE=program))
+            times.append([os.stat(it).st_mtime_ns for it in files])
+        self.assertEqual((times[0], said[0], self.calls()), (times[1], said[1], 1))
+        self.assertIn("b/Plan is passed over", said[0])
+        whole = read(files[0])
+        for text in b"other", b"":
+            with open(files[0], "wb") as file:
+                file.write(text)
+            self.call(outputs, PLAN_JUDGE=program)
+            self.assertEqual((read(files[0]), self.calls()), (whole, 1))
+
+    def test_what_is_not_in_a_plan_counts_as_well(self):
+        outputs = self.lamp([("a", "(light)")])
+        self.call(outputs)
+        self.write("outputs/lamp/one/a/Plan", "(light)")
+        self.assertIn("a/Plan is passed over", self.call(outputs))
+        self.call(outputs, "--reference", self.write("references.tsv", "lamp\tone\t0.5\n"))
+        self.assertEqual([it[7:9] for it in self.rows()], [["0.5", "0.500000"]])
+        self.write("outputs/lamp/one/b/run.log")
+        self.assertIn("b has no plan at all", self.call(outputs))
+        self.assertEqual([it[2] for it in self.rows()], ["a", "b"])
 
     def test_a_call_that_goes_wrong_is_told_and_made_again(self):
         program = self.counting('[ ! -e "%s/wrong" ] || . "%s/wrong"' % (self.folder, self.folder))
@@ -182,12 +224,50 @@ class Odd(Calls):
             ("one", "solved"), ("three", "refused: problem"), ("two", "no plan")])
 
 
+class Metrics(Calls):
+    def test_other_metrics_are_named_and_not_scored(self):
+        outputs = self.lamp([("a", "(light)")])
+        metrics = {"two": "(:metric MAXIMIZE (Total-Cost))", "three": "(:metric minimize (total-cost)) ; (:metric maximize (x))\n", "four": ")"}
+        for name, text in metrics.items():
+            self.write("outputs/lamp/%s/domain.pddl" % name, DOMAIN)
+            self.write("outputs/lamp/%s/problem.pddl" % name, PROBLEM.replace("(:goal", text + " (:goal"))
+            self.write("outputs/lamp/%s/a/sas_plan" % name, "(light)")
+        for dialect in "ipc", "strips":
+            said = self.call(outputs, "--dialect", dialect)
+            self.assertIn("tournament: lamp two is not scored: the metric is maximize (total-cost)\n", said)
+            self.assertEqual([(it[1], it[8], it[9].split(" line")[0]) for it in self.rows()], [
+                ("four", "0.000000", "refused: problem"), ("one", "1.000000", "solved"), ("three", "1.000000", "solved"),
+                ("two", "-", "not scored: the metric is maximize (total-cost)")])
+
+
+class PassedOver(Calls):
+    def test_there_is_one_line_for_each_planner(self):
+        outputs = self.lamp([("a", "(light)"), ("b", "(light)")])
+        for path in "a/Plan.1", "a/Plan.2", "a/run/sas_plan", "b/old_plan", "c/run.log":
+            self.write("outputs/lamp/one/" + path, "(light)")
+        here = os.path.join(outputs, "lamp", "one")
+        self.assertEqual(self.call(outputs).splitlines(), [
+            "tournament: a: 3 files or folders are passed over, first %s/a/Plan.1: it is not named as plans are" % here,
+            "tournament: b: %s/b/old_plan is passed over: it is not named as plans are" % here,
+            "tournament: c has no plan at all; files such as %s/c/run.log do not look like plans" % here])
+        self.assertEqual([it[2:5] for it in self.rows()], [["a", "1", "1"], ["b", "1", "1"], ["c", "0", "0"]])
+
+    def test_other_names_are_judged_and_compressed_plans_are_not(self):
+        outputs = self.lamp([("a", "(light) (light)")])
+        for name in "p.soln", "p.SOL", "p.plan", "plan.txt", "plan.ipc", "sas_plan.1.xz":
+            self.write("outputs/lamp/one/a/" + name, "(light)")
+        path = os.path.join(outputs, "lamp", "one", "a", "sas_plan.1.xz")
+        self.assertEqual(self.call(outputs), "tournament: a: %s is passed over: it is compressed: unpack it first\n" % path)
+        self.assertEqual([it[3:5] for it in self.rows()], [["6", "5"]])
+
+
 class Wrong(Calls):
     def test_wrong_calls(self):
         outputs = self.lamp([("a", "(light)")])
         for words in [], [outputs, "--manifest", "m"], [outputs, "-j", "0"], [outputs, "--dialect", "x"], [outputs, "--strange"]:
             self.assertEqual(self.call(*words, status=2).count("\n"), 1)
-        for words in [self.folder + "/none"], [os.path.join(outputs, "lamp", "one", "a", "sas_plan")], [outputs, "--reference", "none"], [outputs, "--compare", "a", "z"], ["--manifest", "none"]:
+        for words in [self.folder + "/none"], [os.path.join(outputs, "lamp", "one", "a", "sas_plan")], [outputs, "--reference", "none"], \
+                [outputs, "--compare", "a", "z"], ["--manifest", "none"]:
             self.assertEqual(self.call(*words, status=1).count("\n"), 1)
 
     def test_other_folders_are_left_alone(self):

@@ -1,11 +1,13 @@
 """Tests of the parts of bin/tournament that need neither a program nor a package."""
+import json
 import os
 import tempfile
 import unittest
 from fractions import Fraction
+from unittest import mock
 
-from tournament import entries, exact, names, plans, reports, scores, store, tables
-from tournament.judging import Judged
+from tournament import entries, exact, metric, names, plans, reports, scores, store, tables
+from tournament.judging import Judge, Judged
 
 
 class Folder(unittest.TestCase):
@@ -65,31 +67,68 @@ class Exact(unittest.TestCase):
             self.assertIsNone(exact.read_cost(text))
 
 
+class Metrics(unittest.TestCase):
+    def reason(self, sections):
+        """Why a problem with these sections is not scored."""
+        return metric.why_unscored(("(define (problem p) (:domain d) (:init) %s (:goal (g)))" % sections).encode())
+
+    def test_what_is_scored(self):
+        for sections in "", "(:metric minimize (total-cost))", "(:METRIC Minimize\n( Total-Cost ) )", "( :metric minimize total-cost)", \
+                "(:metric minimize ; maximize\n(total-cost))":
+            self.assertEqual(self.reason(sections), "", sections)
+
+    def test_what_is_not_scored(self):
+        reasons = {
+            "(:metric maximize (total-cost))": "maximize (total-cost)", "(:metric MINIMIZE (Fuel))": "minimize (fuel)",
+            "(:metric minimize (+ (total-cost) (* 2 (fuel))))": "minimize (+ (total-cost) (* 2 (fuel)))",
+            "(:metric;(total-cost))\n maximize(score ?x))": "maximize (score ?x)", "(:metric minimize (total-cost) (total-cost))":
+            "minimize (total-cost) (total-cost)", "(:metric minimize)": "minimize", "(:metric)": "empty"}
+        for sections, words in reasons.items():
+            self.assertEqual(self.reason(sections), "the metric is " + words, sections)
+
+    def test_only_a_section_of_the_problem_is_its_metric(self):
+        for sections in "; (:metric maximize (x))\n", "(:length (:metric maximize (x)))", "(:metrics maximize (x))", "(a:metric maximize (x))", \
+                "(:length :metric maximize)", "(:length (:metric maximize (x))) ; (:metric maximize (x))\n(:metric minimize (total-cost))":
+            self.assertEqual(self.reason(sections), "", sections)
+        self.assertEqual(self.reason("(:length (:metric minimize (total-cost))) (:metric maximize (x))"), "the metric is maximize (x)")
+
+    def test_a_long_metric_is_cut(self):
+        self.assertEqual(self.reason("(:metric minimize (%s))" % ("a" * 100)), "the metric is minimize (%s.." % ("a" * 70))
+
+
 class Plans(Folder):
+    def bundled(self, paths):
+        """The plans of the planner p in these files, and their bundles."""
+        return plans.bundled(plans.plan_files({"p": paths}))
+
     def test_bundles_separate_plans(self):
         files = [self.write("p/plan_%d" % it, text) for it, text in ((2, "(a)"), (10, ""), (11, "(b)\n"))]
-        found, (bundle,) = plans.planners_plans("p", files)
+        found, (bundle,) = self.bundled(files)
         self.assertEqual(bundle.content(), b"(a)\n---\n---\n(b)\n")
         self.assertEqual([(it.file, it.bundle, it.number) for it in found], [("plan_2", "p", 1), ("plan_10", "p", 2), ("plan_11", "p", 3)])
 
     def test_a_file_with_separators_holds_several_plans(self):
         path = self.write("p/sas_plan", "(a)\n--- \t\r\n---\n(b)\n--- no\n")
-        found, (bundle,) = plans.planners_plans("p", [path])
+        found, (bundle,) = self.bundled([path])
         self.assertEqual([(it.part, it.number) for it in found], [(1, 1), (2, 2), (3, 3)])
         self.assertEqual(bundle.content(), b"(a)\n---\n---\n(b)\n--- no\n")
 
     def test_files_that_cannot_be_judged_are_kept_with_the_reason(self):
         large = self.write("p/plan.1", b" " * (plans.MOST_BYTES + 1))
-        found, (bundle,) = plans.planners_plans("p", [large, os.path.join(self.folder, "none"), self.folder, self.write("p/plan.4", "(a)")])
+        found, (bundle,) = self.bundled([large, os.path.join(self.folder, "none"), self.folder, self.write("p/plan.4", "(a)")])
         self.assertEqual([bool(it.unread) for it in found], [True, True, True, False])
         self.assertIn("plan.1 is too large", found[0].unread)
         self.assertEqual(found[1].unread, "cannot read none: No such file or directory")
         self.assertEqual(bundle.texts, [b"(a)"])
 
+    def test_a_compressed_file_that_a_manifest_names_is_not_judged(self):
+        found, bundles = self.bundled([self.write("p/sas_plan.1.xz", "(a)")])
+        self.assertEqual(([it.unread for it in found], bundles), (["sas_plan.1.xz is compressed: unpack it first"], []))
+
     def test_plans_beyond_the_limit_of_a_file_go_into_another(self):
         half = b"(a)" + b" " * (plans.MOST_BYTES // 2)
         files = [self.write("p/plan.%d" % it, half) for it in (1, 2, 3)]
-        found, bundles = plans.planners_plans("p", files)
+        found, bundles = self.bundled(files)
         self.assertEqual([it.name for it in bundles], ["p", "p+2", "p+3"])
         self.assertEqual([(it.bundle, it.number) for it in found], [("p", 1), ("p+2", 1), ("p+3", 1)])
         self.assertTrue(all(len(it.content()) <= plans.MOST_BYTES for it in bundles))
@@ -118,6 +157,32 @@ class Entries(Folder):
         self.assertEqual(first.others, {"lazy": place("d/p2/lazy/x")})
         self.assertEqual((second.problem, second.domain_file), ("p10", place("d/domain.pddl")))
         self.assertEqual(second.plans, {"good": [place("d/p10/good/sas_plan.9"), place("d/p10/good/sas_plan.10")]})
+
+    def test_what_looks_like_a_plan_is_passed_over_with_the_reason(self):
+        looks = ["Plan.1", "SAS_PLAN.2", "my_plan", "p1.Sol", "planner.txt", "plan.txt.old", "solution", "p1.PLAN", "a.Soln", "a.sol", "plan.ipc5"]
+        other = ["run.log", "planner.log", "planner.log.gz", "Plan.ERR", "console.txt", "absolute", "x", "resolved", "p1.solver"]
+        for name in looks + other + ["sas_plan.1", "run1/sas_plan", ".git/plan"]:
+            self.write("d/p/a/" + name)
+        for name in "plan.1", "lo.txt":
+            self.write("d/p/b/" + name)
+        entry, = entries.from_folder(self.folder)
+        place = lambda name: os.path.join(self.folder, "d", "p", "a", name)
+        passed = [(place(it), entries.OTHER_NAME) for it in looks] + [(place("run1"), entries.FOLDER)]
+        self.assertEqual((entry.plans["a"], list(entry.passed)), ([place("sas_plan.1")], ["a"]))
+        self.assertEqual(sorted(entry.passed["a"]), sorted(passed))
+        self.assertEqual(entry.passed["a"][0][0], place("Plan.1"))
+
+    def test_all_names_of_plans(self):
+        taken = ["plan", "plan.1", "plan_2", "plan-3", "plan4", "sas_plan", "sas_plan.5", "sas_plan_6", "plan.ipc", "plan.txt", "p01.plan",
+                 "p01.soln", "P01.SOL", "a b.plan"]
+        packed = ["sas_plan.1.xz", "plan.1.GZ", "p01.plan.bz2", "plan.zip", "sas_plan.zst"]
+        for name in taken + packed + ["logs.gz", "sas_plan.d/plan", "x.plan/plan"]:
+            self.write("d/p/a/" + name)
+        entry, = entries.from_folder(self.folder)
+        self.assertEqual({os.path.basename(it) for it in entry.plans["a"]}, set(taken))
+        why = dict.fromkeys(packed, "it is compressed: unpack it first")
+        why.update(dict.fromkeys(["sas_plan.d", "x.plan"], entries.FOLDER))
+        self.assertEqual({os.path.basename(path): reason for path, reason in entry.passed["a"]}, why)
 
     def test_a_manifest(self):
         lines = ["d p b D P x.10", "d p b D P x.9\r", "", "d p a D P ", "d o a D P y", "d o a D P x", ""]
@@ -166,7 +231,7 @@ class Reports(unittest.TestCase):
 
 
 class Scores(unittest.TestCase):
-    def found(self, texts, refused="", unread=()):
+    def found(self, texts, refused="", unread=(), unscored=""):
         """The finding of a problem on which planners have these verdicts."""
         entry = entries.Entry("d", "p", "", "", {name: [] for name in texts})
         listed, lines, layout = [], [], []
@@ -180,7 +245,7 @@ class Scores(unittest.TestCase):
                 layout.append((name, len(verdicts)))
         if refused:
             return Judged(entry, listed, refused=refused)
-        return Judged(entry, listed, reports.Report(report(*lines), [layout]))
+        return Judged(entry, listed, reports.Report(report(*lines), [layout]), unscored=unscored)
 
     def row(self, texts, given=None, **more):
         """What counts of each planner's result."""
@@ -219,6 +284,17 @@ class Scores(unittest.TestCase):
         texts = {"a": ["valid 3"], "b": ["goal missing (x)"]}
         self.assertEqual([it[0] for it in self.row(texts, unread=("a", "b"))], ["solved", "refused: y is too large"])
 
+    def test_another_metric_is_judged_and_not_scored(self):
+        found = self.found({"a": ["valid 3 cost 7", "goal missing (x)"], "b": []}, unscored="the metric is empty")
+        tournament = scores.Tournament([found, self.found({"a": ["valid 2 cost 4"], "b": []})], {("d", "p"): Fraction(1)}, "ipc")
+        self.assertEqual(tables.as_tsv(tournament).splitlines()[1:], [
+            "d\tp\ta\t2\t1\t3\t7\t-\t-\tnot scored: the metric is empty", "d\tp\tb\t0\t0\t-\t-\t-\t-\tnot scored: the metric is empty",
+            "d\tp\ta\t1\t1\t2\t4\t1\t0.250000\tsolved", "d\tp\tb\t0\t0\t-\t-\t1\t0.000000\tno plan"])
+        total = tournament.total("a")
+        self.assertEqual((total.coverage, total.score, total.valid, total.failed), (1, Fraction(1, 4), 2, 1))
+        first = json.loads(tables.as_json(tournament))["results"][0]
+        self.assertEqual((first["score"], first["exact_score"], first["status"]), (None, None, "not scored: the metric is empty"))
+
     def test_sums_are_exact_and_can_be_printed_at_any_length(self):
         found = [self.found({"a": ["valid 2 cost %d" % (10 ** 12 + at)]}) for at in range(500)]
         tournament = scores.Tournament(found, {("d", "p"): Fraction("0.3")}, "ipc")
@@ -232,12 +308,31 @@ class Scores(unittest.TestCase):
         self.assertEqual([(rank, planner) for rank, planner, _ in tournament.standings()], [(1, "a"), (1, "c"), (3, "b")])
 
 
+class Explained(unittest.TestCase):
+    def explanation(self, status, out):
+        """What is shown of a call of explain that prints this, and the problem's finding."""
+        judge, found = Judge(mock.Mock(), None), Judged(None, [])
+        judge.call = lambda *_: (status, out, "out of memory")
+        return judge.explanation("", [], "", found), found
+
+    def test_long_explanations_are_cut(self):
+        self.assertEqual(self.explanation(1, b"a\n  \xff\n")[0], "a\n  \ufffd")
+        self.assertEqual(self.explanation(0, b"a\n" * 60)[0], "a\n" * 59 + "a")
+        self.assertEqual(self.explanation(1, b"a\n" * 61)[0], "a\n" * 60 + "..")
+        self.assertEqual(self.explanation(1, b"a" * 301)[0], "a" * 300 + "..")
+
+    def test_a_call_that_goes_wrong_is_made_again(self):
+        found = self.explanation(3, b"")[1]
+        self.assertEqual((found.kept, found.unexplained), (False, "plan_judge ended with status 3: out of memory"))
+
+
 class Stored(Folder):
     def test_a_report_counts_only_for_its_input_and_whole(self):
         kept, entry = store.Store(self.folder), entries.Entry("d", "p", "", "")
         self.assertIsNone(kept.kept(entry, "1"))
-        kept.keep(entry, "1", "", b"report\n")
-        self.assertEqual(kept.kept(entry, "1"), ("", b"report\n"))
+        answer = store.Answer(report=b"report\n", explained={"a": "why"})
+        kept.keep(entry, "1", answer)
+        self.assertEqual(kept.kept(entry, "1"), answer)
         self.assertIsNone(kept.kept(entry, "2"))
         self.write("d/p.txt", "rep")
         self.assertIsNone(kept.kept(entry, "1"))

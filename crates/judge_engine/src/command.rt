@@ -24,6 +24,9 @@ const DIALECTS: [&str; 2] = ["strips", "ipc"];
 /// The names of the formats.
 const FORMATS: [&str; 3] = ["lines", "tsv", "json"];
 
+/// The version of the program by the rules of semantic versioning. `--version` prints it; the manual page and the packages take it from here.
+const VERSION: &str = "0.3.0";
+
 const ABOUT: &str =
     "Judges the plans of classical planners: says of each whether it is valid, or which step fails first and what is missing.";
 
@@ -278,7 +281,7 @@ fn refusal<'a>(alloc: Global, words: &[String], error: Error) -> Result<Request<
 /// The program's command line.
 fn program<'a>(alloc: Global) -> Result<Command<'a>, AllocError> {
     Command::new(alloc, "plan_judge")
-        .version("0.1.0")
+        .version(VERSION)
         .about(ABOUT)
         .after_help(AFTER_HELP)
         .subcommand_required(true)

@@ -1,0 +1,216 @@
+"""Makes the files for a call of the program from the paths and texts that a caller gives."""
+from __future__ import annotations
+
+import contextlib
+import dataclasses
+import itertools
+import os
+import re
+import tempfile
+from types import TracebackType
+from typing import Iterable, Iterator, List, Mapping, Optional, Set, Tuple, Type, Union
+
+from .errors import Refused
+from .verdicts import Unreadable, Verdict
+
+Path = Union["os.PathLike[str]", "os.PathLike[bytes]"]
+Text = Union[str, bytes, Path]
+Source = Union[bytes, Path]
+Plans = Union[Text, Iterable[Text], Mapping[str, Union[Text, Iterable[Text]]]]
+
+MOST_FILES = 64  # of planners, in one call of the program
+LARGEST_FILE = 16_777_216
+SEPARATOR = re.compile(rb"^---[ \t\r]*$\n?", re.MULTILINE)
+
+
+@dataclasses.dataclass(frozen=True)
+class Piece:
+    """A path or text with plans of a planner."""
+
+    planner: int  # the index of the planner
+    label: str  # a name for the file of a text
+    source: Source
+
+
+def source(given: Text) -> Source:
+    """A path, or the bytes of a text."""
+    if isinstance(given, str):
+        return given.encode("utf-8", "surrogateescape")
+    if isinstance(given, (bytes, os.PathLike)):
+        return given
+    raise TypeError("a text is str or bytes and a path is os.PathLike, not %s" % type(given).__name__)
+
+
+def _sources(given: Union[Text, Iterable[Text]]) -> List[Source]:
+    """One path or text, or several, as a list."""
+    if isinstance(given, Iterable) and not isinstance(given, (str, bytes, os.PathLike)):
+        return [source(it) for it in given]
+    return [source(given)]
+
+
+def _name(given: Source, otherwise: str) -> str:
+    """The name of a planner that the caller does not name."""
+    return os.fsdecode(given) if isinstance(given, os.PathLike) else otherwise
+
+
+def named(plans: Plans) -> List[Tuple[str, List[Source]]]:
+    """The planners' names, each with its paths and texts."""
+    if isinstance(plans, Mapping):
+        return [(name, _sources(given)) for name, given in plans.items()]
+    sources = _sources(plans)
+    if isinstance(plans, (str, bytes, os.PathLike)):
+        return [(_name(sources[0], "plan"), sources)]
+    return [(_name(it, "plan-%d" % number), [it]) for number, it in enumerate(sources, 1)]
+
+
+def pieces(planners: List[Tuple[str, List[Source]]]) -> List[Piece]:
+    """All paths and texts in their order."""
+    return [
+        Piece(index, name if len(sources) == 1 else "%s.%d" % (name, number), it)
+        for index, (name, sources) in enumerate(planners)
+        for number, it in enumerate(sources, 1)
+    ]
+
+
+class Room:
+    """The files of one call. A temporary folder holds the texts; it is made for the first text, and removed at the end."""
+
+    def __init__(self) -> None:
+        self.stack = contextlib.ExitStack()
+        self.folder = b""
+        self.taken: Set[str] = set()
+
+    def __enter__(self) -> Room:
+        return self
+
+    def __exit__(self, kind: Optional[Type[BaseException]], error: Optional[BaseException], trace: Optional[TracebackType]) -> None:
+        self.stack.close()
+
+    def _path(self, label: str) -> bytes:
+        """The path of a new file, whose name is like the label."""
+        if not self.folder:
+            folder = os.fsencode(self.stack.enter_context(tempfile.TemporaryDirectory(prefix="plan_judge-")))
+            if not _is_utf8(folder):
+                raise ValueError("the folder of temporary files, %r, has a name that is not UTF-8" % folder)
+            self.folder = folder + b"/"
+        safe = re.sub(r"[^A-Za-z0-9._-]|^[.-]", "-", label)[:100]
+        name, number = safe, 1
+        while name in self.taken:
+            number += 1
+            name = "%s-%d" % (safe, number)
+        self.taken.add(name)
+        return self.folder + name.encode()
+
+    def word(self, given: Source, label: str) -> bytes:
+        """The word of the command line for a path or a text."""
+        if isinstance(given, bytes):
+            return self.file(given, label)
+        path = os.fsencode(given)
+        if _is_utf8(path):
+            return path
+        # The program takes only words that are UTF-8.
+        link = self._path(label)
+        os.symlink(os.path.join(os.getcwdb(), path), link)
+        return link
+
+    def file(self, content: bytes, label: str) -> bytes:
+        """The path of a new file with this content."""
+        path = self._path(label)
+        with open(path, "wb") as file:
+            file.write(content)
+        return path
+
+    def outside(self, text: str) -> str:
+        """A text of the program, in which files of this folder have only their names."""
+        return text.replace(self.folder.decode(), "") if self.folder else text
+
+
+def _is_utf8(path: bytes) -> bool:
+    try:
+        path.decode("utf-8")
+    except UnicodeDecodeError:
+        return False
+    return True
+
+
+def _content(given: Source) -> bytes:
+    """The bytes of a path or a text."""
+    if isinstance(given, bytes):
+        return given
+    try:
+        with open(given, "rb") as file:
+            content = file.read(LARGEST_FILE + 1)
+    except OSError:
+        raise Refused("cannot read %s" % os.fsdecode(given), "plan", "cannot read") from None
+    if len(content) > LARGEST_FILE:
+        raise Refused("%s is too large" % os.fsdecode(given), "plan", "too large")
+    return content
+
+
+class Share:
+    """The plans of one piece in a file that may have the plans of others too."""
+
+    def __init__(self, piece: Piece) -> None:
+        self.planner = piece.planner
+        self.plans: Optional[int] = None  # all plans of the file
+        self.last_line = 0  # of the end of the last plan
+
+    def count(self, content: bytes) -> None:
+        """Sets how many plans of the file are those of this content."""
+        plans = SEPARATOR.split(content) if b"---" in content else [content]
+        self.plans, self.last_line = len(plans), plans[-1].count(b"\n") + 1
+
+    def verdicts(self, rest: Iterator[Verdict]) -> List[Verdict]:
+        """The verdicts of this share, which are the next of the file."""
+        if self.plans is None:
+            return list(rest)
+        found = list(itertools.islice(rest, self.plans))
+        # A newline at the end, added for the separator, moves the line of a text that ends too early.
+        if isinstance(found[-1], Unreadable) and found[-1].line > self.last_line:
+            found[-1] = Unreadable(self.last_line)
+        return found
+
+
+def _groups(given: Iterable[Piece]) -> Optional[List[List[Piece]]]:
+    """The pieces for each file: a path, or texts that follow each other. None if more files are needed than the program takes."""
+    groups: List[List[Piece]] = []
+    left = 0
+    for it in given:
+        size = len(it.source) + len(b"\n---\n") if isinstance(it.source, bytes) else LARGEST_FILE
+        if size > left:
+            if len(groups) == MOST_FILES:
+                return None
+            groups.append([])
+            left = LARGEST_FILE
+        groups[-1].append(it)
+        left -= size
+    return groups
+
+
+def _joined(group: List[Piece]) -> Tuple[bytes, List[Share]]:
+    """The texts of a group with separators between them, and their shares."""
+    contents, shares = [], []
+    for it in group:
+        content = _content(it.source)
+        shares.append(Share(it))
+        shares[-1].count(content)
+        contents.append(content if content.endswith(b"\n") else content + b"\n")
+    return b"---\n".join(contents), shares
+
+
+def files(room: Room, given: List[Piece]) -> Tuple[List[bytes], List[List[Share]]]:
+    """The words for the planners' files, and the shares in each. If there are too many paths, their files are read and joined too."""
+    groups = _groups(given) or _groups(dataclasses.replace(it, source=_content(it.source)) for it in given)
+    if groups is None:
+        raise ValueError("the plans are too many for one call: they fill more than %d files of %d bytes" % (MOST_FILES, LARGEST_FILE))
+    words: List[bytes] = []
+    shares: List[List[Share]] = []
+    for group in groups:
+        if len(group) == 1:
+            words.append(room.word(group[0].source, group[0].label))
+            shares.append([Share(group[0])])
+        else:
+            content, parts = _joined(group)
+            words.append(room.file(content, "plans"))
+            shares.append(parts)
+    return words, shares
