@@ -34,8 +34,11 @@ def chosen():
 
 
 def made_of(*words):
-    """What bin/made_of prints."""
-    return subprocess.run([os.path.join(TOP, "bin", "made_of"), *words], check=True, stdout=subprocess.PIPE, text=True).stdout
+    """What bin/made_of prints. If it cannot say, it has told why on standard error, and the script ends."""
+    answer = subprocess.run([os.path.join(TOP, "bin", "made_of"), *words], stdout=subprocess.PIPE, text=True)
+    if answer.returncode:
+        sys.exit(1)
+    return answer.stdout
 
 
 def written(folder, name, data, mode=0o644):

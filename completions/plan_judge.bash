@@ -11,7 +11,7 @@ _plan_judge()
         previous=${COMP_WORDS[COMP_CWORD - 2]}
     fi
     if ((COMP_CWORD == 1)); then
-        words='judge explain replay help'
+        words='judge explain validate replay help'
         [[ $current != -* ]] || words='-h --help -V --version'
     else
         case ${COMP_WORDS[1]}:$previous:$current in
@@ -23,12 +23,16 @@ _plan_judge()
             judge:*) compopt -o default ;;
             explain:--domain:* | explain:--problem:*) compopt -o default ;;
             explain:--dialect:*) words='strips ipc' ;;
-            explain:*:-*) words='--domain --problem --dialect --trace -h --help' ;;
+            explain:--format:*) words='text json' ;;
+            explain:*:-*) words='--domain --problem --dialect --format --trace --lint -h --help' ;;
             explain:*) compopt -o default ;;
+            validate:-t:*) ;;
+            validate:*:-*) words='-v -t -S -h --help' ;;
+            validate:*) compopt -o default ;;
             replay:--domain:* | replay:--problem:* | replay:--steps:*) compopt -o default ;;
             replay:--dialect:*) words='strips ipc' ;;
             replay:*:*) words='--domain --problem --steps --dialect -h --help' ;;
-            help:*:*) words='judge explain replay help' ;;
+            help:*:*) words='judge explain validate replay help' ;;
         esac
     fi
     mapfile -t COMPREPLY < <(compgen -W "$words" -- "$current")

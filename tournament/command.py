@@ -1,34 +1,40 @@
 """The command line of bin/tournament."""
+from __future__ import annotations
+
 import argparse
 import contextlib
 import fcntl
 import os
 import signal
 import sys
+from typing import Any, Callable, Dict, Iterator, List, NoReturn, Optional, Sequence, Set, Tuple
 
-from . import packages
-from .entries import Wrong, from_folder, from_manifest, references
+from . import packages, slurm
+from .entries import ALL, Entry, References, Wrong, from_folder, from_manifest, references
 from .exact import rounded
-from .judging import Judge, Program, judge_all
+from .found import Judged
+from .judging import Judge, Program, judge_all, recall_all
+from .lab import from_lab
 from .last import Last
 from .names import shown
 from .scores import Tournament
 from .store import Store, write
 from .tables import as_json, as_tsv
 
+TASKS = 100  # of Slurm, unless the call says how many
 MARK = ".tournament"  # the file by which a folder is known as a site of this program
 HINT = "; bin/tournament --help says more"
 
 
-def tell(line):
-    """Writes a line to standard error."""
-    print("tournament: " + line, file=sys.stderr)
+def tell(line: str) -> None:
+    """Writes a line to standard error, on a terminal in place of a progress bar that may be there."""
+    print(("\r\033[K" if sys.stderr.isatty() else "") + "tournament: " + line, file=sys.stderr)
 
 
 class Words(argparse.ArgumentParser):
     """The words of the command line."""
 
-    def error(self, message):
+    def error(self, message: str) -> NoReturn:
         """Ends a wrong call with one line."""
         tell(message + HINT)
         sys.exit(2)
@@ -38,14 +44,14 @@ class Once(argparse.Action):
     """An option that may be given once only."""
     is_given = False
 
-    def __call__(self, parser, given, value, spelling=None):
+    def __call__(self, parser: argparse.ArgumentParser, given: argparse.Namespace, value: Any, spelling: Optional[str] = None) -> None:
         if self.is_given and spelling:
             parser.error(spelling + " is given twice")
         self.is_given = True
         setattr(given, self.dest, True if self.nargs == 0 else value)
 
 
-def number_of_jobs(text):
+def number_of_jobs(text: str) -> int:
     """A number of processes."""
     number = int(text)
     if not 1 <= number <= 1024:
@@ -53,10 +59,27 @@ def number_of_jobs(text):
     return number
 
 
-number_of_jobs.__name__ = "number"  # as argparse names it in its messages
+def number_of_tasks(text: str) -> int:
+    """A number of tasks."""
+    number = int(text)
+    if not 1 <= number <= 100000:
+        raise ValueError
+    return number
 
 
-def words_of(argv, text):
+def share_of(text: str) -> Tuple[int, int]:
+    """A share K/N."""
+    which, count = (int(it) for it in text.split("/") if it.isascii() and it.isdecimal())
+    if not 1 <= which <= count:
+        raise ValueError
+    return which, count
+
+
+number_of_jobs.__name__ = number_of_tasks.__name__ = "number"  # as argparse names it in its messages
+share_of.__name__ = "share"
+
+
+def words_of(argv: List[str], text: str) -> argparse.Namespace:
     """The options of a call."""
     if any(it in ("-h", "--help") for it in argv):
         print(text, end="")
@@ -65,6 +88,7 @@ def words_of(argv, text):
     parser.register("action", None, Once)
     parser.add_argument("folder", nargs="?")
     parser.add_argument("--manifest")
+    parser.add_argument("--lab")
     parser.add_argument("--out")
     parser.add_argument("-j", "--jobs", type=number_of_jobs, default=len(os.sched_getaffinity(0)))
     parser.add_argument("--dialect", choices=["ipc", "strips"], default="ipc")
@@ -72,30 +96,43 @@ def words_of(argv, text):
     parser.add_argument("--compare", nargs=2, action="append", default=[])
     parser.add_argument("--title", default="Standings")
     parser.add_argument("--no-site", action=Once, nargs=0, default=False)
-    given = parser.parse_args(argv)
-    if (given.folder is None) == (given.manifest is None):
-        parser.error("it takes either FOLDER or --manifest FILE.tsv")
+    parser.add_argument("--share", type=share_of)
+    parser.add_argument("--slurm")
+    parser.add_argument("--tasks", type=number_of_tasks)
+    given = parser.parse_args(["--slurm=" if it == "--slurm" else it for it in argv])  # so that it does not take the next word
+    if [given.folder, given.manifest, given.lab].count(None) != 2:
+        parser.error("it takes either FOLDER, --manifest FILE.tsv or --lab FOLDER")
     if given.out is None:
         parser.error("--out SITE is missing")
+    if given.share is not None and given.slurm is not None:
+        parser.error("--share and --slurm exclude each other")
+    if given.tasks is not None and given.slurm is None:
+        parser.error("--tasks is for --slurm only")
     if given.folder is not None and is_below(given.out, given.folder):
         parser.error("SITE is in FOLDER, and would be read as an output of planners")
     return given
 
 
-def is_below(path, folder):
+def is_below(path: str, folder: str) -> bool:
     """Whether a path is a folder or in it."""
     whole, top = os.path.realpath(path), os.path.realpath(folder)
     return os.path.commonpath([whole, top]) == top
 
 
-@contextlib.contextmanager
-def site_folder(path):
-    """Makes the folder of the site, and keeps other calls out of it. A folder with other content is left alone."""
+def mark_site(path: str) -> str:
+    """Makes the folder of the site, and returns the file that marks it. A folder with other content is left alone."""
     mark = os.path.join(path, MARK)
     if os.path.isdir(path) and os.listdir(path) and not os.path.exists(mark):
         raise Wrong("%s is not empty, and is no site of bin/tournament" % path)
     os.makedirs(path, exist_ok=True)
-    with open(mark, "w") as file:
+    with open(mark, "a"):
+        return mark
+
+
+@contextlib.contextmanager
+def site_folder(path: str) -> Iterator[None]:
+    """The folder of the site. Other calls are kept out of it, except those for a share, which only add reports."""
+    with open(mark_site(path), "a") as file:
         try:
             fcntl.flock(file, fcntl.LOCK_EX | fcntl.LOCK_NB)
         except BlockingIOError as error:
@@ -104,29 +141,81 @@ def site_folder(path):
 
 
 @contextlib.contextmanager
-def progress(text, count, unit="problem"):
-    """A progress bar on a terminal, if the package is there: the function to call after each of so many pieces of work."""
+def progress(text: str, count: int, unit: str = "problem") -> Iterator[Callable[..., object]]:
+    """A progress bar on a terminal, if the package is there: the function to call after each of so many pieces of work, or with their number."""
     if "tqdm" in packages.missing():
         yield lambda *_: None
         return
     from tqdm import tqdm
     with tqdm(total=count, desc=text, unit=" " + unit, disable=None, dynamic_ncols=True) as bar:
-        yield lambda *_: bar.update()
+        yield bar.update
 
 
-def judged(entries, given):
+def entries_of(given: argparse.Namespace) -> List[Entry]:
+    """What takes part, or the share of it that the call is for."""
+    chosen = ALL if given.share is None else slurm.share(*given.share)
+    if given.lab is not None:
+        return from_lab(given.lab, chosen)
+    return from_folder(given.folder, chosen) if given.folder is not None else from_manifest(given.manifest)[chosen]
+
+
+class Count:
+    """How many problems are judged."""
+    value = 0
+
+    def add(self, number: int = 1) -> None:
+        """Counts more of them."""
+        self.value += number
+
+
+def judged(entries: List[Entry], given: argparse.Namespace) -> List[Judged]:
     """What plan_judge finds of the entries."""
     judge = Judge(Program(given.dialect), Store(os.path.join(given.out, "reports")), explains=not given.no_site)
-    done = []
+    found: Dict[int, Judged] = {}
+    count = Count()
     try:
+        if given.slurm is not None:
+            recall_all(judge, entries, found, lambda _: count.add())
+            judge_elsewhere(judge, entries, given, [at for at in range(len(entries)) if at not in found], count)
+            count.value = len(found)
         with progress("judging", len(entries)) as tick:
-            return judge_all(judge, entries, given.jobs, lambda it: (done.append(it), tick()))
-    except KeyboardInterrupt:
-        tell("interrupted: %d of %d problems are judged" % (len(done), len(entries)))
-        raise
+            tick(len(found))
+
+            def judged_one(_: Judged) -> None:
+                count.add()
+                tick()
+
+            return judge_all(judge, entries, given.jobs, found, judged_one)
+    except KeyboardInterrupt as interrupt:
+        raise KeyboardInterrupt(*interrupt.args, "%d of %d problems are judged" % (count.value, len(entries))) from None
 
 
-def notes(tournament, known):
+def judge_elsewhere(judge: Judge, entries: List[Entry], given: argparse.Namespace, left: List[int], count: Count) -> None:
+    """Has problems judged by Slurm, as far as they can be read here."""
+    tasks = slurm.Tasks(judge.store, entries, [at for at in left if judge.is_readable(entries[at])], given.tasks or TASKS)
+    if tasks.left:
+        with progress("in tasks", len(tasks.left)) as tick:
+            def judged_more(number: int) -> None:
+                count.add(number)
+                tick(number)
+
+            slurm.judge_there(given, judge.program.path, tasks, judged_more, tell)
+
+
+def judge_share(entries: List[Entry], given: argparse.Namespace) -> int:
+    """Judges a share of the problems and keeps the reports. Returns the status."""
+    which, count = given.share
+    mark_site(given.out)
+    found = judged(entries, given)
+    failed = [it for it in found if not it.kept]
+    line = "share %d/%d: %d of %d problems are judged" % (which, count, len(found) - len(failed), len(found))
+    for it in failed[:1]:
+        line += "; the first that failed is %s %s: %s" % (shown(it.entry.domain), shown(it.entry.problem), shown(it.refused or it.unexplained))
+    tell(line)
+    return 1 if failed else 0
+
+
+def notes(tournament: Tournament, known: References) -> List[str]:
     """What the organiser should know, as lines of text."""
     lines = []
     for found in tournament.found:
@@ -146,7 +235,7 @@ def notes(tournament, known):
     return lines
 
 
-def planners_notes(tournament, planner):
+def planners_notes(tournament: Tournament, planner: str) -> Iterator[str]:
     """What the organiser should know of a planner: what is passed over, in one line however much that is, and whether it has no plan."""
     passed = [it for found in tournament.found for it in found.entry.passed.get(planner, [])]
     if passed:
@@ -159,19 +248,21 @@ def planners_notes(tournament, planner):
         yield "%s has no plan at all%s" % (shown(planner), hint)
 
 
-def standings_text(tournament):
+def standings_text(tournament: Tournament) -> str:
     """The standings as a small table."""
     lines = [["rank", "planner", "coverage", "score", "valid", "failed"]]
     for rank, planner, total in tournament.standings():
         lines.append([str(rank), shown(planner), str(total.coverage), rounded(total.score, 2), str(total.valid), str(total.failed)])
     widths = [max(len(line[at]) for line in lines) for at in range(6)]
-    pad = lambda at, cell: cell.ljust(widths[at]) if at == 1 else cell.rjust(widths[at])
-    return "".join("  ".join(pad(at, cell) for at, cell in enumerate(line)) + "\n" for line in lines)
+    padded = [[cell.ljust(width) if at == 1 else cell.rjust(width) for at, (cell, width) in enumerate(zip(line, widths))] for line in lines]
+    return "".join("  ".join(line) + "\n" for line in padded)
 
 
-def run(given):
+def run(given: argparse.Namespace) -> int:
     """Judges, and writes the results and the site. Returns the status."""
-    entries = from_folder(given.folder) if given.folder is not None else from_manifest(given.manifest)
+    entries = entries_of(given)
+    if given.share is not None:
+        return judge_share(entries, given)
     known = references(given.reference) if given.reference is not None else {}
     planners = {it for entry in entries for it in entry.plans}
     if not planners:
@@ -188,11 +279,11 @@ def run(given):
     return 0 if sound else 1
 
 
-def write_all(found, known, given, last):
+def write_all(found: List[Judged], known: References, given: argparse.Namespace, last: Last) -> Dict[str, Any]:
     """Writes the results and, unless only these are wanted, the site. Returns what there is to say."""
     tournament = Tournament(found, known, given.dialect)
     results = {"results.tsv": as_tsv(tournament).encode(), "results.json": as_json(tournament).encode()}
-    problems = {}
+    problems: Dict[str, str] = {}
     if given.no_site:
         last.forget()
         for name, data in results.items():
@@ -206,14 +297,14 @@ def write_all(found, known, given, last):
     return said
 
 
-def check_pairs(pairs, planners):
+def check_pairs(pairs: List[List[str]], planners: Set[str]) -> None:
     """Ends the call if --compare names a planner that is not there."""
     for planner in (it for pair in pairs for it in pair):
         if planner not in planners:
             raise Wrong("--compare names %s; the planners are %s" % (shown(planner), ", ".join(map(shown, sorted(planners)))))
 
 
-def use_packages(argv):
+def use_packages(argv: Sequence[str]) -> bool:
     """Goes on with a Python that has all packages, or says which are missing and returns False."""
     python = packages.python_with_packages()
     if python is None:
@@ -224,19 +315,21 @@ def use_packages(argv):
     return True
 
 
-def main(argv, text):
+def main(argv: List[str], text: str) -> int:
     """Runs a call of bin/tournament, and returns its status."""
     given = words_of(argv, text)
-    if not given.no_site and not use_packages(argv):
+    if not given.no_site and given.share is None and not use_packages(argv):
         return 1
     signal.signal(signal.SIGTERM, signal.default_int_handler)
+    if signal.getsignal(signal.SIGHUP) == signal.SIG_DFL:  # which nohup ignores
+        signal.signal(signal.SIGHUP, signal.default_int_handler)
     try:
         return run(given)
     except Wrong as wrong:
         tell(str(wrong))
     except OSError as error:
         tell("%s: %s" % (error.filename or "cannot write", error.strerror))
-    except KeyboardInterrupt:
-        tell("the reports are kept, and the same call goes on from there")
+    except KeyboardInterrupt as interrupt:
+        tell("interrupted: %s" % "; ".join([*interrupt.args, "the reports are kept, and the same call goes on from there"]))
         return 130
     return 1

@@ -1,105 +1,78 @@
 """Judges the plans of each problem with one call of plan_judge, several problems at a time."""
+from __future__ import annotations
+
 import concurrent.futures
-import contextlib
 import dataclasses
-import functools
 import os
-import shutil
 import subprocess
 import sys
-import tempfile
-import threading
+from typing import Callable, Dict, List, Optional, Union
 
-from .entries import Wrong
+import plan_judge
+from plan_judge import CallFailed, Dialect, Named, ProgramMissing, Refused, Stopper
+
+from .entries import Entry, Wrong
+from .found import Judged, Reports
 from .metric import why_unscored
 from .names import file_name
-from .plans import Plan, Unread, batches, bundled, plan_files, read_file
-from .reports import Report, Unexpected
-from .store import Answer, fingerprint
+from .plans import Bundle, Plan, PlanFile, Unread, batches, bundled, plan_files, read_file
+from .store import Answer, Store, fingerprint
 
-FORMAT = "2"  # changes when kept reports of an earlier version can no longer be used
+FORMAT = "3"  # changes when kept reports of an earlier version can no longer be used
 STAND_IN = "/dev/null"  # an empty plan: it shows whether a problem without any plan is accepted
 MOST_LINES, MOST_LETTERS = 60, 300  # of an explanation, and of each of its lines
-
-
-@dataclasses.dataclass
-class Judged:
-    """A problem with what was found: its plans, and the report, or why there is none.
-
-    MARK is the fingerprint of the input. If the plans were judged but cannot be scored, UNSCORED says why. EXPLAINED is as in an Answer, and
-    UNEXPLAINED says why something could not be explained.
-    """
-    entry: object
-    plans: list
-    report: object = None
-    refused: str = ""
-    mark: str = ""
-    unscored: str = ""
-    explained: dict = dataclasses.field(default_factory=dict)
-    unexplained: str = ""
-    kept: bool = True  # whether the next call may use it again
-
-
-class Recalled(Judged):
-    """A problem whose answer was kept. Its plans and its report are read once something asks for them."""
-
-    def __init__(self, entry, mark, answer):
-        self.entry, self.mark, self.answer = entry, mark, answer
-        self.refused, self.unscored, self.explained = answer.refused, answer.unscored, answer.explained or {}
-
-    @functools.cached_property
-    def plans(self):
-        """The plans."""
-        return [Plan(*it) for it in self.answer.plans]
-
-    @functools.cached_property
-    def report(self):
-        """The report, or None if the problem is refused."""
-        return None if self.refused else Report(self.answer.report.decode("utf-8", "replace"), self.answer.layout)
+FAILURES = (CallFailed, ProgramMissing, ValueError)  # of a call; the last if it cannot be made here, as the input is within all limits
 
 
 class Input:
     """What a problem is judged from: the texts of the domain and the problem, or why these cannot be read, and the plan files."""
 
-    def __init__(self, entry, program_mark):
-        self.files, self.texts, self.unread = plan_files(entry.plans), [], ""
+    def __init__(self, entry: Entry, program_mark: str) -> None:
+        self.files: List[PlanFile] = plan_files(entry.plans)
+        self.texts: List[bytes] = []
+        self.unread = ""
         try:
             self.texts = [read_file(entry.domain_file, "domain.pddl"), read_file(entry.problem_file, "problem.pddl")]
         except Unread as unread:
             self.unread = str(unread)
-        pieces = [program_mark, self.unread, *self.texts]
+        pieces: List[Union[str, bytes]] = [program_mark, self.unread, *self.texts]
         for file in self.files:
             pieces += [repr((file.planner, file.name, file.unread)), file.text]
         self.mark = fingerprint(pieces)
 
 
 class Program:
-    """The program that judges, with the words that each call has."""
+    """The program that judges, and its calls, which `stop` ends."""
 
-    def __init__(self, dialect):
+    def __init__(self, dialect: Dialect) -> None:
         self.path = find_program()
-        self.dialect = dialect
+        self.dialect: Dialect = dialect
+        self.stopper = Stopper()
         with open(self.path, "rb") as file:
             self.mark = fingerprint([FORMAT, dialect, file.read()])
 
-    def words(self, command, front, names):
-        """The words of a call in a folder with these plans; the front leads to the folder of the domain and the problem."""
-        dialect = [] if self.dialect == "strips" else ["--dialect", self.dialect]
-        files = ["--domain", front + "domain.pddl", "--problem", front + "problem.pddl"]
-        return [self.path, *command, *dialect, *files, *names]
+    def judge(self, texts: List[bytes], plans: Dict[str, bytes]) -> plan_judge.Report:
+        """The report on the plans of planners."""
+        domain, problem = texts
+        return plan_judge.judge(domain, problem, plans, dialect=self.dialect, workers=1, program=self.path, stopper=self.stopper)
+
+    def explain(self, texts: List[bytes], plans: List[Named]) -> str:
+        """What explain says."""
+        domain, problem = Named("domain.pddl", texts[0]), Named("problem.pddl", texts[1])
+        return plan_judge.explain(domain, problem, plans, dialect=self.dialect, program=self.path, stopper=self.stopper).text
 
 
-def find_program():
+def find_program() -> str:
     """The program: PLAN_JUDGE of the environment, or plan_judge beside the script; for bin/plan_judge of a repository the program that it runs."""
     here = os.path.dirname(os.path.dirname(os.path.realpath(__file__)))
     wrapper, script = os.path.join(here, "bin", "plan_judge"), os.path.abspath(sys.argv[0])
     beside = [os.path.join(os.path.dirname(it), "plan_judge") for it in (script, os.path.realpath(script))]
-    named = os.environ.get("PLAN_JUDGE") or next((it for it in beside if os.path.exists(it)), "plan_judge")
-    path = shutil.which(named)
-    if path is None:
-        raise Wrong("there is no program %s" % named)
+    own = None if os.environ.get("PLAN_JUDGE") else next((it for it in beside if os.path.exists(it)), None)
     try:
+        path = plan_judge.find_program(own)
         runs = subprocess.run([path, "--version"], stdin=subprocess.DEVNULL, stdout=subprocess.DEVNULL).returncode == 0
+    except ProgramMissing as missing:
+        raise Wrong(str(missing)) from missing
     except OSError:
         runs = False
     if not runs:
@@ -112,11 +85,10 @@ def find_program():
 class Judge:
     """Judges problems, and keeps the reports. Several threads may call it."""
 
-    def __init__(self, program, store, explains=False):
+    def __init__(self, program: Program, store: Store, explains: bool = False) -> None:
         self.program, self.store, self.explains = program, store, explains
-        self.running, self.lock, self.stopped = set(), threading.Lock(), False
 
-    def recall(self, entry):
+    def recall(self, entry: Entry) -> Optional[Judged]:
         """What is found of a problem whose answer is kept, or None if it has to be judged."""
         if not self.store.has(entry):
             return None
@@ -124,9 +96,9 @@ class Judge:
         answer = self.store.kept(entry, mark)
         if answer is None or self.explains and answer.explained is None:
             return None
-        return Recalled(entry, mark, answer)
+        return self.judged(entry, [Plan(*it) for it in answer.plans], mark, answer)
 
-    def judge(self, entry):
+    def judge(self, entry: Entry) -> Judged:
         """What is found of one problem: from the answer that is kept, or from a call of plan_judge."""
         given = Input(entry, self.program.mark)
         plans, bundles = bundled(given.files)
@@ -143,124 +115,78 @@ class Judge:
         found.explained = answer.explained or {}
         return found
 
-    def judged(self, entry, plans, mark, answer):
+    def judged(self, entry: Entry, plans: List[Plan], mark: str, answer: Answer) -> Judged:
         """What an answer says of a problem."""
-        if answer.refused or answer.trouble:
-            return Judged(entry, plans, refused=answer.refused or answer.trouble, mark=mark, kept=not answer.trouble)
-        try:
-            return Judged(entry, plans, Report(answer.report.decode("utf-8", "replace"), answer.layout), mark=mark, unscored=answer.unscored)
-        except Unexpected as unexpected:
-            return Judged(entry, plans, refused="the report of plan_judge has another form: %s" % unexpected, mark=mark, kept=False)
+        refused = answer.refused or answer.trouble
+        return Judged(
+            entry, plans, None if refused else answer.reports, refused, mark, answer.unscored, answer.explained or {}, kept=not answer.trouble)
 
-    def ask(self, texts, plans, bundles):
+    def ask(self, texts: List[bytes], plans: List[Plan], bundles: List[Bundle]) -> Answer:
         """Calls plan_judge, and returns its answer."""
-        groups, reports = batches(bundles), []
-        answer = Answer(plans=[dataclasses.astuple(it) for it in plans], unscored=why_unscored(texts[1]))
-        answer.layout = [[(it.name, len(it.texts)) for it in group] for group in groups] or [[(STAND_IN, 1)]]
-        with folder_with(texts) as folder:
-            for number, group in enumerate(groups or [None]):
-                room = os.path.join(folder, "plans%d" % number)
-                os.mkdir(room)
-                for bundle in group or []:
-                    place(os.path.join(room, bundle.name), bundle.content())
-                names = [it.name for it in group] if group else [STAND_IN]
-                status, out, said = self.call(self.program.words(["judge", "--workers", "1"], "../", names), room)
-                if status == 1:
-                    return dataclasses.replace(answer, refused=said, unscored="")
-                if status != 0:
-                    return dataclasses.replace(answer, trouble=ended(status, said))
-                reports.append(out)
-        return dataclasses.replace(answer, report=b"".join(reports))
+        answer = Answer(plans=list(map(dataclasses.astuple, plans)), unscored=why_unscored(texts[1]))
+        groups = [{it.name: it.content() for it in group} for group in batches(bundles)]
+        try:
+            answer.reports = Reports([self.program.judge(texts, it) for it in groups or [{STAND_IN: b""}]])
+        except Refused as refused:
+            return dataclasses.replace(answer, refused=printable(str(refused)), unscored="")
+        except FAILURES as failed:
+            return dataclasses.replace(answer, trouble=printable(" ".join(str(failed).split())), unscored="")
+        return answer
 
-    def explain(self, found, answer, texts, bundles):
+    def explain(self, found: Judged, answer: Answer, texts: List[bytes], bundles: List[Bundle]) -> None:
         """Adds to an answer what explain says of the refused input, or of each planner's first plan that is not valid."""
         contents = {(it.name, number): text for it in bundles for number, text in enumerate(it.texts, 1)}
-        explained = {}
-        with folder_with(texts) as folder:
-            if found.refused:
-                explained[""] = self.explanation("", [], folder, found)
-            for number, plan in enumerate(first_failing(found)):
-                room = os.path.join(folder, "plan%d" % number)
-                os.mkdir(room)
-                name = file_name("plan-%d-of-%s" % (plan.part, plan.file) if plan.part else plan.file)
-                place(os.path.join(room, name), contents[plan.bundle, plan.number])
-                explained[file_name(plan.planner)] = self.explanation("../", [name], room, found)
+        explained = {"": self.explanation(found, texts, [])} if found.refused else {}
+        for plan in found.first_failing():
+            name = file_name("plan-%d-of-%s" % (plan.part, plan.file) if plan.part else plan.file)
+            explained[file_name(plan.planner)] = self.explanation(found, texts, [Named(name, contents[plan.bundle, plan.number])])
         if found.kept:
             answer.explained = explained
 
-    def explanation(self, front, names, folder, found):
+    def explanation(self, found: Judged, texts: List[bytes], plans: List[Named]) -> str:
         """What explain says in a call, without what is too much for a page."""
-        status, out, said = self.call(self.program.words(["explain"], front, names), folder)
-        if status not in (0, 1):
-            found.unexplained, found.kept = ended(status, said), False
-        lines = out.decode("utf-8", "replace").splitlines()
+        try:
+            lines = printable(self.program.explain(texts, plans)).splitlines()
+        except FAILURES as failed:
+            found.unexplained, found.kept = printable(" ".join(str(failed).split())), False
+            return ""
         kept = [it if len(it) <= MOST_LETTERS else it[:MOST_LETTERS] + ".." for it in lines[:MOST_LINES]]
         return "\n".join(kept + [".."] * (len(lines) > MOST_LINES))
 
-    def call(self, words, folder):
-        """Runs a program, which stop ends: its status, its output, and what it said on standard error in one line."""
-        with self.lock:
-            if self.stopped:
-                raise KeyboardInterrupt
-            process = subprocess.Popen(words, cwd=folder, stdin=subprocess.DEVNULL, stdout=subprocess.PIPE, stderr=subprocess.PIPE)
-            self.running.add(process)
+    def is_readable(self, entry: Entry) -> bool:
+        """Whether the domain and the problem can be read."""
         try:
-            out, said = process.communicate()
-        finally:
-            with self.lock:
-                self.running.discard(process)
-        if self.stopped:
-            raise KeyboardInterrupt
-        return process.returncode, out, " ".join(said.decode("utf-8", "replace").split())
+            read_file(entry.domain_file, "")
+            read_file(entry.problem_file, "")
+        except Unread:
+            return False
+        return True
 
-    def stop(self):
+    def stop(self) -> None:
         """Ends all calls, and lets no other begin."""
-        with self.lock:
-            self.stopped = True
-            for process in self.running:
-                process.kill()
+        self.program.stopper.stop()
 
 
-def place(path, data):
-    """Writes a file of a call."""
-    with open(path, "wb") as file:
-        file.write(data)
+def printable(text: str) -> str:
+    """A text of the program in which bytes that are no UTF-8 are replaced."""
+    return text.encode("utf-8", "surrogateescape").decode("utf-8", "replace")
 
 
-@contextlib.contextmanager
-def folder_with(texts):
-    """A folder for a call, with the texts of the domain and the problem."""
-    with tempfile.TemporaryDirectory(prefix="tournament-") as folder:
-        for name, text in zip(("domain.pddl", "problem.pddl"), texts):
-            place(os.path.join(folder, name), text)
-        yield folder
-
-
-def ended(status, said):
-    """How a call ended that went wrong, in words."""
-    return "plan_judge ended with status %d: %s" % (status, said or "no message")
-
-
-def first_failing(found):
-    """Each planner's first plan that was judged and is not valid."""
-    plans = {}
-    for plan in found.plans if found.report else []:
-        if not plan.unread and not found.report.verdicts[plan.bundle, plan.number].valid:
-            plans.setdefault(plan.planner, plan)
-    return list(plans.values())
-
-
-def judge_all(judge, entries, jobs, tick):
-    """What is found of all entries, in their order. The function tick is called after each; an interrupt ends the calls that run.
-
-    Kept answers are recalled one by one, since threads would only wait for each other there. The other problems are judged side by side.
-    """
-    found = {}
+def recall_all(judge: Judge, entries: List[Entry], found: Dict[int, Judged], tick: Callable[[Judged], object]) -> None:
+    """Adds to what is found, by the numbers of entries, all answers that are kept. One by one, since threads would only wait for each other."""
     for at, entry in enumerate(entries):
-        recalled = judge.recall(entry)
+        recalled = None if at in found else judge.recall(entry)
         if recalled:
             found[at] = recalled
             tick(recalled)
+
+
+def judge_all(judge: Judge, entries: List[Entry], jobs: int, found: Dict[int, Judged], tick: Callable[[Judged], object]) -> List[Judged]:
+    """What is found of all entries, in their order, if some are found already. Problems whose answers are not kept are judged side by side.
+
+    The function tick is called after each that was not found. An interrupt ends the calls that run.
+    """
+    recall_all(judge, entries, found, tick)
     with concurrent.futures.ThreadPoolExecutor(jobs) as pool:
         waiting = {at: pool.submit(judge.judge, entry) for at, entry in enumerate(entries) if at not in found}
         try:

@@ -1,5 +1,8 @@
 """The metric of a problem, which plan_judge passes over: the score is for minimizing total-cost, and for a problem without a metric."""
+from __future__ import annotations
+
 import re
+from typing import Optional
 
 COMMENT = re.compile(rb";[^\n]*")
 SECTION = re.compile(rb"\([ \t\n\r\v\f]*:metric(?=[ \t\n\r\v\f()])", re.IGNORECASE)
@@ -8,7 +11,7 @@ SCORED = ["minimize (total-cost)", "minimize total-cost"]
 LONGEST = 80  # letters of a metric that are shown
 
 
-def metric_of(text):
+def metric_of(text: bytes) -> Optional[str]:
     """The metric of a problem that plan_judge accepts, in lower case with single spaces, or None if the problem has none."""
     text, depth, passed = COMMENT.sub(b"", text), 0, 0
     for found in SECTION.finditer(text):
@@ -19,7 +22,7 @@ def metric_of(text):
     return None
 
 
-def spelled(text, start):
+def spelled(text: bytes, start: int) -> str:
     """The words from an offset on, up to the end of the list that is open there."""
     words, depth = "", 0
     for found in TOKEN.finditer(text, start):
@@ -33,7 +36,7 @@ def spelled(text, start):
     return words
 
 
-def why_unscored(text):
+def why_unscored(text: bytes) -> str:
     """Why plans for a problem are not scored, or nothing if they are."""
     metric = metric_of(text)
     if metric is None or metric in SCORED:

@@ -1,8 +1,11 @@
 """Plan files: their texts, what the planner says of their costs, and the bundles that plan_judge takes."""
+from __future__ import annotations
+
 import dataclasses
 import os
 import re
 import stat
+from typing import Dict, List, Mapping, Sequence, Tuple
 
 from .names import file_name, shown
 
@@ -38,31 +41,31 @@ class Plan:
 class Bundle:
     """A file for plan_judge: plans of one planner, with a line of three dashes between two."""
     name: str
-    texts: list = dataclasses.field(default_factory=list)
+    texts: List[bytes] = dataclasses.field(default_factory=list)
     size: int = 0
 
-    def has_room(self, text):
+    def has_room(self, text: bytes) -> bool:
         """Whether one more plan can be added within the limits."""
         return len(self.texts) < MOST_PLANS and self.size + len(text) + 5 <= MOST_BYTES
 
-    def add(self, text):
+    def add(self, text: bytes) -> int:
         """Adds a plan, and returns its number."""
         self.texts.append(text)
         self.size += len(text) + 5
         return len(self.texts)
 
-    def content(self):
+    def content(self) -> bytes:
         """The bytes of the file. A text without a newline at its end gets one only where a separator follows."""
         closed = [it if it.endswith(b"\n") or not it else it + b"\n" for it in self.texts[:-1]]
         return b"---\n".join(closed + self.texts[-1:])
 
 
-def is_compressed(name):
+def is_compressed(name: str) -> bool:
     """Whether a file is compressed, by its name."""
     return name.lower().endswith(COMPRESSED)
 
 
-def read_file(path, name):
+def read_file(path: str, name: str) -> bytes:
     """The bytes of a file that plan_judge can take."""
     if is_compressed(path):
         raise Unread("%s is %s" % (name, UNPACK))
@@ -84,13 +87,13 @@ def read_file(path, name):
     return text
 
 
-def own_cost(text):
+def own_cost(text: bytes) -> str:
     """What the planner says that the plan costs (its last line "; cost = N"), as text, or nothing."""
-    found = OWN_COST.findall(text)
+    found: List[bytes] = OWN_COST.findall(text)
     return found[-1].decode() if found else ""
 
 
-def labels(paths):
+def labels(paths: Sequence[str]) -> List[str]:
     """What the files are called on the pages: their names if these differ, else their paths."""
     names = [os.path.basename(it) for it in paths]
     return [shown(it) for it in (names if len(set(names)) == len(names) else paths)]
@@ -105,7 +108,7 @@ class PlanFile:
     unread: str = ""
 
 
-def plan_files(plans):
+def plan_files(plans: Mapping[str, Sequence[str]]) -> List[PlanFile]:
     """The files of all planners, read; plans has the paths of each."""
     files = []
     for planner, paths in plans.items():
@@ -117,9 +120,10 @@ def plan_files(plans):
     return files
 
 
-def bundled(files):
+def bundled(files: Sequence[PlanFile]) -> Tuple[List[Plan], List[Bundle]]:
     """The plans of files with their bundles. A file with separators holds several plans."""
-    plans, bundles = [], {}
+    plans: List[Plan] = []
+    bundles: Dict[str, List[Bundle]] = {}
     for file in files:
         if file.unread:
             plans.append(Plan(file.planner, file.name, unread=file.unread))
@@ -134,9 +138,10 @@ def bundled(files):
     return plans, [it for own in bundles.values() for it in own]
 
 
-def batches(bundles):
+def batches(bundles: Sequence[Bundle]) -> List[List[Bundle]]:
     """The bundles in groups, each of which one call of plan_judge can take."""
-    groups, count = [], 0
+    groups: List[List[Bundle]] = []
+    count = 0
     for bundle in bundles:
         if not groups or len(groups[-1]) == MOST_PLANNERS or count + len(bundle.texts) > MOST_PLANS:
             groups.append([])

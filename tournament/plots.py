@@ -1,15 +1,23 @@
 """The plots, as SVG. Colours are variables of CSS, so a page in the dark has other ones; shapes tell planners apart without any colour."""
+from __future__ import annotations
+
 import html
 import io
 import re
+from typing import Any, Callable, Dict, Iterable, List, Match, Optional, Sequence, Tuple
 
 import matplotlib
 from matplotlib.figure import Figure
 from matplotlib.ticker import FuncFormatter, LogLocator, MaxNLocator, NullLocator
 from matplotlib.transforms import ScaledTranslation
 
-from .exact import cost_text, rounded
+from .exact import Number, cost_text, rounded
 from .names import shown
+from .scores import Total
+
+Axes = Any  # of matplotlib, whose types are not known
+Point = Tuple[Optional[Number], Optional[Number], str, str]  # two costs, a link and a name
+Progress = Tuple[str, List[Tuple[int, Number]], List[str]]  # a planner, its plans' numbers with the least costs up to them, and links
 
 MOST_SERIES = 8  # planners in one plot, as there are colours and shapes
 MOST_BARS = 24  # planners in the plot of scores
@@ -31,30 +39,30 @@ matplotlib.rcParams.update({
     "legend.frameon": False, "legend.fontsize": 8.5, "axes.facecolor": "none", "figure.facecolor": "none"})
 
 
-def variables(colours):
+def variables(colours: Dict[str, str]) -> str:
     """Colours as variables of CSS."""
     return "; ".join("--%s: %s" % it for it in colours.items())
 
 
-def series(at):
+def series(at: int) -> Tuple[str, str]:
     """The colour and the shape of a planner."""
     return STAND_INS["p%d" % at], SHAPES[at]
 
 
-def short(name, most=22):
+def short(name: str, most: int = 22) -> str:
     """A name as it fits into a plot."""
     text = shown(name)
     return text if len(text) <= most else text[:most - 1] + "\u2026"
 
 
-def canvas(height, left, bottom=0.5, top=0.12, right=0.15):
+def canvas(height: float, left: float, bottom: float = 0.5, top: float = 0.12, right: float = 0.15) -> Tuple[Any, Axes]:
     """A figure of this height with one pair of axes; all margins are in inches."""
     figure = Figure(figsize=(WIDTH, height))
     axes = figure.add_axes([left / WIDTH, bottom / height, (WIDTH - left - right) / WIDTH, (height - bottom - top) / height])
     return figure, axes
 
 
-def margin(names):
+def margin(names: Iterable[str]) -> float:
     """The room for names at the left, in inches."""
     return 0.25 + 0.085 * max(map(len, names), default=1)
 
@@ -62,17 +70,17 @@ def margin(names):
 class Names:
     """The names of a plot's points, which are shown on hovering and read by screen readers."""
 
-    def __init__(self):
-        self.texts = []
+    def __init__(self) -> None:
+        self.texts: List[str] = []
 
-    def link(self, href, text):
+    def link(self, href: str, text: str) -> str:
         """A link of a point that has this name."""
         self.texts.append(html.escape(text))
         return "%s@name@%d" % (href, len(self.texts) - 1)
 
-    def put_into(self, body):
+    def put_into(self, body: str) -> str:
         """The text of a plot with the names at its links."""
-        def named(found):
+        def named(found: Match[str]) -> str:
             """A link with its name."""
             front, at, shape = found.groups()
             text = self.texts[int(at)]
@@ -80,7 +88,7 @@ class Names:
         return NAMED.sub(named, body)
 
 
-def svg(figure, name, title, names, description):
+def svg(figure: Any, name: str, title: str, names: Names, description: str) -> str:
     """The text of a figure, to be put into a page: no prolog, identifiers of its own, colours as variables.
 
     It is a group, since its points are links; each of these is an image with a name.
@@ -88,7 +96,7 @@ def svg(figure, name, title, names, description):
     out = io.StringIO()
     figure.savefig(out, format="svg", metadata={"Date": None, "Creator": None, "Format": None, "Type": None})
     text = out.getvalue()
-    box = re.search(r'viewBox="([^"]*)"', text).group(1)
+    box = re.findall(r'viewBox="([^"]*)"', text)[0]
     body = text[text.index("</defs>") + 7:] if text.index("<defs>") < text.index("<g ") else text[text.index("<g "):]
     body = re.sub(r'(\bid="|url\(#|xlink:href="#)', lambda it: it.group() + name + "-", body)
     for variable, colour in STAND_INS.items():
@@ -98,7 +106,7 @@ def svg(figure, name, title, names, description):
     return head + names.put_into(body.lstrip())
 
 
-def alone(text, root):
+def alone(text: str, root: str) -> str:
     """The text of a plot as a file of its own, in light and dark."""
     dark = "@media screen and (prefers-color-scheme: dark) { svg { background: #15191d; %s } }" % variables(DARK)
     style = "<style>svg { background: #fff } %s</style>" % dark
@@ -106,7 +114,7 @@ def alone(text, root):
     return '<?xml version="1.0" encoding="utf-8"?>\n' + (text[:at] + style + text[at:]).replace(ROOT, root)
 
 
-def score_plot(standings, link):
+def score_plot(standings: Sequence[Tuple[int, str, Total]], link: Callable[[str], str]) -> str:
     """Bars with the score of each planner."""
     rows, points, standings = [short(planner) for _, planner, _ in standings[:MOST_BARS]], Names(), standings[:MOST_BARS]
     figure, axes = canvas(0.65 + 0.28 * len(rows), margin(rows), right=0.55)
@@ -121,7 +129,7 @@ def score_plot(standings, link):
     return svg(figure, "score", "Score by planner", points, "A bar for each planner, the highest score on top.")
 
 
-def rows_axis(axes, names):
+def rows_axis(axes: Axes, names: Sequence[str]) -> None:
     """Names down the left side, the first one on top."""
     axes.set_yticks(range(len(names)), names)
     axes.set_ylim(len(names) - 0.5, -0.5)
@@ -130,7 +138,7 @@ def rows_axis(axes, names):
     axes.xaxis.set_major_locator(MaxNLocator(5, integer=True))
 
 
-def coverage_plot(domains, planners, link):
+def coverage_plot(domains: Sequence[Tuple[str, List[int]]], planners: Sequence[str], link: Callable[[str, str], str]) -> str:
     """For each domain a line to each planner's number of solved problems. Domains are pairs of a name and the planners' numbers."""
     planners, group, points = planners[:MOST_SERIES], len(planners[:MOST_SERIES]) + 1.2, Names()
     rows = [short(name) for name, _ in domains]
@@ -156,7 +164,7 @@ def coverage_plot(domains, planners, link):
     return svg(figure, "coverage", "Coverage by domain", points, "For each domain, a line to the number of problems that each planner solves.")
 
 
-def scatter_plot(one, other, points, name):
+def scatter_plot(one: str, other: str, points: Sequence[Point], name: str) -> str:
     """The costs of two planners on log axes. A point is both costs (None for unsolved or unknown), a link and a name.
 
     What a log axis cannot show is at the edges: zero below the least cost, and what has no cost above the greatest.
@@ -167,7 +175,11 @@ def scatter_plot(one, other, points, name):
     zero, low_edge, none, high_edge = low / 3, low / 5, high * 3, high * 5
     if not any(it == 0 for x, y, *_ in points for it in (x, y)):
         low_edge = low / 1.5
-    place = lambda it: none if it is None else float(it) if it else zero
+
+    def place(cost: Optional[Number]) -> float:
+        """Where a cost is on an axis."""
+        return none if cost is None else float(cost) if cost else zero
+
     axes.plot([low_edge, none / 1.4], [low_edge, none / 1.4], color=FAINT, linewidth=1)
     axes.axhline(none / 1.6, color=FAINT, linewidth=1, linestyle=":")
     axes.axvline(none / 1.6, color=FAINT, linewidth=1, linestyle=":")
@@ -185,7 +197,7 @@ def scatter_plot(one, other, points, name):
     return svg(figure, name, title, names, "Each point is a problem: the costs of both planners' best plans, on log axes.")
 
 
-def log_axis(axis, low, high, zero, none, zero_shown):
+def log_axis(axis: Axes, low: float, high: float, zero: float, none: float, zero_shown: bool) -> None:
     """A log axis whose ticks are plain numbers, with a place for none and one for zero if it is needed."""
     axis.axes.set_xscale("log") if axis.axis_name == "x" else axis.axes.set_yscale("log")
     steps = LogLocator(subs=(1, 2, 5) if high / low < 100 else (1,)).tick_values(low, high)
@@ -196,7 +208,7 @@ def log_axis(axis, low, high, zero, none, zero_shown):
     axis.set_minor_locator(NullLocator())
 
 
-def progress_plot(lines, unit, name):
+def progress_plot(lines: Sequence[Progress], unit: str, name: str) -> str:
     """The least cost of a planner's plans up to each. Lines are triples of a planner, pairs of a plan's number and that cost, and links."""
     lines, points = lines[:MOST_SERIES], Names()
     top = 0.12 + 0.19 * ((len(lines) + 1) // 2)

@@ -2,11 +2,14 @@
 
     judge(domain, problem, plans)    the verdict on each plan, as a Report
     explain(domain, problem, plans)  why a text is refused or a plan fails, in English
+    write_report(report)             a Report as a text, in the format that the program prints with --format json
+    read_report(text)                a Report of such a text
 
 A domain, a problem or a plan is either a path or a text, depending only on its type:
 
     os.PathLike, such as pathlib.Path    the path of a file
     str, bytes                           the text itself, never a path
+    Named(name, text)                    a text with a name for its file, by which explanations call it
 
 The plans are one of these:
 
@@ -16,14 +19,16 @@ The plans are one of these:
 
 A file or text may hold several plans, separated by lines of three dashes.
 """
-from .calls import Dialect, Explanation, explain, judge
-from .errors import CallFailed, Error, ProgramMissing, Refused
-from .inputs import Plans, Text
+from .calls import Dialect, Explanation, Stopper, explain, find_program, judge
+from .errors import CallFailed, Error, ProgramMissing, Refused, Stopped
+from .inputs import Named, Plans, Text
+from .records import read_report, write_report
 from .verdicts import Action, Atom, Condition, Equality, Fails, MissesGoal, Planner, Reason, Report, Unreadable, Valid, Verdict
 
 __version__ = "0.3.0"
 
 __all__ = [
-    "Action", "Atom", "CallFailed", "Condition", "Dialect", "Equality", "Error", "Explanation", "Fails", "MissesGoal", "Planner", "Plans",
-    "ProgramMissing", "Reason", "Refused", "Report", "Text", "Unreadable", "Valid", "Verdict", "__version__", "explain", "judge",
+    "Action", "Atom", "CallFailed", "Condition", "Dialect", "Equality", "Error", "Explanation", "Fails", "MissesGoal", "Named", "Planner", "Plans",
+    "ProgramMissing", "Reason", "Refused", "Report", "Stopped", "Stopper", "Text", "Unreadable", "Valid", "Verdict", "__version__", "explain",
+    "find_program", "judge", "read_report", "write_report",
 ]

@@ -3,22 +3,24 @@ from __future__ import annotations
 
 import dataclasses
 import errno
+import json
 import os
-import re
 import shutil
 import subprocess
-from typing import List, Literal, Optional, Tuple, Union
+import threading
+from typing import List, Literal, Optional, Set, Tuple, Union
 
-from . import inputs, records
-from .errors import CallFailed, ProgramMissing, Refused
-from .inputs import Plans, Room, Share, Text, source
+from . import inputs
+from .errors import CallFailed, ProgramMissing, Refused, Stopped
+from .inputs import Plans, Room, Share, Text, labelled
+from .records import read_report
 from .verdicts import Planner, Report, Verdict
 
 Dialect = Literal["strips", "ipc"]
 Program = Union[str, "os.PathLike[str]"]
 
 DOMAIN, PROBLEM = b"--domain=", b"--problem="
-FAULT = re.compile(r"(domain|problem) line (\d+) bytes (\d+)-(\d+): (\w+)")
+TOO_MANY = {"TooManyPlanners": "more than 64 planners", "TooManyPlans": "more than 65536 plans"}
 INSTALL = "install plan_judge, or set the environment variable PLAN_JUDGE to the path of the program"
 
 
@@ -39,8 +41,46 @@ class Explanation:
         return self.text.removesuffix("\n")
 
 
-def find_program(program: Optional[Program]) -> str:
-    """The path of the program: the argument, else PLAN_JUDGE of the environment, else plan_judge on the PATH."""
+class Stopper:
+    """Ends calls from another thread. It may be given to any number of calls."""
+
+    def __init__(self) -> None:
+        self._lock = threading.Lock()
+        self._running: Set[subprocess.Popen[bytes]] = set()
+        self._is_stopped = False
+
+    def stop(self) -> None:
+        """Ends the programs of all calls that have this stopper. These calls and all later ones raise `Stopped`."""
+        with self._lock:
+            self._is_stopped = True
+            for process in self._running:
+                process.kill()
+
+    def run(self, words: List[bytes]) -> Tuple[int, bytes, bytes]:
+        """The status of a run, its output, and what it said on standard error. OSError if it cannot be started."""
+        with self._lock:
+            if self._is_stopped:
+                raise Stopped("the call was stopped before it began")
+            process = subprocess.Popen(words, stdin=subprocess.DEVNULL, stdout=subprocess.PIPE, stderr=subprocess.PIPE)
+            self._running.add(process)
+        with process:
+            try:
+                out, said = process.communicate()
+            except BaseException:
+                # Unlike subprocess.run, this waits for the end of the program even after KeyboardInterrupt.
+                process.kill()
+                process.wait()
+                raise
+            finally:
+                with self._lock:
+                    self._running.discard(process)
+        if self._is_stopped:
+            raise Stopped("the call was stopped")
+        return process.returncode, out, said
+
+
+def find_program(program: Optional[Program] = None) -> str:
+    """The path of the program: the argument, else PLAN_JUDGE of the environment, else plan_judge on the PATH. ProgramMissing if there is none."""
     name = os.fspath(program) if program is not None else os.environ.get("PLAN_JUDGE") or "plan_judge"
     path = shutil.which(name)
     if path is None:
@@ -48,62 +88,58 @@ def find_program(program: Optional[Program]) -> str:
     return path
 
 
-def _run(program: str, words: List[bytes]) -> Tuple[int, str, str]:
+def _run(program: str, words: List[bytes], stopper: Optional[Stopper]) -> Tuple[int, str, str]:
     """The status of a run, its output, and what it said on standard error."""
     try:
-        process = subprocess.Popen([os.fsencode(program), *words], stdin=subprocess.DEVNULL, stdout=subprocess.PIPE, stderr=subprocess.PIPE)
+        status, out, said = (stopper or Stopper()).run([os.fsencode(program), *words])
     except OSError as error:
         if error.errno == errno.E2BIG:
             raise ValueError("the plans are too many for one call: %s" % error.strerror) from error
         raise ProgramMissing("the program %s cannot be run: %s; %s" % (program, error.strerror, INSTALL)) from error
-    with process:
-        try:
-            out, said = process.communicate()
-        except BaseException:
-            # Unlike subprocess.run, this waits for the end of the program even after KeyboardInterrupt.
-            process.kill()
-            process.wait()
-            raise
-    return process.returncode, out.decode("utf-8", "surrogateescape"), said.decode("utf-8", "surrogateescape").removesuffix("\n")
+    return status, out.decode("utf-8", "surrogateescape"), said.decode("utf-8", "surrogateescape").removesuffix("\n")
 
 
 def _task(room: Room, domain: Text, problem: Text, dialect: Dialect) -> List[bytes]:
     """The words of the command line for a domain and a problem. They end with `--`: a plan's path may begin with a dash."""
     if dialect not in ("strips", "ipc"):
         raise ValueError("the dialect is strips or ipc, not %r" % (dialect,))
-    domain_word, problem_word = room.word(source(domain), "domain"), room.word(source(problem), "problem")
+    (domain_label, domain_source), (problem_label, problem_source) = labelled(domain, "domain"), labelled(problem, "problem")
+    domain_word, problem_word = room.word(domain_source, domain_label), room.word(problem_source, problem_label)
     return [b"--dialect=" + dialect.encode(), DOMAIN + domain_word, PROBLEM + problem_word, b"--"]
 
 
-def _error(status: int, message: str, task: List[bytes], files: List[bytes], room: Room) -> Exception:
-    """The exception for a run without a report."""
+def _error(status: int, message: str, task: List[bytes], room: Room) -> Exception:
+    """The exception for a run without a report. If an input was refused, the program printed an object that says which and why."""
     if status != 1:
         return CallFailed(status, room.outside(message))
-    fault = FAULT.fullmatch(message)
-    if fault:
-        file, line, start, end, kind = fault.groups()
-        return Refused(message, file, kind, int(line), (int(start), int(end)))
-    if message == "more than 65536 plans":
-        return ValueError("the plans are too many for one call: %s" % message)
+    try:
+        found = json.loads(message)
+        kind, name, line, span = found["kind"], found["file"], found["line"], found["bytes"]
+    except (KeyError, TypeError, ValueError):
+        return CallFailed(status, room.outside(message))
+    if name is None:
+        return ValueError("the plans are too many for one call: %s" % TOO_MANY.get(kind, kind))
     _, domain, problem, _ = task
-    for file, word in ("domain", domain.removeprefix(DOMAIN)), ("problem", problem.removeprefix(PROBLEM)), *(("plan", it) for it in files):
-        if message == "cannot read " + word.decode():
-            return Refused(room.outside(message), file, "cannot read")
-        if message == word.decode() + " is too large":
-            return Refused(room.outside(message), file, "too large")
-    return CallFailed(status, room.outside(message))
+    words = [("domain", domain.removeprefix(DOMAIN)), ("problem", problem.removeprefix(PROBLEM))]
+    file = next((file for file, word in words if word.decode() == name), "plan")
+    if line is not None:
+        return Refused("%s line %d bytes %d-%d: %s" % (file, line, *span, kind), file, kind, line, (span[0], span[1]))
+    text, kind = ("cannot read %s", "cannot read") if kind == "Unreadable" else ("%s is too large", "too large")
+    return Refused(room.outside(text % name), file, kind)
 
 
 def judge(
-    domain: Text, problem: Text, plans: Plans, *, dialect: Dialect = "strips", workers: int = 4, program: Optional[Program] = None
+    domain: Text, problem: Text, plans: Plans, *, dialect: Dialect = "strips", workers: int = 4, program: Optional[Program] = None,
+    stopper: Optional[Stopper] = None
 ) -> Report:
     """Judges plans by one run of the program. The help of the package says which arguments are paths and which are texts.
 
     dialect   "ipc" also reads action costs and equality
     workers   how many threads may judge, 1 to 32
     program   the path of the program; by default the one that the environment variable PLAN_JUDGE names, or plan_judge on the PATH
+    stopper   ends this call if another thread calls its `stop`
 
-    Raises Refused, ProgramMissing, CallFailed, and ValueError if there are no plans or too many.
+    Raises Refused, ProgramMissing, CallFailed, Stopped, and ValueError if there are no plans or too many.
     """
     if workers not in range(1, 33):
         raise ValueError("workers is 1 to 32, not %r" % (workers,))
@@ -115,46 +151,49 @@ def judge(
     with Room() as room:
         task = _task(room, domain, problem, dialect)
         files, shares = inputs.files(room, pieces)
-        status, out, message = _run(path, [b"judge", b"--format=json", b"--workers=%d" % workers, *task, *files])
+        words = [b"judge", b"--format=json", b"--workers=%d" % workers, *task, *files]
+        status, out, message = _run(path, words, stopper)
         if status != 0:
-            raise _error(status, message, task, files, room)
-    found = _records(out, shares)
+            raise _error(status, message, task, room)
+    found = _found(out, shares)
     verdicts: List[List[Verdict]] = [[] for _ in planners]
-    for own, parts in zip(found.files, shares):
-        rest = iter(own)
+    for own, parts in zip(found.planners, shares):
+        rest = iter(own.verdicts)
         for part in parts:
             verdicts[part.planner] += part.verdicts(rest)
     listed = tuple(Planner(name, tuple(own)) for (name, _), own in zip(planners, verdicts))
     return Report(found.domain, found.problem, listed, found.counts_costs)
 
 
-def _records(out: str, shares: List[List[Share]]) -> records.Records:
-    """The report in what the program printed. It has to be about the plans of the call."""
+def _found(out: str, shares: List[List[Share]]) -> Report:
+    """The report in what the program printed, on its files. It has to be about the plans of the call."""
     try:
-        found = records.read(out)
-    except (KeyError, TypeError, ValueError) as error:
+        found = read_report(out)
+    except ValueError as error:
         raise CallFailed(0, "it printed no report in JSON") from error
     # A file with one share has as many plans as the program counts.
-    counts = [len(own) if len(parts) == 1 else sum(it.plans or 0 for it in parts) for own, parts in zip(found.files, shares)]
-    if len(found.files) != len(shares) or counts != [len(own) for own in found.files]:
+    plans = [len(it.verdicts) for it in found.planners]
+    counts = [own if len(parts) == 1 else sum(it.plans or 0 for it in parts) for own, parts in zip(plans, shares)]
+    if len(plans) != len(shares) or counts != plans:
         raise CallFailed(0, "it printed a report on other plans")
     return found
 
 
 def explain(
-    domain: Text, problem: Text, plans: Plans = (), *, dialect: Dialect = "strips", trace: bool = False, program: Optional[Program] = None
+    domain: Text, problem: Text, plans: Plans = (), *, dialect: Dialect = "strips", trace: bool = False, program: Optional[Program] = None,
+    stopper: Optional[Stopper] = None
 ) -> Explanation:
     """Explains, for people, why a text is refused or a plan fails. Without plans it checks the domain and the problem.
 
-    The arguments are those of `judge`, and with `trace` the explanation also lists what each step deletes and adds. A text is called by the
-    name of its planner. Raises ProgramMissing and CallFailed, but not Refused: a file that cannot be read is explained too.
+    The arguments are those of `judge`, and with `trace` the explanation also lists what each step deletes and adds. A text is called by its
+    name if it is Named, otherwise by that of its planner. Raises ProgramMissing, CallFailed and Stopped, but not Refused: a file that cannot be read is explained too.
     """
     path = find_program(program)
     with Room() as room:
         task = _task(room, domain, problem, dialect)
         files = [room.word(it.source, it.label) for it in inputs.pieces(inputs.named(plans))]
-        words = [b"explain", *([b"--trace"] if trace else []), *task, *(b"./-" if it == b"-" else it for it in files)]
-        status, out, message = _run(path, words)
+        words = [b"explain", *([b"--trace"] if trace else []), *task, *files]
+        status, out, message = _run(path, words, stopper)
         if status not in (0, 1) or not out:
             raise CallFailed(status, room.outside(message))
         return Explanation(room.outside(out), status == 0)

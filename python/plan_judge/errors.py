@@ -29,6 +29,10 @@ class ProgramMissing(Error):
     """The program plan_judge is not found, or cannot be run."""
 
 
+class Stopped(Error):
+    """A call was ended by its stopper, or not begun because of it."""
+
+
 class CallFailed(Error):
     """The program ended in another way than with an answer or a refusal."""
 

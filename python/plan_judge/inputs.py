@@ -13,13 +13,25 @@ from typing import Iterable, Iterator, List, Mapping, Optional, Set, Tuple, Type
 from .errors import Refused
 from .verdicts import Unreadable, Verdict
 
+
+
+@dataclasses.dataclass(frozen=True)
+class Named:
+    """A text with a name for its file, by which explanations call it. Other letters than A-Z, a-z, 0-9 and . _ - ~ become a dash."""
+
+    name: str
+    text: Union[str, bytes]
+
+
 Path = Union["os.PathLike[str]", "os.PathLike[bytes]"]
-Text = Union[str, bytes, Path]
+Text = Union[str, bytes, Path, Named]
 Source = Union[bytes, Path]
+Labelled = Tuple[str, Source]
 Plans = Union[Text, Iterable[Text], Mapping[str, Union[Text, Iterable[Text]]]]
 
 MOST_FILES = 64  # of planners, in one call of the program
 LARGEST_FILE = 16_777_216
+LONGEST_NAME = 200  # of a file of a text
 SEPARATOR = re.compile(rb"^---[ \t\r]*$\n?", re.MULTILINE)
 
 
@@ -32,43 +44,46 @@ class Piece:
     source: Source
 
 
-def source(given: Text) -> Source:
-    """A path, or the bytes of a text."""
+def labelled(given: Text, otherwise: str = "") -> Labelled:
+    """A path, or the bytes of a text, with a name for its file."""
+    if isinstance(given, Named):
+        return given.name, labelled(given.text)[1]
     if isinstance(given, str):
-        return given.encode("utf-8", "surrogateescape")
+        return otherwise, given.encode("utf-8", "surrogateescape")
     if isinstance(given, (bytes, os.PathLike)):
-        return given
-    raise TypeError("a text is str or bytes and a path is os.PathLike, not %s" % type(given).__name__)
+        return otherwise, given
+    raise TypeError("a text is str, bytes or Named and a path is os.PathLike, not %s" % type(given).__name__)
 
 
-def _sources(given: Union[Text, Iterable[Text]]) -> List[Source]:
-    """One path or text, or several, as a list."""
+def _all_labelled(given: Union[Text, Iterable[Text]]) -> List[Labelled]:
+    """One path or text, or several, as a list. A text without a name gets an empty one."""
     if isinstance(given, Iterable) and not isinstance(given, (str, bytes, os.PathLike)):
-        return [source(it) for it in given]
-    return [source(given)]
+        return [labelled(it) for it in given]
+    return [labelled(given)]
 
 
-def _name(given: Source, otherwise: str) -> str:
+def _name(given: Labelled, otherwise: str) -> str:
     """The name of a planner that the caller does not name."""
-    return os.fsdecode(given) if isinstance(given, os.PathLike) else otherwise
+    label, source = given
+    return os.fsdecode(source) if isinstance(source, os.PathLike) else label or otherwise
 
 
-def named(plans: Plans) -> List[Tuple[str, List[Source]]]:
+def named(plans: Plans) -> List[Tuple[str, List[Labelled]]]:
     """The planners' names, each with its paths and texts."""
     if isinstance(plans, Mapping):
-        return [(name, _sources(given)) for name, given in plans.items()]
-    sources = _sources(plans)
-    if isinstance(plans, (str, bytes, os.PathLike)):
-        return [(_name(sources[0], "plan"), sources)]
-    return [(_name(it, "plan-%d" % number), [it]) for number, it in enumerate(sources, 1)]
+        return [(name, _all_labelled(given)) for name, given in plans.items()]
+    found = _all_labelled(plans)
+    if isinstance(plans, (str, bytes, os.PathLike, Named)):
+        return [(_name(found[0], "plan"), found)]
+    return [(_name(it, "plan-%d" % number), [it]) for number, it in enumerate(found, 1)]
 
 
-def pieces(planners: List[Tuple[str, List[Source]]]) -> List[Piece]:
+def pieces(planners: List[Tuple[str, List[Labelled]]]) -> List[Piece]:
     """All paths and texts in their order."""
     return [
-        Piece(index, name if len(sources) == 1 else "%s.%d" % (name, number), it)
-        for index, (name, sources) in enumerate(planners)
-        for number, it in enumerate(sources, 1)
+        Piece(index, label or (name if len(given) == 1 else "%s.%d" % (name, number)), source)
+        for index, (name, given) in enumerate(planners)
+        for number, (label, source) in enumerate(given, 1)
     ]
 
 
@@ -93,7 +108,7 @@ class Room:
             if not _is_utf8(folder):
                 raise ValueError("the folder of temporary files, %r, has a name that is not UTF-8" % folder)
             self.folder = folder + b"/"
-        safe = re.sub(r"[^A-Za-z0-9._-]|^[.-]", "-", label)[:100]
+        safe = re.sub(r"[^A-Za-z0-9._~-]|^[.-]", "-", label)[:LONGEST_NAME]
         name, number = safe, 1
         while name in self.taken:
             number += 1
@@ -106,6 +121,8 @@ class Room:
         if isinstance(given, bytes):
             return self.file(given, label)
         path = os.fsencode(given)
+        if path == b"-":  # which is standard input for the program
+            return b"./-"
         if _is_utf8(path):
             return path
         # The program takes only words that are UTF-8.

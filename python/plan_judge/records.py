@@ -1,23 +1,15 @@
-"""Reads the report that the program writes with --format json."""
+"""Reads and writes reports as the program prints them with --format json."""
 from __future__ import annotations
 
 import json
 from fractions import Fraction
-from typing import Any, Dict, List, NamedTuple, Optional, Tuple
+from typing import Any, Dict, List, Optional, Tuple, Union
 
-from .verdicts import Action, Atom, Condition, Equality, Fails, MissesGoal, Unreadable, Valid, Verdict
+from .verdicts import Action, Atom, Condition, Equality, Fails, MissesGoal, Planner, Report, Unreadable, Valid, Verdict, decimal_text
 
 Record = Dict[str, Any]
 DECODER = json.JSONDecoder(parse_float=Fraction)  # a float would round a cost
-
-
-class Records(NamedTuple):
-    """A report as the program wrote it."""
-
-    domain: str
-    problem: str
-    counts_costs: bool
-    files: List[List[Verdict]]  # for each file of the command line
+ENCODER = json.JSONEncoder(ensure_ascii=False, separators=(",", ":"))
 
 
 def _condition(words: List[Any], negated: bool = False) -> Condition:
@@ -45,20 +37,76 @@ def _verdict(record: Record) -> Verdict:
         return MissesGoal(_conditions(record))
     if kind == "unreadable":
         return Unreadable(record["line"])
+    if kind != "fails":
+        raise ValueError
     name, *arguments = record["action"]
     return Fails(record["step"], Action(name, tuple(arguments)), record["reason"], record.get("argument"), _conditions(record))
 
 
-def read(text: str) -> Records:
-    """The report in a text. KeyError, TypeError or ValueError if there is none."""
+def _report(text: str) -> Report:
     # Not splitlines, which also splits at letters that a name may have.
     first, *others = map(DECODER.decode, text.split("\n")[:-1])
-    files: List[List[Verdict]] = [[]]
-    counts_costs = False
+    planners: List[Planner] = []
+    verdicts: List[Verdict] = []
     for record in others:
         if record["type"] == "plan":
-            files[-1].append(_verdict(record))
+            verdicts.append(_verdict(record))
+        elif record["plans"] == len(verdicts):
+            planners.append(Planner(record["planner"], tuple(verdicts)))
+            verdicts = []
         else:
-            counts_costs |= "cost" in record
-            files.append([])
-    return Records(first["domain"], first["problem"], counts_costs, files[:-1])
+            raise ValueError
+    if verdicts or first["type"] != "run" or not text.endswith("\n"):
+        raise ValueError
+    return Report(first["domain"], first["problem"], tuple(planners), bool(others) and "cost" in others[-1])
+
+
+def read_report(text: Union[str, bytes]) -> Report:
+    """The report in what the program printed with --format json, as it may be kept in a file, or in what `write_report` gives.
+
+    Raises ValueError if the text is anything else than one whole report.
+    """
+    try:
+        return _report(text if isinstance(text, str) else text.decode("utf-8", "surrogateescape"))
+    except (AttributeError, IndexError, KeyError, TypeError, ValueError) as error:
+        raise ValueError("the text is no report in JSON") from error
+
+
+def _words(condition: Condition) -> List[Any]:
+    words = ["=", condition.left, condition.right] if isinstance(condition, Equality) else [condition.predicate, *condition.arguments]
+    return ["not", words] if condition.negated else words
+
+
+def _members(verdict: Verdict) -> Record:
+    if isinstance(verdict, Valid):
+        return {"verdict": "valid", "steps": verdict.steps}
+    if isinstance(verdict, MissesGoal):
+        return {"verdict": "goal", "missing": list(map(_words, verdict.missing))}
+    if isinstance(verdict, Unreadable):
+        return {"verdict": "unreadable", "line": verdict.line}
+    assert isinstance(verdict, Fails)
+    members: Record = {"step": verdict.step, "action": [verdict.action.name, *verdict.action.arguments], "reason": verdict.reason}
+    if verdict.argument is not None:
+        members["argument"] = verdict.argument
+    if verdict.reason == "missing":
+        members["missing"] = list(map(_words, verdict.missing))
+    return {"verdict": "fails", **members}
+
+
+def _line(record: Record, cost: Optional[Fraction], has_cost: bool) -> str:
+    """The line of a record. A cost is printed with all its digits, which no number of json has."""
+    line = ENCODER.encode(record)
+    return "%s,\"cost\":%s}\n" % (line[:-1], "null" if cost is None else decimal_text(cost)) if has_cost else line + "\n"
+
+
+def write_report(report: Report) -> str:
+    """The report as the program prints it with --format json, if each file has the name of its planner."""
+    lines = [_line({"type": "run", "domain": report.domain, "problem": report.problem}, None, False)]
+    for planner in report.planners:
+        for number, verdict in enumerate(planner.verdicts, 1):
+            record = {"type": "plan", "planner": planner.name, "plan": number, **_members(verdict)}
+            cost = verdict.cost if isinstance(verdict, Valid) else None
+            lines.append(_line(record, cost, report.counts_costs and isinstance(verdict, Valid)))
+        summary = {"type": "planner", "planner": planner.name, "plans": len(planner.verdicts), "valid": len(planner.valid), "best": planner.best}
+        lines.append(_line(summary, planner.cost, report.counts_costs))
+    return "".join(lines)

@@ -164,6 +164,24 @@ class Report:
             raise ValueError("the report is about %d plans, not about one" % len(verdicts))
         return verdicts[0]
 
+    @property
+    def text(self) -> str:
+        """The report in lines, as the program prints it if each file has the name of its planner."""
+        lines = ["domain %s problem %s" % (self.domain, self.problem)]
+        for planner in self.planners:
+            lines += ["%s %d %s" % (planner.name, number, self.words(it)) for number, it in enumerate(planner.verdicts, 1)]
+            best = "-" if planner.best is None else planner.best
+            summary = "%s plans %d valid %d best %s" % (planner.name, len(planner.verdicts), len(planner.valid), best)
+            if self.counts_costs:
+                summary += " cost " + ("-" if planner.cost is None else decimal_text(planner.cost))
+            lines.append(summary)
+        return "".join(line + "\n" for line in lines)
+
+    def words(self, verdict: Verdict) -> str:
+        """A verdict in the words of the report, which also say that a cost is undefined."""
+        undefined = self.counts_costs and isinstance(verdict, Valid) and verdict.cost is None
+        return str(verdict) + (" cost -" if undefined else "")
+
 
 def decimal_text(cost: Fraction) -> str:
     """A cost as the program prints it: a decimal number without zeros at its end. Costs are whole billionths."""

@@ -5,9 +5,6 @@ import os
 from pathlib import Path
 from typing import Dict, Iterator, List, Optional, Set
 
-from plan_judge import Report, Valid, Verdict
-from plan_judge.verdicts import decimal_text
-
 TOP = Path(__file__).resolve().parents[2]
 CASES = TOP / "tests" / "cases"
 FERRY = TOP / "examples" / "ferry"
@@ -15,7 +12,7 @@ DOMAIN, PROBLEM = FERRY / "domain.pddl", FERRY / "problem.pddl"
 SHORT, FAULTY = FERRY / "quick" / "sas_plan.2", FERRY / "quick" / "sas_plan.3"
 
 OPTIONS = ("--domain", "--problem", "--dialect", "--workers")
-MORE_THAN_A_CALL: Set[str] = {"make", "feed", "stdout-to", "sweep"}
+MORE_THAN_A_CALL: Set[str] = {"make", "feed", "stdin", "stdin-is", "stderr-is", "stdout-to", "sweep"}
 
 
 class Word(os.PathLike):  # type: ignore[type-arg]
@@ -74,21 +71,3 @@ def cases(command: str, *flags: str) -> Iterator[Case]:
         case = _case(folder, command, set(flags)) if folder.is_dir() else None
         if case:
             yield case
-
-
-def _words(verdict: Verdict, counts_costs: bool) -> str:
-    undefined = counts_costs and isinstance(verdict, Valid) and verdict.cost is None
-    return str(verdict) + (" cost -" if undefined else "")
-
-
-def report_text(report: Report) -> bytes:
-    """The report of the program in lines."""
-    lines = ["domain %s problem %s" % (report.domain, report.problem)]
-    for planner in report.planners:
-        lines += ["%s %d %s" % (planner.name, number, _words(it, report.counts_costs)) for number, it in enumerate(planner.verdicts, 1)]
-        best = "-" if planner.best is None else planner.best
-        summary = "%s plans %d valid %d best %s" % (planner.name, len(planner.verdicts), len(planner.valid), best)
-        if report.counts_costs:
-            summary += " cost " + ("-" if planner.cost is None else decimal_text(planner.cost))
-        lines.append(summary)
-    return "".join(line + "\n" for line in lines).encode("utf-8", "surrogateescape")

@@ -16,7 +16,7 @@ from typing import Any, Callable, List, cast
 from unittest import mock
 
 import plan_judge
-from plan_judge import Atom, CallFailed, Error, Fails, Plans, ProgramMissing, Refused, Text, Unreadable, Valid, explain, judge
+from plan_judge import Atom, CallFailed, Error, Fails, Named, Plans, ProgramMissing, Refused, Stopped, Stopper, Text, Unreadable, Valid, explain, judge
 
 from .given import DOMAIN, FAULTY, PROBLEM, SHORT, TOP, Word
 
@@ -205,7 +205,7 @@ class Many(Folder):
 class Explanations(Folder):
     def test_a_text_goes_by_the_name_of_its_planner(self) -> None:
         plan = FAULTY.read_text()
-        for name, shown in ("mine", "mine"), ("my planner", "my-planner"), ("../a", "-.-a"), ("domain", "domain-2"), ("x" * 300, "x" * 100):
+        for name, shown in ("mine", "mine"), ("my planner", "my-planner"), ("../a", "-.-a"), ("domain", "domain-2"), ("x" * 300, "x" * 200), ("a~b", "a~b"):
             found = explain(DOMAIN.read_text(), PROBLEM, {name: plan})
             self.assertFalse(found)
             self.assertIn("%s:2:1: plan 1 fails at step 2, (embark blue north)" % shown, found.text)
@@ -220,6 +220,19 @@ class Explanations(Folder):
         self.assertTrue(found.text.startswith("domain:1:1: "), found.text)
         self.assertFalse(found)
         self.assertFalse(explain(self.folder / "nowhere", PROBLEM, SHORT))
+
+    def test_named_texts_go_by_their_names(self) -> None:
+        task = Named("d.pddl", DOMAIN.read_bytes()), Named("p.pddl", PROBLEM.read_text())
+        self.assertIn("sas_plan.3:2:1: plan 1 fails", explain(*task, Named("sas_plan.3", FAULTY.read_text())).text)
+        both = explain(*task, {"quick": [Named("one", FAULTY.read_text()), FAULTY.read_text(), Named("d.pddl", "(a)")]}).text
+        for name in "one:2:1", "quick.2:2:1", "d.pddl-2:1:2":
+            self.assertIn(name, both)
+        self.assertTrue(explain(Named("d.pddl", "(define"), task[1]).text.startswith("d.pddl:1:1: "))
+
+    def test_names_of_texts_are_those_of_planners(self) -> None:
+        report = judge(DOMAIN, PROBLEM, [Named("short", SHORT.read_text()), SHORT.read_text()])
+        self.assertEqual([(it.name, it.verdicts) for it in report.planners], [("short", (Valid(12),)), ("plan-2", (Valid(12),))])
+        self.assertEqual(judge(DOMAIN, PROBLEM, Named("short", SHORT.read_text())).planners[0].name, "short")
 
     def test_without_plans_and_with_a_trace(self) -> None:
         self.assertTrue(explain(DOMAIN, PROBLEM))
@@ -326,7 +339,8 @@ class Errors(Folder):
 
     def test_a_report_on_other_plans_of_many(self) -> None:
         """65 plans in one file, and a report on one."""
-        records = ['{"type":"run","domain":"d","problem":"p"}', '{"type":"plan","verdict":"unreadable","line":1}', '{"type":"planner"}']
+        records = ['{"type":"run","domain":"d","problem":"p"}', '{"type":"plan","verdict":"unreadable","line":1}',
+                   '{"type":"planner","planner":"a","plans":1}']
         program = self.script("#!/bin/sh\nprintf '%s\\n' " + " ".join("'%s'" % it for it in records))
         self.assertEqual(judge(DOMAIN, PROBLEM, "(a", program=program).verdict, Unreadable(1))
         with self.assertRaises(CallFailed) as raised:
@@ -338,6 +352,24 @@ class Errors(Folder):
         for error in given:
             again = pickle.loads(pickle.dumps(error))
             self.assertEqual((type(again), str(again), vars(again)), (type(error), str(error), vars(error)))
+
+
+class Stoppers(Folder):
+    def test_calls_are_ended_from_another_thread(self) -> None:
+        program, stopper = self.script(SLEEPER), Stopper()
+        told = Path(str(program) + ".pid")
+        with concurrent.futures.ThreadPoolExecutor(2) as pool:
+            calls = [pool.submit(it, DOMAIN, PROBLEM, "(a)", program=program, stopper=stopper) for it in CALLS]
+            end = time.monotonic() + 20
+            while not (told.exists() and told.read_text().endswith("\n")):
+                self.assertLess(time.monotonic(), end)
+                time.sleep(0.01)
+            stopper.stop()
+            for call in calls:
+                self.assertIsInstance(call.exception(timeout=20), Stopped)
+        with self.assertRaises(Stopped):
+            judge(DOMAIN, PROBLEM, "(a)", stopper=stopper)
+        self.assertEqual(os.listdir(self.temporary), [])
 
 
 class Interrupts(Folder):

@@ -4,12 +4,13 @@ from __future__ import annotations
 import concurrent.futures
 import dataclasses
 import os
+import subprocess
 import unittest
 from typing import Any, Dict, List, Optional, Sequence, Union
 
-from plan_judge import Refused, Report, Text, explain, judge
+from plan_judge import Refused, Report, Text, explain, find_program, judge, read_report, write_report
 
-from .given import Case, Word, cases, report_text
+from .given import Case, Word, cases
 
 # The program refuses more than 64 files; this package puts the plans into fewer files instead.
 REFUSED_FOR_65_FILES = {"bundles-65-planners", "runs-65-planners-before-domain"}
@@ -41,7 +42,8 @@ class Cases(unittest.TestCase):
     def compare(self, case: Case, found: Union[Report, Refused]) -> None:
         with self.subTest(case.name):
             if isinstance(found, Report):
-                self.assertEqual((report_text(found), b"", 0), (case.text("stdout"), case.text("stderr"), case.status))
+                printed = found.text.encode("utf-8", "surrogateescape")
+                self.assertEqual((printed, b"", 0), (case.text("stdout"), case.text("stderr"), case.status))
             else:
                 line = (str(found) + "\n").encode("utf-8", "surrogateescape")
                 self.assertEqual((line, found.status), (case.text("stderr"), case.status))
@@ -56,6 +58,20 @@ class Cases(unittest.TestCase):
                 self.compare(case, answer(case, Word(case.options["--domain"]), Word(case.options["--problem"]), plans))
                 ran += 1
         self.assertGreater(ran, 1000)
+
+    def test_reports_in_json(self) -> None:
+        """What the program prints with --format json is read, and written again byte for byte."""
+        ran = 0
+        for case in cases("judge"):
+            if case.status == 0:
+                words = [find_program(), *(case.folder / "args").read_bytes().decode("utf-8", "surrogateescape").splitlines()]
+                printed = subprocess.run([*words, "--format", "json"], cwd=case.folder, stdout=subprocess.PIPE, check=True).stdout
+                with self.subTest(case.name):
+                    found = read_report(printed)
+                    self.assertEqual(write_report(found).encode("utf-8", "surrogateescape"), printed)
+                    self.assertEqual(found.text.encode("utf-8", "surrogateescape"), case.text("stdout"))
+                ran += 1
+        self.assertGreater(ran, 500)
 
     def test_texts_from_several_threads(self) -> None:
         """The texts of the files, from four threads at once. The planners of texts have no names, so they get those of the case."""

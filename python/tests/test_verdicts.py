@@ -6,8 +6,7 @@ import pickle
 import unittest
 from fractions import Fraction
 
-from plan_judge import Action, Atom, Equality, Fails, MissesGoal, Planner, Report, Unreadable, Valid
-from plan_judge.records import read
+from plan_judge import Action, Atom, Equality, Fails, MissesGoal, Planner, Report, Unreadable, Valid, read_report, write_report
 from plan_judge.verdicts import decimal_text
 
 RECORDS = """\
@@ -43,9 +42,29 @@ WORDS = [
 
 class Values(unittest.TestCase):
     def test_records_are_read(self) -> None:
-        found = read(RECORDS)
+        found = read_report(RECORDS)
         self.assertEqual((found.domain, found.problem, found.counts_costs), ("d", "p", True))
-        self.assertEqual(found.files, [VERDICTS[:3], VERDICTS[3:]])
+        self.assertEqual(found.planners, (Planner("\u2028", tuple(VERDICTS[:3])), Planner("b", tuple(VERDICTS[3:]))))
+        self.assertEqual(read_report(RECORDS.encode()), found)
+
+    def test_records_are_written(self) -> None:
+        self.assertEqual(write_report(read_report(RECORDS)), RECORDS)
+        without = Report("d", "p", (Planner("\n\"", (Valid(3),)), Planner("none", ())), False)
+        self.assertEqual(read_report(write_report(without)), without)
+
+    def test_other_texts_are_no_report(self) -> None:
+        lines = RECORDS.splitlines(keepends=True)
+        for text in ("", "domain d problem p\n", RECORDS[:-1], "".join(lines[:-1]), "".join(lines[1:]), "".join(lines[:2] + lines[3:]), "[]\n",
+                     RECORDS.replace("fails", "falls"), "null\n", '{"type":"run"}\n'):
+            with self.assertRaisesRegex(ValueError, "the text is no report in JSON"):
+                read_report(text)
+
+    def test_the_text_of_a_report(self) -> None:
+        planners = Planner("a b", tuple(VERDICTS[:2])), Planner("none", ())
+        self.assertEqual(Report("d", "p", planners, True).text.splitlines(), [
+            "domain d problem p", "a b 1 valid 2 cost 10000000000000000000000.000000001", "a b 2 valid 1 cost -",
+            "a b plans 2 valid 2 best 1 cost 10000000000000000000000.000000001", "none plans 0 valid 0 best - cost -"])
+        self.assertEqual(Report("d", "p", planners[1:], False).text.splitlines()[1:], ["none plans 0 valid 0 best -"])
 
     def test_words(self) -> None:
         self.assertEqual([str(it) for it in VERDICTS], WORDS)

@@ -1,4 +1,5 @@
 """Tests of bin/tournament as a command, without its pages. They need the program plan_judge, and no package."""
+import fcntl
 import filecmp
 import os
 import shutil
@@ -184,13 +185,72 @@ class Going(Calls):
         program = self.counting('[ ! -e "%s/wrong" ] || . "%s/wrong"' % (self.folder, self.folder))
         outputs = self.lamp([("a", "(light)")])
         for text, why in ("echo 'out of memory' >&2; exit 3", "plan_judge ended with status 3: out of memory"), \
-                ("echo strange; exit 0", "the report of plan_judge has another form: line 1"):
+                ("echo strange; exit 0", "plan_judge ended with status 0: it printed no report in JSON"):
             self.write("wrong", text)
             said = self.call(outputs, status=1, PLAN_JUDGE=program)
             self.assertEqual(said, "tournament: lamp one is refused: %s\n" % why)
         os.remove(os.path.join(self.folder, "wrong"))
         self.call(outputs, PLAN_JUDGE=program)
         self.assertEqual(([it[-1] for it in self.rows()], self.calls()), (["solved"], 3))
+
+
+class Shares(Calls):
+    def test_shares_give_the_results_of_one_call(self):
+        program = self.counting("")
+        reference = ["--reference", os.path.join(EXAMPLE, "reference.tsv")]
+        for which in "3/3", "1/3", "2/3", "2/3":
+            said = self.call(OUTPUTS, "--share", which, PLAN_JUDGE=program)
+            self.assertRegex(said, r"tournament: share %s: ([67]) of \1 problems are judged\n\Z" % which)
+        self.assertEqual((self.calls(), sorted(os.listdir(self.site))), (20, [".tournament", "reports"]))
+        self.call(OUTPUTS, *reference, PLAN_JUDGE=program)
+        self.assertEqual((self.calls(), read(self.site, "results.tsv")), (20, read(EXAMPLE, "results.tsv")))
+        self.assertEqual([it for _, _, names in os.walk(self.site) for it in names if it.endswith(".new")], [])
+
+    def test_shares_explain_for_the_pages(self):
+        program = self.counting("")
+        outputs = self.lamp([("a", "(light) (light)")])
+        words = [it for it in self.words(outputs, "--share", "1/1") if it != "--no-site"]
+        subprocess.run(words, env=dict(os.environ, PLAN_JUDGE=program), check=True, stderr=subprocess.DEVNULL)
+        self.assertIn(b"condition does not hold", read(self.site, "reports", "lamp", "one.json"))
+
+    def test_a_share_writes_while_another_call_has_the_site(self):
+        """The call that waits for the shares holds the lock of the site."""
+        outputs = self.lamp([("a", "(light)")])
+        self.call(outputs)
+        with open(os.path.join(self.site, ".tournament")) as file:
+            fcntl.flock(file, fcntl.LOCK_EX)
+            self.assertIn("another call writes", self.call(outputs, status=1))
+            self.write("outputs/lamp/one/a/sas_plan", "")
+            self.call(outputs, "--share", "1/2")
+        self.call(outputs)
+        self.assertEqual([it[-1] for it in self.rows()], ["failed"])
+
+    def test_a_share_may_have_no_problem(self):
+        said = self.call(self.lamp([("a", "(light)")]), "--share", "2/2")
+        self.assertEqual(said, "tournament: share 2/2: 0 of 0 problems are judged\n")
+        self.assertEqual(os.listdir(self.site), [".tournament"])
+
+    def test_a_share_that_fails_says_why(self):
+        outputs = self.lamp([("a", "(light)")])
+        said = self.call(outputs, "--share", "1/1", status=1, PLAN_JUDGE=self.counting("echo 'out of memory' >&2; exit 3"))
+        self.assertEqual(said, "tournament: share 1/1: 0 of 1 problems are judged; the first that failed is lamp one: "
+                               "plan_judge ended with status 3: out of memory\n")
+        self.assertIn("there is no program nowhere", self.call(outputs, "--share", "1/1", status=1, PLAN_JUDGE="nowhere"))
+        shutil.rmtree(self.site)
+        self.write("site/precious")
+        self.assertIn("is not empty, and is no site", self.call(outputs, "--share", "1/1", status=1))
+        self.assertEqual(os.listdir(self.site), ["precious"])
+
+    def test_wrong_shares_and_calls(self):
+        outputs = self.lamp([("a", "(light)")])
+        for words in ["--share", "0/1"], ["--share", "2/1"], ["--share", "1"], ["--share", "1/2/3"], ["--share", "a/b"], ["--share", "-1/2"], \
+                ["--share", "1/1", "--slurm"], ["--tasks", "2"], ["--slurm", "--tasks", "0"], ["--slurm", "--slurm=-p x"]:
+            self.assertEqual(self.call(outputs, *words, status=2).count("\n"), 1)
+
+    def test_without_slurm(self):
+        said = self.call(self.lamp([("a", "(light)")]), "--slurm", status=1, PATH=self.folder)
+        self.assertEqual(said, "tournament: there is no program sbatch, and --slurm needs it\n")
+        self.assertEqual(self.call(os.path.join(self.folder, "outputs"), "--slurm=-p 'x", status=1).count("\n"), 1)
 
 
 class Odd(Calls):

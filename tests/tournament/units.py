@@ -1,4 +1,5 @@
 """Tests of the parts of bin/tournament that need neither a program nor a package."""
+import concurrent.futures
 import json
 import os
 import tempfile
@@ -6,8 +7,9 @@ import unittest
 from fractions import Fraction
 from unittest import mock
 
-from tournament import entries, exact, metric, names, plans, reports, scores, store, tables
-from tournament.judging import Judge, Judged
+from plan_judge import Atom, CallFailed, MissesGoal, Planner, Report, Unreadable, Valid
+from tournament import entries, exact, found, metric, names, plans, scores, store, tables
+from tournament.judging import Judge
 
 
 class Folder(unittest.TestCase):
@@ -194,7 +196,7 @@ class Entries(Folder):
 
     def test_faulty_tables(self):
         for text, words in ("d\tp\tb\tD\tP", "line 1 has 5 columns"), ("d\tp\t\tD\tP\tx", "only the last column may be empty"), \
-                ("d\tp\ta\tD\tP\tx\nd\tp\ta\tD\tQ\tx", "line 2: other files"), ("", "names no problem"):
+                ("d\tp\ta\tD\tP\tx\nd\tp\ta\tD\tQ\tx", "line 2: .*P and .*Q cannot be compared: cannot read"), ("", "names no problem"):
             with self.assertRaisesRegex(entries.Wrong, words):
                 entries.from_manifest(self.write("m.tsv", text))
         for text, words in ("d\tp\t-1", "line 1: -1 is no cost"), ("d\tp\t1\nd\tp\t1", "line 2: a second cost"):
@@ -206,46 +208,41 @@ class Entries(Folder):
         self.assertEqual(entries.references(path), {("d", "p"): Fraction(5, 2)})
 
 
-def report(*lines):
-    """The text of a report."""
-    return "".join(it + "\n" for it in ("domain d problem p",) + lines)
+MISSED = MissesGoal((Atom("x"),))
+
+
+def report(*planners, costs=True):
+    """A report on planners, which are pairs of a name and verdicts."""
+    return Report("d", "p", tuple(Planner(name, tuple(verdicts)) for name, verdicts in planners), costs)
 
 
 class Reports(unittest.TestCase):
-    def test_names_may_hold_anything(self):
-        text = report("a 1 1 valid 3", "a 1 plans 1 valid 1 best 3", "a 1 fails at 1 (x): unknown action", "a plans 1 valid 0 best -")
-        found = reports.Report(text, [[("a 1", 1), ("a", 1)]])
-        self.assertEqual((found.verdicts["a 1", 1].steps, found.verdicts["a", 1].valid, found.summaries), (3, False, {"a 1": 3, "a": 5}))
+    def test_several_calls_have_lines_that_follow_each_other(self):
+        first, second = report(("a", [Valid(3, Fraction(5, 2)), MISSED]), ("b", [Unreadable(1)])), report(("c", [Valid(4)]))
+        both = found.Reports([first, second])
+        self.assertEqual(both.text, first.text + second.text)
+        self.assertEqual({it: line.number for it, line in both.verdicts.items()}, {("a", 1): 2, ("a", 2): 3, ("b", 1): 5, ("c", 1): 8})
+        self.assertEqual((both.summaries, both.counts_costs), ({"a": 4, "b": 6, "c": 9}, True))
+        for (name, number), line in both.verdicts.items():
+            self.assertTrue(both.lines[line.number - 1].startswith("%s %d %s" % (name, number, line.verdict)))
 
-    def test_several_calls(self):
-        text = report("a 1 valid 3 cost 2.5", "a plans 1 valid 1 best 3 cost 2.5") + report("b 1 valid 4 cost -", "b plans 1 valid 1 best 4 cost -")
-        found = reports.Report(text, [[("a", 1)], [("b", 1)]])
-        self.assertEqual((found.counts_costs, found.verdicts["a", 1].cost, found.verdicts["b", 1].cost), (True, Fraction(5, 2), None))
-        self.assertEqual(found.verdicts["b", 1].line, 5)
-
-    def test_other_forms_are_found_out(self):
-        for text in "", report(), report("b 1 valid 3", "b plans 1 valid 1 best 3"), report("a 1 valid 3", "a plans 2 valid 1 best 3"), \
-                report("a 1 valid 3", "a plans 1 valid 1 best 3", "more"):
-            with self.assertRaises(reports.Unexpected):
-                reports.Report(text, [[("a", 1)]])
+    def test_kept_reports_are_the_same(self):
+        both = found.Reports([report(("a 1", [Valid(3)])), report(("a\u2028", [MISSED]), costs=False)])
+        again = found.Reports(written=both.written)
+        self.assertEqual((again.each, again.text), (both.each, both.text))
 
 
 class Scores(unittest.TestCase):
-    def found(self, texts, refused="", unread=(), unscored=""):
+    def found(self, verdicts, refused="", unread=(), unscored="", costs=True):
         """The finding of a problem on which planners have these verdicts."""
-        entry = entries.Entry("d", "p", "", "", {name: [] for name in texts})
-        listed, lines, layout = [], [], []
-        for name, verdicts in texts.items():
-            listed += [plans.Plan(name, "x", bundle=name, number=at) for at in range(1, len(verdicts) + 1)]
+        entry = entries.Entry("d", "p", "", "", {name: [] for name in verdicts})
+        listed = []
+        for name, own in verdicts.items():
+            listed += [plans.Plan(name, "x", bundle=name, number=at) for at in range(1, len(own) + 1)]
             listed += [plans.Plan(name, "y", unread="y is too large")] if name in unread else []
-            if verdicts:
-                costs = " cost -" if any("cost" in it for it in verdicts) else ""
-                lines += ["%s %d %s" % (name, at, it) for at, it in enumerate(verdicts, 1)]
-                lines.append("%s plans %d valid 0 best -%s" % (name, len(verdicts), costs))
-                layout.append((name, len(verdicts)))
         if refused:
-            return Judged(entry, listed, refused=refused)
-        return Judged(entry, listed, reports.Report(report(*lines), [layout]), unscored=unscored)
+            return found.Judged(entry, listed, refused=refused)
+        return found.Judged(entry, listed, found.Reports([report(*verdicts.items(), costs=costs)]), unscored=unscored)
 
     def row(self, texts, given=None, **more):
         """What counts of each planner's result."""
@@ -254,39 +251,42 @@ class Scores(unittest.TestCase):
         return [(it.status, it.value, it.reference, it.score) for it in rows]
 
     def test_the_least_cost_counts_and_not_the_fewest_steps(self):
-        texts = {"a": ["valid 2 cost 9", "valid 5 cost 6", "goal missing (x)"], "b": ["valid 3 cost 4"]}
+        texts = {"a": [Valid(2, Fraction(9)), Valid(5, Fraction(6)), MISSED], "b": [Valid(3, Fraction(4))]}
         self.assertEqual(self.row(texts), [("solved", 6, 4, Fraction(2, 3)), ("solved", 4, 4, 1)])
 
     def test_steps_count_where_costs_do_not(self):
-        self.assertEqual(self.row({"a": ["valid 6", "valid 4"], "b": ["valid 5"]}), [("solved", 4, 4, 1), ("solved", 5, 4, Fraction(4, 5))])
+        row = self.row({"a": [Valid(6), Valid(4)], "b": [Valid(5)]}, costs=False)
+        self.assertEqual(row, [("solved", 4, 4, 1), ("solved", 5, 4, Fraction(4, 5))])
 
     def test_an_undefined_cost_solves_and_scores_nothing(self):
-        self.assertEqual(self.row({"a": ["valid 2 cost -"]}), [("solved", None, None, 0)])
-        self.assertEqual(self.row({"a": ["valid 2 cost -"], "b": ["valid 2 cost 3"]})[0], ("solved", None, 3, 0))
-        self.assertEqual(self.row({"a": ["valid 2 cost -", "valid 9 cost 3"]}), [("solved", 3, 3, 1)])
+        self.assertEqual(self.row({"a": [Valid(2)]}), [("solved", None, None, 0)])
+        self.assertEqual(self.row({"a": [Valid(2)], "b": [Valid(2, Fraction(3))]})[0], ("solved", None, 3, 0))
+        self.assertEqual(self.row({"a": [Valid(2), Valid(9, Fraction(3))]}), [("solved", 3, 3, 1)])
 
     def test_zero(self):
-        self.assertEqual(self.row({"a": ["valid 2 cost 0"], "b": ["valid 2 cost 3"]}), [("solved", 0, 0, 1), ("solved", 3, 0, 0)])
+        row = self.row({"a": [Valid(2, Fraction(0))], "b": [Valid(2, Fraction(3))]})
+        self.assertEqual(row, [("solved", 0, 0, 1), ("solved", 3, 0, 0)])
 
     def test_references_count_if_they_are_lower(self):
-        self.assertEqual(self.row({"a": ["valid 2 cost 4"]}, "3.5"), [("solved", 4, Fraction(7, 2), Fraction(7, 8))])
-        self.assertEqual(self.row({"a": ["valid 2 cost 4"]}, 5), [("solved", 4, 4, 1)])
-        self.assertEqual(self.row({"a": ["valid 2 cost 4"]}, 0), [("solved", 4, 0, 0)])
+        four = {"a": [Valid(2, Fraction(4))]}
+        self.assertEqual(self.row(four, "3.5"), [("solved", 4, Fraction(7, 2), Fraction(7, 8))])
+        self.assertEqual(self.row(four, 5), [("solved", 4, 4, 1)])
+        self.assertEqual(self.row(four, 0), [("solved", 4, 0, 0)])
 
     def test_no_plan_is_not_a_failed_one(self):
-        row = scores.results_of(self.found({"a": [], "b": ["goal missing (x)"]}), ["a", "b", "c"], {})
+        row = scores.results_of(self.found({"a": [], "b": [MISSED]}), ["a", "b", "c"], {})
         self.assertEqual([(it.status, it.plans, it.valid, it.failed, it.score) for it in row],
                          [("no plan", 0, 0, 0, 0), ("failed", 1, 0, 1, 0), ("no plan", 0, 0, 0, 0)])
 
     def test_refusals(self):
-        row = scores.results_of(self.found({"a": ["valid 3"]}, refused="problem line 1"), ["a"], {})
+        row = scores.results_of(self.found({"a": [Valid(3)]}, refused="problem line 1"), ["a"], {})
         self.assertEqual([(it.status, it.plans, it.valid, it.failed) for it in row], [("refused: problem line 1", 1, None, 0)])
-        texts = {"a": ["valid 3"], "b": ["goal missing (x)"]}
+        texts = {"a": [Valid(3)], "b": [MISSED]}
         self.assertEqual([it[0] for it in self.row(texts, unread=("a", "b"))], ["solved", "refused: y is too large"])
 
     def test_another_metric_is_judged_and_not_scored(self):
-        found = self.found({"a": ["valid 3 cost 7", "goal missing (x)"], "b": []}, unscored="the metric is empty")
-        tournament = scores.Tournament([found, self.found({"a": ["valid 2 cost 4"], "b": []})], {("d", "p"): Fraction(1)}, "ipc")
+        unscored = self.found({"a": [Valid(3, Fraction(7)), MISSED], "b": []}, unscored="the metric is empty")
+        tournament = scores.Tournament([unscored, self.found({"a": [Valid(2, Fraction(4))], "b": []})], {("d", "p"): Fraction(1)}, "ipc")
         self.assertEqual(tables.as_tsv(tournament).splitlines()[1:], [
             "d\tp\ta\t2\t1\t3\t7\t-\t-\tnot scored: the metric is empty", "d\tp\tb\t0\t0\t-\t-\t-\t-\tnot scored: the metric is empty",
             "d\tp\ta\t1\t1\t2\t4\t1\t0.250000\tsolved", "d\tp\tb\t0\t0\t-\t-\t1\t0.000000\tno plan"])
@@ -296,46 +296,62 @@ class Scores(unittest.TestCase):
         self.assertEqual((first["score"], first["exact_score"], first["status"]), (None, None, "not scored: the metric is empty"))
 
     def test_sums_are_exact_and_can_be_printed_at_any_length(self):
-        found = [self.found({"a": ["valid 2 cost %d" % (10 ** 12 + at)]}) for at in range(500)]
-        tournament = scores.Tournament(found, {("d", "p"): Fraction("0.3")}, "ipc")
+        all_found = [self.found({"a": [Valid(2, Fraction(10 ** 12 + at))]}) for at in range(500)]
+        tournament = scores.Tournament(all_found, {("d", "p"): Fraction("0.3")}, "ipc")
         self.assertGreater(tournament.total("a").score.denominator, 10 ** 4300)
         self.assertIn('"score": "0.000000"', tables.as_json(tournament))
-        thirds = [self.found({"a": ["valid 2 cost 3"]})] * 3
+        thirds = [self.found({"a": [Valid(2, Fraction(3))]})] * 3
         self.assertEqual(scores.Tournament(thirds, {("d", "p"): Fraction(1)}, "ipc").total("a").score, 1)
 
     def test_equal_planners_share_a_rank(self):
-        tournament = scores.Tournament([self.found({"a": ["valid 3"], "b": ["valid 4"], "c": ["valid 3"]})], {}, "ipc")
+        tournament = scores.Tournament([self.found({"a": [Valid(3)], "b": [Valid(4)], "c": [Valid(3)]}, costs=False)], {}, "ipc")
         self.assertEqual([(rank, planner) for rank, planner, _ in tournament.standings()], [(1, "a"), (1, "c"), (3, "b")])
 
 
 class Explained(unittest.TestCase):
-    def explanation(self, status, out):
-        """What is shown of a call of explain that prints this, and the problem's finding."""
-        judge, found = Judge(mock.Mock(), None), Judged(None, [])
-        judge.call = lambda *_: (status, out, "out of memory")
-        return judge.explanation("", [], "", found), found
+    def explanation(self, *answers):
+        """What is shown of a call of explain that gives or raises this, and the problem's finding."""
+        judge, judged = Judge(mock.Mock(), None), found.Judged(None, [])
+        judge.program.explain.side_effect = answers
+        return judge.explanation(judged, [], []), judged
 
     def test_long_explanations_are_cut(self):
-        self.assertEqual(self.explanation(1, b"a\n  \xff\n")[0], "a\n  \ufffd")
-        self.assertEqual(self.explanation(0, b"a\n" * 60)[0], "a\n" * 59 + "a")
-        self.assertEqual(self.explanation(1, b"a\n" * 61)[0], "a\n" * 60 + "..")
-        self.assertEqual(self.explanation(1, b"a" * 301)[0], "a" * 300 + "..")
+        self.assertEqual(self.explanation("a\n  \udcff\n")[0], "a\n  \ufffd")
+        self.assertEqual(self.explanation("a\n" * 60)[0], "a\n" * 59 + "a")
+        self.assertEqual(self.explanation("a\n" * 61)[0], "a\n" * 60 + "..")
+        self.assertEqual(self.explanation("a" * 301)[0], "a" * 300 + "..")
 
     def test_a_call_that_goes_wrong_is_made_again(self):
-        found = self.explanation(3, b"")[1]
-        self.assertEqual((found.kept, found.unexplained), (False, "plan_judge ended with status 3: out of memory"))
+        judged = self.explanation(ValueError("no folder"))[1]
+        self.assertEqual((judged.kept, judged.unexplained), (False, "no folder"))
+        judged = self.explanation(CallFailed(3, "out of\nmemory"))[1]
+        self.assertEqual((judged.kept, judged.unexplained), (False, "plan_judge ended with status 3: out of memory"))
 
 
 class Stored(Folder):
     def test_a_report_counts_only_for_its_input_and_whole(self):
         kept, entry = store.Store(self.folder), entries.Entry("d", "p", "", "")
         self.assertIsNone(kept.kept(entry, "1"))
-        answer = store.Answer(report=b"report\n", explained={"a": "why"})
-        kept.keep(entry, "1", answer)
-        self.assertEqual(kept.kept(entry, "1"), answer)
+        reports = found.Reports([report(("a", [Valid(3, Fraction(1, 2))])), report(("b", [MISSED]))])
+        kept.keep(entry, "1", store.Answer(reports=reports, explained={"a": "why"}))
+        again = kept.kept(entry, "1")
+        self.assertEqual((again.reports.text, again.explained, again.refused), (reports.text, {"a": "why"}, ""))
         self.assertIsNone(kept.kept(entry, "2"))
         self.write("d/p.txt", "rep")
         self.assertIsNone(kept.kept(entry, "1"))
+
+    def test_two_calls_may_write_one_file(self):
+        """Each writes its own new file, so the result is whole."""
+        path, texts = os.path.join(self.folder, "d", "p.txt"), [b"%d" % at * 100000 for at in range(8)]
+        with concurrent.futures.ThreadPoolExecutor(8) as pool:
+            list(pool.map(lambda text: store.write(path, text), texts * 8))
+        with open(path, "rb") as file:
+            self.assertIn(file.read(), texts)
+        self.assertEqual(os.listdir(os.path.dirname(path)), ["p.txt"])
+        os.mkdir(os.path.join(self.folder, "d", "folder"))
+        with self.assertRaises(OSError):
+            store.write(os.path.join(self.folder, "d", "folder"), b"")
+        self.assertEqual(sorted(os.listdir(os.path.dirname(path))), ["folder", "p.txt"])
 
     def test_fingerprints_tell_lists_apart(self):
         lists = [[], [""], ["a", "b"], ["ab"], ["a", "b", ""], ["1:a"]]

@@ -1,6 +1,6 @@
 -- What the words of a command line say.
 
-use Rattle.std.specs.Prelude.{ℕ, Bool, true, false, List, [], ◌∷◌, length, Option, Some, None, codes, bytes_eq, nat_eq, nat_lt, ◌&&◌, ◌||◌, if◌then◌else◌}
+use Rattle.std.specs.Prelude.{ℕ, not, Bool, true, false, List, [], ◌∷◌, length, Option, Some, None, codes, bytes_eq, nat_eq, nat_lt, ◌&&◌, ◌||◌, if◌then◌else◌}
 use Rattle.std.specs.List.{before_first, after_first, position_or_len, list_any}
 use Rattle.std.specs.Option.{option_or}
 
@@ -50,12 +50,24 @@ value_of option (word ∷ words) =
     else if bytes_eq word option then first_word words
     else option_or (joined_value option word) (value_of option words))
 
+-- the first `t` of a word is its last byte
+abbrev pub ends_at_first_t : List ℕ → Bool
+ends_at_first_t word =
+    nat_lt (position_or_len (λ b. nat_eq b 116) word) (length word) && nat_eq (length (after_first (λ b. nat_eq b 116) word)) 0
+
+-- the word is a group of short options whose last letter is the first `t` in it: only `-t` has a value, and after other letters its value is the next word
+abbrev pub is_tolerance : List ℕ → Bool
+is_tolerance [] = false
+is_tolerance (dash ∷ []) = false
+is_tolerance (dash ∷ letter ∷ letters) = nat_eq dash 45 && (not (nat_eq letter 45) && ends_at_first_t (dash ∷ letter ∷ letters))
+
 -- the word is an option whose value is the next word
 abbrev pub takes_a_value : List ℕ → Bool
 takes_a_value word =
     bytes_eq word (codes "--domain")
     || (bytes_eq word (codes "--problem")
-    || (bytes_eq word (codes "--steps") || (bytes_eq word (codes "--dialect") || (bytes_eq word (codes "--format") || bytes_eq word (codes "--workers")))))
+    || (bytes_eq word (codes "--steps")
+    || (bytes_eq word (codes "--dialect") || (bytes_eq word (codes "--format") || (bytes_eq word (codes "--workers") || is_tolerance word)))))
 
 -- the word is an option: it begins with a dash, and is more than a dash
 abbrev pub is_option : List ℕ → Bool

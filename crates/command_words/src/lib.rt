@@ -15,7 +15,7 @@
 
 ghost use Rattle.std.specs.Prelude.{◌≡◌, ℕ, false, true, map, option_map, ◌++◌, IfOk, OnOk, length};
 ghost use Rattle.std.specs.String.{string_bytes};
-ghost use Rattle.command_words.specs.CommandLine.{arguments, asks_for_help, first_word, has_command, is_help, is_option, is_short_help, joined_value, operands, operands_from, takes_a_value, value_of};
+ghost use Rattle.command_words.specs.CommandLine.{arguments, asks_for_help, first_word, ends_at_first_t, has_command, is_help, is_option, is_short_help, is_tolerance, joined_value, operands, operands_from, takes_a_value, value_of};
 
 use std::alloc::{AllocError, Global};
 
@@ -157,6 +157,27 @@ fn takes_a_value(word: &str) -> bool
         || word == "--dialect"
         || word == "--format"
         || word == "--workers"
+        || is_tolerance(word)
+}
+
+/// Whether a word is a group of short options whose last letter is the first `t` in it, such as `-t`.
+fn is_tolerance(word: &str) -> bool
+    ensures { result ≡ is_tolerance word.now }
+{
+    match word.as_bytes() {
+        [dash, letter, ..] => { *dash == b'-' && *letter != b'-' && ends_at_first_t(word) }
+        _ => false,
+    }
+}
+
+/// Whether the first `t` of a word is its last byte.
+fn ends_at_first_t(word: &str) -> bool
+    ensures { result ≡ ends_at_first_t word.now }
+{
+    match word.split_once('t') {
+        Some((_, rest)) => rest.is_empty(),
+        None => false,
+    }
 }
 
 /// Whether a word is an option: it begins with a dash, and is more than a dash.

@@ -5,28 +5,31 @@ ghost use Rattle.pddl_syntax.specs.declared.fault.FaultKind.TheVariants.{OutOfMe
 ghost use Rattle.explanations.specs.Refused.{kind_of};
 ghost use Rattle.explanations.specs.AllValid.{task_in, is_valid, is_valid_plan, are_valid_in, are_all_valid, all_valid_for};
 
-use crate::causes::push_causes;
+use crate::causes::{changes_for, push_causes};
 use crate::faults::push_refusal;
 use crate::library::Library;
+use crate::lint::push_warnings;
 use crate::page::Page;
+use crate::phrases::push_phrases;
 use crate::plans::{PlanAt, missing_of, named_positions, push_assessment, push_name};
 use crate::positions::{LineCount, Range};
+use crate::records::{JudgedPlan, push_plan_record, push_refused_record, push_run_record};
 use crate::remarks::{push_empty_end, push_end, push_header, push_other_domain};
 use crate::scene::{Refusal, Scene};
 use crate::steps::Part;
 use crate::trace::push_trace;
-use crate::{Explanation, Options, SourceText};
+use crate::{Explanation, ExplanationFormat, Options, SourceText};
 use pddl_reader::{Dialect, FaultKind, ReadFault, read_domain_in, read_problem_in};
 use plan_cost::{Assessment, CostedTask};
 use plan_text::{PartEnd, part_from};
 use std::alloc::{AllocError, Global};
 use strips_judge::Verdict;
-use strips_task::Seed;
+use strips_task::{Seed, Task};
 use text_judge::TextJudge;
 
 /// Explains what a judge answers about the plans of some files.
 ///
-/// The text is for people: it names the file, the line and the column of what is wrong, shows that line, and says what to do. It ends with an LF.
+/// A text for people names the file, the line and the column of what is wrong, shows that line, and says what to do. Records say the same to programs.
 /// `all_valid` is true exactly if the domain and the problem are read and every plan is valid. The only error is that memory runs out.
 pub fn explain(
     alloc: Global,
@@ -38,45 +41,37 @@ pub fn explain(
 ) -> Result<Explanation, AllocError>
     ensures { IfOk result (λ e. e.all_valid ≡ all_valid_for (task_in options.dialect domain.entry.bytes.now problem.entry.bytes.now) plans.now) }
 {
-    let mut page = Page::new(alloc, options.colors);
-    let all_valid = push_answer(&mut page, seed, options, domain, problem, plans)?;
-    Ok(Explanation {
-        text: page.into_text()?,
-        all_valid,
-    })
-}
-
-/// Adds the whole explanation, and answers whether all plans are valid.
-fn push_answer<'a>(
-    page: &mut Page,
-    seed: Seed,
-    options: Options,
-    domain: SourceText<'a>,
-    problem: SourceText<'a>,
-    plans: &[SourceText<'a>],
-) -> Result<bool, AllocError>
-    ensures { IfOk result (λ all_valid. all_valid ≡ all_valid_for (task_in options.dialect domain.entry.bytes.now problem.entry.bytes.now) plans.now) }
-{
+    let mut page = Page::new(alloc, options.format, options.colors);
     let dialect = options.dialect;
-    match read_task(page.alloc(), seed, dialect, domain.bytes, problem.bytes) {
+    match read_task(alloc, seed, dialect, domain.bytes, problem.bytes) {
         Ok(task) => {
-            let all_valid = push_plans(page, &task, options, domain, problem, plans)?;
-            Ok(all_valid)
+            let all_valid = push_plans(&mut page, &task, options, domain, problem, plans)?;
+            Ok(Explanation {
+                text: page.into_text()?,
+                all_valid,
+                refused: None,
+            })
         }
         Err(refused) => {
             if is_of_memory(refused) {
                 return Err(AllocError);
             }
-            push_refused(page, dialect, domain, problem, refused)?;
-            Ok(false)
+            push_refused(&mut page, dialect, domain, problem, refused)?;
+            Ok(Explanation {
+                text: page.into_text()?,
+                all_valid: false,
+                refused: Some(refused),
+            })
         }
     }
 }
 
 /// Which text is refused, and why.
-#[derive(Clone, Copy)]
-enum Refused {
+#[derive(Clone, Copy, Debug)]
+pub enum Refused {
+    /// The domain is.
     Domain(ReadFault),
+    /// The problem is, with a domain that is read.
     Problem(ReadFault),
 }
 
@@ -169,7 +164,11 @@ fn push_text<'a>(
 ) -> Result<(), AllocError> {
     let library = Library::new(page.alloc(), domain, problem)?;
     let mut scene = Scene::new(page.alloc(), refusal, library)?;
-    push_refusal(page, &mut scene);
+    if page.is_json() {
+        push_refused_record(page, &mut scene);
+    } else {
+        push_refusal(page, &mut scene);
+    }
     Ok(())
 }
 
@@ -194,7 +193,11 @@ fn push_plans<'a>(
 {
     push_start(page, task, problem, plans.is_empty());
     let mut library = Library::new(page.alloc(), domain, problem)?;
-    push_judged(page, task, &mut library, options.trace, plans)
+    let all_valid = push_judged(page, task, &mut library, options.trace, plans)?;
+    if options.lint {
+        push_warnings(page, &task.task, domain, problem)?;
+    }
+    Ok(all_valid)
 }
 
 /// Judges the plans of all files, adds what is found, and answers whether all of them are valid.
@@ -214,8 +217,11 @@ fn push_judged<'a>(
 
 /// Adds what can be said before a plan is judged.
 fn push_start(page: &mut Page, task: &CostedTask, problem: SourceText<'_>, is_all: bool) {
+    if page.is_json() {
+        push_run_record(page, &task.task);
+    }
     push_other_domain(page, &task.task, problem);
-    if is_all {
+    if is_all && page.is_text() {
         push_header(page, &task.task);
     }
 }
@@ -329,15 +335,54 @@ fn push_found<'a>(
         push_steps(page, judge.task(), plan, verdict)?;
     }
     let positions = named_positions(page.alloc(), plan, verdict)?;
-    push_assessment(page, library, plan, &positions, assessment);
+    let missing = missing_of(verdict);
+    let changes = changes_for(page.alloc(), judge, plan.part.text(), missing)?;
+    let judged = JudgedPlan {
+        plan,
+        positions: &positions,
+        changes: changes.as_slice(),
+        assessment,
+    };
+    push_judged_plan(page, &judge.task().task, library, judged);
+    Ok(())
+}
+
+/// Adds what is found about a plan, and why.
+fn push_judged_plan<'a>(
+    page: &mut Page,
+    task: &Task,
+    library: &mut Library<'a>,
+    judged: JudgedPlan<'a, '_>,
+) {
+    match page.format() {
+        ExplanationFormat::Text => push_plan_text(page, task, library, judged),
+        ExplanationFormat::Json => push_plan_record(page, task, library, judged),
+        ExplanationFormat::Phrases(phrases) => push_phrases(page, task, library, judged, phrases),
+    }
+}
+
+/// Adds what is found about a plan, and why, to a text for people.
+pub(crate) fn push_plan_text<'a>(
+    page: &mut Page,
+    task: &Task,
+    library: &mut Library<'a>,
+    judged: JudgedPlan<'a, '_>,
+) {
+    push_assessment(
+        page,
+        library,
+        judged.plan,
+        judged.positions,
+        judged.assessment,
+    );
     push_causes(
         page,
-        judge,
-        plan.file,
-        plan.part,
-        &positions,
-        missing_of(verdict),
-    )
+        task,
+        judged.plan.file,
+        judged.positions,
+        missing_of(&judged.assessment.verdict),
+        judged.changes,
+    );
 }
 
 /// Whether a verdict is that the plan is valid.
@@ -362,11 +407,13 @@ fn push_steps(
     let Some(most) = steps_shown(verdict) else {
         return Ok(());
     };
-    push_name(page, plan);
-    page.say("the steps of plan ");
-    page.number(plan.number);
-    page.say("\n");
-    push_trace(page, task, plan.part.text(), most)
+    if !page.is_json() {
+        push_name(page, plan);
+        page.say("the steps of plan ");
+        page.number(plan.number);
+        page.say("\n");
+    }
+    push_trace(page, task, plan, most)
 }
 
 /// How many steps are shown at most. None are shown of a plan that cannot be read.

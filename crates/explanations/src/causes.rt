@@ -5,43 +5,16 @@ ghost use Rattle.std.specs.Prelude.{◌≡◌};
 use crate::SourceText;
 use crate::page::Page;
 use crate::positions::bytes_at;
-use crate::steps::{Part, StepPositions, push_step};
-use plan_cost::CostedTask;
+use crate::steps::{StepPositions, push_step};
 use std::alloc::{AllocError, Global};
-use strips_task::{Atom, GroundCond, GroundFormula, ShortSeq};
+use strips_task::{Atom, GroundCond, GroundFormula, ShortSeq, Task};
 use text_judge::TextJudge;
 
 /// How many conditions are shown.
 const MOST_SHOWN: usize = 50;
 
-/// Adds a line for each condition that does not hold after the steps of a plan that could be taken.
-pub(crate) fn push_causes(
-    page: &mut Page,
-    judge: &mut TextJudge<'_>,
-    file: SourceText<'_>,
-    part: Part<'_>,
-    positions: &StepPositions,
-    missing: &[GroundCond],
-) -> Result<(), AllocError>
-    ensures { judge.new ≡ judge.old }
-{
-    if missing.is_empty() {
-        return Ok(());
-    }
-    let changes = changes_for(page.alloc(), judge, part.text(), missing)?;
-    push_lines(
-        page,
-        judge.task(),
-        file,
-        positions,
-        missing,
-        changes.as_slice(),
-    );
-    Ok(())
-}
-
-/// The last changes of the atoms of conditions, by the steps of a plan up to the one that cannot be taken.
-fn changes_for(
+/// The last changes of the atoms of conditions, by the steps of a plan up to the one that cannot be taken. Of many conditions, those of the first ones.
+pub(crate) fn changes_for(
     alloc: Global,
     judge: &mut TextJudge<'_>,
     text: &[u8],
@@ -49,6 +22,9 @@ fn changes_for(
 ) -> Result<Vec<Option<usize>>, AllocError>
     ensures { judge.new ≡ judge.old }
 {
+    if missing.is_empty() {
+        return Ok(Vec::new(alloc));
+    }
     let atoms = atoms_of(alloc, missing)?;
     judge.last_changes(alloc, text, atoms.as_slice())
 }
@@ -76,10 +52,10 @@ fn atom_of(alloc: Global, formula: &GroundFormula) -> Result<Atom, AllocError> {
     }
 }
 
-/// Adds the lines of the conditions, each with its last change.
-fn push_lines(
+/// Adds a line for each condition that does not hold after the steps of a plan that could be taken, with its last change.
+pub(crate) fn push_causes(
     page: &mut Page,
-    task: &CostedTask,
+    task: &Task,
     file: SourceText<'_>,
     positions: &StepPositions,
     missing: &[GroundCond],
@@ -87,7 +63,7 @@ fn push_lines(
 ) {
     for (cond, change) in missing.iter().zip(changes.iter()) {
         page.say("  ");
-        page.condition(&task.task, cond);
+        page.condition(task, cond);
         page.say(": ");
         push_cause(page, file, positions, cond, *change);
         page.say("\n");

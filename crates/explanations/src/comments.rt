@@ -29,23 +29,23 @@ pub(crate) fn push_cost_remark(page: &mut Page, plan: PlanAt<'_>, steps: usize, 
     if is_right(claim, steps, cost) {
         return;
     }
-    page.note();
-    page.say("the comment at ");
-    page.file_name(plan.file.name);
-    page.say(":");
+    let mut remark = page.draft();
+    remark.say("the comment at ");
+    remark.file_name(plan.file.name);
+    remark.say(":");
     let at = plan.part.range.start.saturating_add(claim.offset);
     let mut lines = plan.part.lines;
-    page.number(lines.line_of(plan.file.bytes, at).number);
-    page.say(" says");
-    page.cost(Cost::Billionths(u128::from(claim.billionths)));
-    page.say(", but the plan has");
+    remark.number(lines.line_of(plan.file.bytes, at).number);
+    remark.say(" says");
+    remark.cost(Cost::Billionths(u128::from(claim.billionths)));
+    remark.say(", but the plan has");
     if cost == Cost::NotCounted {
-        page.say(" ");
-        page.count(steps, "step", "steps");
+        remark.say(" ");
+        remark.count(steps, "step", "steps");
     } else {
-        page.cost(cost);
+        remark.cost(cost);
     }
-    page.say("\n");
+    page.remark(remark);
 }
 
 /// Whether what a comment says is true, or can't be checked.

@@ -1,23 +1,35 @@
 //! What a domain or a problem could have where it has something else.
 
+use crate::constructs::Construct;
+use crate::hints::push_did_you_mean;
+use crate::keywords::{PART_HINT, is_part, nearest_keyword};
 use crate::page::Page;
 use crate::scene::Scene;
 
 /// Adds what may appear where the fault is.
-pub(crate) fn push_expected_hints(page: &mut Page, scene: &Scene<'_>) {
+pub(crate) fn push_expected_hints(page: &mut Page, scene: &mut Scene<'_>) {
     if scene.is_swapped() {
         page.help_line("are the files of --domain and --problem swapped?");
         return;
     }
-    if scene.depth() == 0 {
-        page.help_line(outside_hint(scene));
-        return;
+    let near = nearest_keyword(page.alloc(), scene);
+    match page.found(near) {
+        Some(name) => push_did_you_mean(page, name),
+        None => page.help_line(expected_hint(scene)),
     }
-    if scene.depth() == 1 {
-        page.help_line(section_hint(scene));
-        return;
+}
+
+/// What may appear where the fault is.
+fn expected_hint(scene: &Scene<'_>) -> &'static str {
+    if scene.is_timed_literal() {
+        return Construct::TimedLiteral.hint();
     }
-    page.help_line(inside_hint(scene));
+    match scene.depth() {
+        0 => outside_hint(scene),
+        1 if is_part(scene.faulty()) => PART_HINT,
+        1 => section_hint(scene),
+        _ => inside_hint(scene),
+    }
 }
 
 /// What may be outside all lists.

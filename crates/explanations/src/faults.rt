@@ -1,5 +1,6 @@
 //! What is wrong with a domain or a problem, and where.
 
+use crate::constructs::{Construct, Seen, construct_at};
 use crate::hints::push_hints;
 use crate::outline::Sort;
 use crate::page::Page;
@@ -19,7 +20,7 @@ pub(crate) fn push_refusal(page: &mut Page, scene: &mut Scene<'_>) {
 }
 
 /// The range that is shown: that of the fault, or of the `(` that is never closed.
-fn shown_range(scene: &Scene<'_>) -> Range {
+pub(crate) fn shown_range(scene: &Scene<'_>) -> Range {
     let range = scene.range();
     if scene.kind() != FaultKind::Unbalanced || range.start < range.end {
         return range;
@@ -34,7 +35,7 @@ fn shown_range(scene: &Scene<'_>) -> Range {
 }
 
 /// Adds what is wrong.
-fn push_message(page: &mut Page, scene: &mut Scene<'_>) {
+pub(crate) fn push_message(page: &mut Page, scene: &mut Scene<'_>) {
     match scene.kind() {
         FaultKind::BadText => push_bad_text(page, scene),
         FaultKind::Unbalanced => push_unbalanced(page, scene),
@@ -79,6 +80,11 @@ fn push_expected(page: &mut Page, scene: &Scene<'_>) {
         });
         return;
     }
+    if scene.is_timed_literal() {
+        page.say("unexpected: `(at TIME ..)` is ");
+        page.say(Construct::TimedLiteral.name());
+        return;
+    }
     let faulty = scene.faulty();
     match faulty.first() {
         None => page.say("unexpected: the file has no definition"),
@@ -109,29 +115,51 @@ fn push_missing(page: &mut Page, scene: &Scene<'_>) {
 
 fn push_unsupported(page: &mut Page, scene: &Scene<'_>) {
     page.say("unsupported: ");
-    let is_list = scene.faulty() == b"(".as_slice();
-    let word = if is_list {
-        scene.head()
-    } else {
-        scene.faulty()
-    };
-    if is_list && !is_ipc_word(word) {
+    if let Some(seen) = construct_at(scene) {
+        push_construct(page, seen);
+        return;
+    }
+    if is_for_ipc(scene) {
+        page.quoted(scene.refused_word());
+        page.say(" is not part of the default language");
+        return;
+    }
+    if scene.faulty() == b"(".as_slice() {
         page.say("a list may not be an argument");
         return;
     }
-    page.quoted(word);
-    if is_ipc_word(word) && !scene.is_ipc() {
-        page.say(" is not part of the default language");
-    } else {
-        page.say(" is not supported here");
-    }
+    page.quoted(scene.faulty());
+    page.say(" is not supported here");
 }
 
-/// Whether only the dialect of the competitions reads a word.
-pub(crate) fn is_ipc_word(word: &[u8]) -> bool {
-    word == b"=".as_slice()
-        || word.eq_ignore_ascii_case(b":functions")
-        || word.eq_ignore_ascii_case(b"increase")
+/// Adds which part of PDDL is refused.
+fn push_construct(page: &mut Page, seen: Seen<'_>) {
+    match seen.construct {
+        Construct::DurativePart => page.quoted(seen.word),
+        Construct::TimedLiteral => page.say("`(at TIME ..)`"),
+        _ => {
+            page.say("`(");
+            page.word(seen.word);
+            page.say(" ..)`");
+        }
+    }
+    page.say(" is ");
+    page.say(seen.construct.name());
+}
+
+/// Whether the dialect of the competitions reads what is refused, and the dialect at hand does not.
+pub(crate) fn is_for_ipc(scene: &Scene<'_>) -> bool {
+    if scene.is_ipc() {
+        return false;
+    }
+    let word = scene.refused_word();
+    if word == b"=".as_slice() {
+        return scene.is_ipc_equality();
+    }
+    if word.eq_ignore_ascii_case(b":functions") {
+        return !scene.refusal.is_problem;
+    }
+    word.eq_ignore_ascii_case(b"increase")
 }
 
 /// What names of a sort are called.

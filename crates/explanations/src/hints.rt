@@ -1,7 +1,9 @@
 //! What to do about a refused domain or problem.
 
+use crate::constructs::{construct_at, is_one_of};
 use crate::expected::push_expected_hints;
-use crate::faults::{excess, is_ipc_word, sort_name};
+use crate::faults::{excess, is_for_ipc, sort_name};
+use crate::keywords::{home_of, is_part, nearest_keyword};
 use crate::library::{Found, push_types};
 use crate::outline::Sort;
 use crate::page::Page;
@@ -128,60 +130,60 @@ fn nested_section(scene: &Scene<'_>) -> Option<usize> {
     None
 }
 
-fn push_unsupported(page: &mut Page, scene: &Scene<'_>) {
-    let is_list = scene.faulty() == b"(".as_slice();
-    let word = if is_list {
-        scene.head()
-    } else {
-        scene.faulty()
-    };
-    if is_ipc_word(word) && !scene.is_ipc() {
+fn push_unsupported(page: &mut Page, scene: &mut Scene<'_>) {
+    if let Some(seen) = construct_at(scene) {
+        page.help_line(seen.construct.hint());
+        return;
+    }
+    if is_for_ipc(scene) {
         page.help_line(
             "--dialect ipc reads action costs, equality and a second parent `object` of a type",
         );
         return;
     }
-    if is_list {
-        page.help_line("arguments are names and variables");
-        return;
+    let near = nearest_keyword(page.alloc(), scene);
+    match page.found(near) {
+        Some(name) => push_did_you_mean(page, name),
+        None => page.help_line(unsupported_hint(scene)),
     }
-    page.help_line(unsupported_hint(word));
 }
 
-/// What to do about a word that is not read.
-fn unsupported_hint(word: &[u8]) -> &'static str {
-    if is_one_of(word, &[b"or", b"imply", b"exists", b"forall", b"when"]) {
-        return "STRIPS has `and`, and `not` before a single atom; a planner's preprocessor can compile the rest away";
+/// What to do about a word that is not read where it is.
+fn unsupported_hint(scene: &Scene<'_>) -> &'static str {
+    let word = scene.faulty();
+    if word == b"(".as_slice() {
+        return "arguments are names and variables";
     }
-    if is_one_of(word, &[b"not", b"and"]) {
-        return "`not` may be before a single atom only: `(not (p ?x))`";
-    }
-    if is_one_of(word, &[b":durative-action", b":duration", b":condition"]) {
-        return "durative actions are not STRIPS: only plans without time can be judged";
-    }
-    if is_one_of(word, &[b":derived", b":constraints"]) {
-        return "derived predicates and constraints are not STRIPS";
-    }
-    if is_one_of(word, &[b"decrease", b"assign", b"scale-up", b"scale-down"]) {
-        return "an action may only increase `(total-cost)`";
+    if let Some(home) = home_of(scene) {
+        return home;
     }
     if word.eq_ignore_ascii_case(b"either") {
         return "`either` may be in the type of a variable only";
     }
-    if is_one_of(word, &[b"<", b">", b"<=", b">=", b"+", b"-", b"*", b"/"]) {
-        return "numbers cannot be compared or calculated";
+    if scene.is_declaration() {
+        return declaration_hint(scene);
+    }
+    if word.eq_ignore_ascii_case(b"and") && scene.is_in(b":init") {
+        return "`:init` is a list of literals, without `and`";
+    }
+    if is_one_of(word, &[b"not", b"and", b"increase"]) {
+        return "`not` may be before a single atom only: `(not (p ?x))`";
+    }
+    if word == b"=".as_slice() {
+        return "`=` may be between two terms of a precondition or a goal, and in `:init` before a function and its value";
     }
     "this program reads STRIPS with types and negated conditions"
 }
 
-/// Whether a word is one of others, in upper or lower case.
-fn is_one_of(word: &[u8], others: &[&[u8]]) -> bool {
-    for other in others {
-        if word.eq_ignore_ascii_case(other) {
-            return true;
-        }
+/// What to do about a word in a declaration of predicates or functions that may not be there.
+fn declaration_hint(scene: &Scene<'_>) -> &'static str {
+    if !scene.is_head() {
+        return "no dialect of this program reads functions whose values are objects: the type of a function is `number`";
     }
-    false
+    if scene.faulty() == b"=".as_slice() {
+        return "`=` needs no declaration: remove it";
+    }
+    "this word has a meaning of its own, so it can name no predicate and no function"
 }
 
 fn push_unknown(page: &mut Page, scene: &mut Scene<'_>) {
@@ -272,11 +274,6 @@ fn first_offset(scene: &Scene<'_>, word: &[u8]) -> Option<usize> {
         }
     }
     None
-}
-
-/// Whether a word heads a part of an action.
-fn is_part(word: &[u8]) -> bool {
-    is_one_of(word, &[b":parameters", b":precondition", b":effect"])
 }
 
 /// Where the action around the fault begins.

@@ -2,7 +2,8 @@
 //!
 //! ```text
 //! let domain = SourceText { name: b"domain.pddl", bytes };
-//! let options = Options { dialect: Dialect::Strips, trace: false, colors: false };
+//! let format = ExplanationFormat::Text;
+//! let options = Options { dialect: Dialect::Strips, trace: false, lint: false, format, colors: false };
 //! let explanation = explain(alloc, seed, options, domain, problem, &plans)?;
 //! // explanation.text: `plans.txt:3:1: plan 1 fails at step 3, (load car a): 1 condition does not hold` and so on
 //! // explanation.all_valid: whether the texts are read and every plan is valid
@@ -15,33 +16,42 @@
 //! A run is read in `answers`. A refused text goes to `faults`, which says what is wrong, and to `hints` and `expected`, which say what to do: they
 //! read what is around the fault (`scene`), and the names that the texts declare (`library`). A plan goes to `plans`: `causes` names the
 //! steps that caused a failure, `unreadable` says where a text stops being a plan, `comments` compares a planner's cost, and `trace` shows each step.
-//! All write on a `Page`, which passes a byte of a file on to a terminal as it is only if it is printable.
+//! All write on a `Page`, which passes a byte of a file on to a terminal as it is only if it is printable. In JSON, `records` writes the same messages
+//! and hints as strings; `phrases` writes for scripts that know VAL. `lint` warns of what is probably not meant, by the `literals` of both texts.
 #![tactic(auto)]
 
 mod answers;
 mod breaks;
 mod causes;
 mod comments;
+mod constructs;
 mod effects;
 mod expected;
 mod faults;
 mod hints;
+mod keywords;
 mod library;
+mod lint;
+mod literals;
 mod names;
 mod outline;
 mod page;
+mod phrases;
 mod plans;
 mod positions;
+mod records;
 mod remarks;
+mod requirements;
 mod scene;
 mod source;
 mod steps;
+mod support;
 mod tokens;
 mod trace;
 mod unreadable;
 
-pub use answers::explain;
+pub use answers::{Refused, explain};
 pub use pddl_reader::Dialect;
 pub use report_text::Text;
-pub use source::{Explanation, Options, SourceText};
+pub use source::{Explanation, ExplanationFormat, Options, Phrases, SourceText};
 pub use strips_task::Seed;

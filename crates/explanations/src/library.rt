@@ -160,6 +160,20 @@ impl<'a> Library<'a> {
         Ok(nearest.name())
     }
 
+    /// The word that is nearest to a word among some, if one is near.
+    pub(crate) fn nearest_of(
+        &mut self,
+        alloc: Global,
+        words: &[&'a str],
+        word: &'a [u8],
+    ) -> Result<Option<&'a [u8]>, AllocError> {
+        let mut nearest = Nearest::to(word);
+        for known in words {
+            nearest.look_at(alloc, &mut self.budget, known.as_bytes())?;
+        }
+        Ok(nearest.name())
+    }
+
     /// The variable of an action that is nearest to a word, if one is near.
     pub(crate) fn nearest_variable(
         &mut self,

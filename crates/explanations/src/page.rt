@@ -1,16 +1,21 @@
 //! The page that an explanation is written on.
 //!
-//! Bytes of files go to the page only by [`Page::shown`], [`Page::quoted`], [`Page::word`] and [`Page::folded`], and names of files by
-//! [`Page::file_name`], so no file can bring an escape byte to a terminal.
+//! Bytes of files go to a text for people only by [`Page::shown`], [`Page::quoted`], [`Page::word`] and [`Page::folded`], and names of files by
+//! [`Page::file_name`], so no file can bring an escape byte to a terminal. What one page holds goes to another by [`Page::words`], [`Page::member`] and
+//! [`Page::remark`].
 
 use crate::positions::{Range, bytes_at};
+use crate::{ExplanationFormat, Phrases};
 use plan_cost::Cost;
-use report_text::{Text, push_atom, push_condition, push_cost, push_step};
+use report_text::{Text, push_cost, push_json_string};
 use std::alloc::{AllocError, Global};
-use strips_task::{Atom, GroundCond, StepView, Task};
+use strips_task::{Atom, GroundCond, GroundFormula, StepView, Task};
 
-/// How many bytes of a word are quoted in a message.
-const LONGEST_QUOTE: usize = 60;
+/// A word with more bytes than this is cut in a message.
+const LONGEST_WORD: usize = 60;
+
+/// How many bytes are kept at each end of a word that is cut.
+const KEPT: usize = 25;
 
 /// The digits of a byte in hex.
 const HEX_DIGITS: &[u8; 16] = b"0123456789abcdef";
@@ -32,17 +37,61 @@ pub(crate) enum Style {
 #[derive(Drop)]
 pub(crate) struct Page {
     text: Text,
+    format: ExplanationFormat,
     colors: bool,
+    /// Whether hints and remarks begin with a label.
+    has_labels: bool,
     lacks_memory: bool,
 }
 
 impl Page {
-    /// An empty page.
-    pub(crate) fn new(alloc: Global, colors: bool) -> Self {
+    /// An empty page. Only a text for people has colors.
+    pub(crate) fn new(alloc: Global, format: ExplanationFormat, colors: bool) -> Self {
         Page {
             text: Text::new(alloc),
-            colors,
+            format,
+            colors: colors && format == ExplanationFormat::Text,
+            has_labels: true,
             lacks_memory: false,
+        }
+    }
+
+    /// An empty page for words that go into a string or a remark.
+    pub(crate) fn draft(&self) -> Page {
+        Page::for_words(self.alloc())
+    }
+
+    /// An empty page for words that go into a string or a remark.
+    pub(crate) fn for_words(alloc: Global) -> Page {
+        Page {
+            text: Text::new(alloc),
+            format: ExplanationFormat::Text,
+            colors: false,
+            has_labels: false,
+            lacks_memory: false,
+        }
+    }
+
+    /// Whether records are written.
+    pub(crate) fn is_json(&self) -> bool {
+        self.format == ExplanationFormat::Json
+    }
+
+    /// Whether a text for people is written.
+    pub(crate) fn is_text(&self) -> bool {
+        self.format == ExplanationFormat::Text
+    }
+
+    /// How the page is written.
+    pub(crate) fn format(&self) -> ExplanationFormat {
+        self.format
+    }
+
+    /// Whether remarks about a run belong on the page.
+    fn has_remarks(&self) -> bool {
+        match self.format {
+            ExplanationFormat::Text | ExplanationFormat::Json => true,
+            ExplanationFormat::Phrases(phrases) => phrases == Phrases::Full,
         }
     }
 
@@ -55,13 +104,71 @@ impl Page {
     pub(crate) fn into_text(self) -> Result<Text, AllocError> {
         let Page {
             text,
-            colors: _,
             lacks_memory,
+            ..
         } = self;
         if lacks_memory {
             return Err(AllocError);
         }
         Ok(text)
+    }
+
+    /// The bytes of a draft, without the LF at their end.
+    fn take_draft(&mut self, draft: Page) -> Vec<u8> {
+        let Page {
+            text,
+            lacks_memory,
+            ..
+        } = draft;
+        self.lacks_memory |= lacks_memory;
+        let mut bytes = text.into_bytes();
+        if bytes.last() == Some(&b'\n') {
+            let _end = bytes.pop();
+        }
+        bytes
+    }
+
+    /// Adds a member of a record: the words of a draft as a string, or null if there are none.
+    pub(crate) fn member(&mut self, name: &str, draft: Page) {
+        let bytes = self.take_draft(draft);
+        self.say(",\"");
+        self.say(name);
+        self.say("\":");
+        if bytes.is_empty() {
+            self.say("null");
+        } else {
+            self.string(bytes.as_slice());
+        }
+    }
+
+    /// Adds a remark, unless it is empty.
+    pub(crate) fn remark(&mut self, draft: Page) {
+        let bytes = self.take_draft(draft);
+        if bytes.is_empty() || !self.has_remarks() {
+            return;
+        }
+        if self.is_json() {
+            self.say("{\"type\":\"note\",\"message\":");
+            self.string(bytes.as_slice());
+            self.say("}\n");
+            return;
+        }
+        self.label("note:");
+        self.push(bytes.as_slice());
+        self.say("\n");
+    }
+
+    /// Adds a JSON string.
+    pub(crate) fn string(&mut self, bytes: &[u8]) {
+        let pushed = push_json_string(&mut self.text, bytes);
+        self.note_memory(pushed);
+    }
+
+    /// Adds a name of a file as a JSON string in lower case.
+    pub(crate) fn name_string(&mut self, name: &[u8]) {
+        self.say("\"");
+        self.lower_case(name);
+        self.say("\"");
     }
 
     /// Notes whether there was memory for a piece.
@@ -75,6 +182,11 @@ impl Page {
         self.note_memory(pushed);
     }
 
+    /// Adds words that were written on a page before.
+    pub(crate) fn words(&mut self, words: &[u8]) {
+        self.push(words);
+    }
+
     /// Adds words of this program.
     pub(crate) fn say(&mut self, words: &str) {
         self.push(words.as_bytes());
@@ -86,28 +198,67 @@ impl Page {
         self.note_memory(pushed);
     }
 
-    /// Adds a condition.
+    /// Adds a condition, with long names cut.
     pub(crate) fn condition(&mut self, task: &Task, cond: &GroundCond) {
-        let pushed = push_condition(&mut self.text, task, cond);
-        self.note_memory(pushed);
+        if cond.positive {
+            self.formula(task, &cond.formula);
+            return;
+        }
+        self.say("(not ");
+        self.formula(task, &cond.formula);
+        self.say(")");
     }
 
-    /// Adds a step, as `(act a b)`.
+    /// Adds a formula.
+    fn formula(&mut self, task: &Task, formula: &GroundFormula) {
+        match formula {
+            GroundFormula::Atom(atom) => self.atom(task, atom),
+            GroundFormula::Equal(left, right) => {
+                self.say("(= ");
+                self.word(object_name(task, *left));
+                self.say(" ");
+                self.word(object_name(task, *right));
+                self.say(")");
+            }
+        }
+    }
+
+    /// Adds a step, as `(act a b)`, with long names cut.
     pub(crate) fn step_view(&mut self, step: &StepView<'_>) {
-        let pushed = push_step(&mut self.text, step);
-        self.note_memory(pushed);
+        self.say("(");
+        self.word(step.action());
+        for index in 0..step.arg_count() {
+            self.say(" ");
+            self.word(step.arg(index));
+        }
+        self.say(")");
     }
 
-    /// Adds an atom.
+    /// Adds an atom, with long names cut.
     pub(crate) fn atom(&mut self, task: &Task, atom: &Atom) {
-        let pushed = push_atom(&mut self.text, task, atom);
-        self.note_memory(pushed);
+        self.say("(");
+        self.word(predicate_name(task, atom.pred));
+        for number in atom.args.as_slice() {
+            self.say(" ");
+            self.word(object_name(task, *number));
+        }
+        self.say(")");
     }
 
     /// Adds ` cost C`, if costs are counted.
     pub(crate) fn cost(&mut self, cost: Cost) {
         let pushed = push_cost(&mut self.text, cost);
         self.note_memory(pushed);
+    }
+
+    /// Adds a cost that is counted and defined, as a number.
+    pub(crate) fn cost_number(&mut self, cost: Cost) {
+        let mut draft = self.draft();
+        draft.cost(cost);
+        let bytes = self.take_draft(draft);
+        if let Some(number) = bytes.as_slice().strip_prefix(b" cost ") {
+            self.push(number);
+        }
     }
 
     /// The name that a search found, if it found one. A search that lacks memory finds none.
@@ -148,11 +299,6 @@ impl Page {
         self.label("help:");
     }
 
-    /// Begins a line with a remark.
-    pub(crate) fn note(&mut self) {
-        self.label("note:");
-    }
-
     /// A whole line with a hint.
     pub(crate) fn help_line(&mut self, words: &str) {
         self.help();
@@ -162,6 +308,9 @@ impl Page {
 
     /// Begins a line with a label.
     fn label(&mut self, label: &str) {
+        if !self.has_labels {
+            return;
+        }
         self.style(Style::Hint);
         self.say(label);
         self.style(Style::Plain);
@@ -197,30 +346,38 @@ impl Page {
         ])
     }
 
-    /// Adds a word of a file between backquotes; a very long one is cut.
+    /// Adds a word of a file between backquotes; a long one is cut.
     pub(crate) fn quoted(&mut self, word: &[u8]) {
         self.say("`");
         self.word(word);
         self.say("`");
     }
 
-    /// Adds a word of a file; a very long one is cut.
+    /// Adds a word of a file; a long one is cut in the middle.
     pub(crate) fn word(&mut self, word: &[u8]) {
-        if word.len() <= LONGEST_QUOTE {
+        if word.len() <= LONGEST_WORD {
             self.shown(word);
             return;
         }
-        let front = Range {
-            start: 0,
-            end: LONGEST_QUOTE,
-        };
-        self.shown(bytes_at(word, front));
+        self.shown(front_of(word));
         self.say("..");
+        self.shown(back_of(word));
     }
 
-    /// Adds a word of a file in lower case.
+    /// Adds a word of a file in lower case; a long one is cut in the middle.
     pub(crate) fn folded(&mut self, word: &[u8]) {
-        for byte in word {
+        if word.len() <= LONGEST_WORD {
+            self.lower_case(word);
+            return;
+        }
+        self.lower_case(front_of(word));
+        self.say("..");
+        self.lower_case(back_of(word));
+    }
+
+    /// Adds bytes of a file in lower case.
+    fn lower_case(&mut self, bytes: &[u8]) {
+        for byte in bytes {
             self.shown_byte(byte.to_ascii_lowercase());
         }
     }
@@ -243,6 +400,46 @@ impl Page {
         for _ in 0..times {
             self.push(&[byte]);
         }
+    }
+}
+
+/// The first bytes of a word that is cut.
+fn front_of(word: &[u8]) -> &[u8] {
+    bytes_at(
+        word,
+        Range {
+            start: 0,
+            end: KEPT,
+        },
+    )
+}
+
+/// The last bytes of a word that is cut.
+fn back_of(word: &[u8]) -> &[u8] {
+    bytes_at(
+        word,
+        Range {
+            start: word.len().saturating_sub(KEPT),
+            end: word.len(),
+        },
+    )
+}
+
+/// The name of the predicate with a number; nothing if no predicate has it.
+pub(crate) fn predicate_name(task: &Task, number: u16) -> &[u8] {
+    if usize::from(number) < task.pred_count() {
+        task.pred_name(number).as_bytes()
+    } else {
+        b""
+    }
+}
+
+/// The name of the object with a number; nothing if no object has it.
+pub(crate) fn object_name(task: &Task, number: u16) -> &[u8] {
+    if usize::from(number) < task.object_count() {
+        task.object_name(number).as_bytes()
+    } else {
+        b""
     }
 }
 

@@ -153,7 +153,7 @@ fn faulty_word(why: &Why) -> Option<usize> {
 }
 
 /// The position of the word of a step that is wrong, or of the whole step.
-fn faulty_position(file: &[u8], step: Position, why: &Why) -> Position {
+pub(crate) fn faulty_position(file: &[u8], step: Position, why: &Why) -> Position {
     let Some(number) = faulty_word(why) else {
         return step;
     };
@@ -170,7 +170,7 @@ fn faulty_position(file: &[u8], step: Position, why: &Why) -> Position {
 }
 
 /// Adds what is wrong with a step.
-fn push_why<'a>(page: &mut Page, library: &mut Library<'a>, step: &'a [u8], why: &Why) {
+pub(crate) fn push_why<'a>(page: &mut Page, library: &mut Library<'a>, step: &'a [u8], why: &Why) {
     match why {
         Why::UnknownAction => {
             page.say("no action is called ");
@@ -205,7 +205,7 @@ fn push_wrong_count<'a>(page: &mut Page, library: &mut Library<'a>, step: &'a [u
 }
 
 /// Adds what to do about a step.
-fn push_hint<'a>(page: &mut Page, library: &mut Library<'a>, step: &'a [u8], why: &Why) {
+pub(crate) fn push_hint<'a>(page: &mut Page, library: &mut Library<'a>, step: &'a [u8], why: &Why) {
     match why {
         Why::UnknownAction => push_near(page, library, Sort::Action, word_of(step, 0)),
         Why::UnknownObject { arg } => {

@@ -139,6 +139,19 @@ pub(crate) fn push_position(page: &mut Page, name: &[u8], position: Position) {
     page.say(" ");
 }
 
+/// Adds the members of a record for a position.
+pub(crate) fn push_place(page: &mut Page, position: Position) {
+    page.say(",\"line\":");
+    page.number(position.line.number);
+    page.say(",\"column\":");
+    page.number(column(position));
+    page.say(",\"bytes\":[");
+    page.number(position.range.start);
+    page.say(",");
+    page.number(position.range.end);
+    page.say("]");
+}
+
 /// Adds `FILE:LINE`.
 pub(crate) fn push_line(page: &mut Page, file: SourceText<'_>, at: usize) {
     page.file_name(file.name);

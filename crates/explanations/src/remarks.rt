@@ -17,14 +17,15 @@ pub(crate) fn push_other_domain(page: &mut Page, task: &Task, problem: SourceTex
     if name.eq_ignore_ascii_case(domain) {
         return;
     }
-    page.note();
-    page.say("the problem is for the domain ");
-    page.quoted(name);
-    page.say(" (");
-    push_line(page, problem, range.start);
-    page.say("), but the domain at hand is ");
-    page.quoted(domain);
-    page.say("; it is judged all the same\n");
+    let mut remark = page.draft();
+    remark.say("the problem is for the domain ");
+    remark.quoted(name);
+    remark.say(" (");
+    push_line(&mut remark, problem, range.start);
+    remark.say("), but the domain at hand is ");
+    remark.quoted(domain);
+    remark.say("; it is judged all the same");
+    page.remark(remark);
 }
 
 /// How far the search for the name of the domain has come.
@@ -68,14 +69,14 @@ pub(crate) fn push_empty_end(page: &mut Page, file: SourceText<'_>, last: Range,
     if number < 2 || !is_blank(bytes_at(file.bytes, last)) {
         return;
     }
-    page.note();
-    page.say("the line `---` at ");
-    page.file_name(file.name);
-    page.say(":");
-    page.number(line_at(file.bytes, last.start.saturating_sub(1)).number);
-    page.say(" separates plans, so the file ends with an empty plan, ");
-    page.number(number);
-    page.say("\n");
+    let mut remark = page.draft();
+    remark.say("the line `---` at ");
+    remark.file_name(file.name);
+    remark.say(":");
+    remark.number(line_at(file.bytes, last.start.saturating_sub(1)).number);
+    remark.say(" separates plans, so the file ends with an empty plan, ");
+    remark.number(number);
+    page.remark(remark);
 }
 
 /// Whether there are only blanks.
@@ -83,9 +84,9 @@ fn is_blank(bytes: &[u8]) -> bool {
     bytes.iter().all(|b| b.is_ascii_whitespace())
 }
 
-/// Adds how many plans there are and how many are valid, if there are several.
+/// Adds how many plans there are and how many are valid, if there are several, to a text for people.
 pub(crate) fn push_end(page: &mut Page, plans: usize, valid: usize) {
-    if plans < 2 {
+    if plans < 2 || !page.is_text() {
         return;
     }
     page.number(plans);

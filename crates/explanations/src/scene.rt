@@ -68,6 +68,15 @@ impl<'a> Scene<'a> {
         bytes_at(self.refusal.file.bytes, self.range())
     }
 
+    /// The word that is refused: the faulty one, or the head of the list around a faulty `(`.
+    pub(crate) fn refused_word(&self) -> &'a [u8] {
+        if self.faulty() == b"(".as_slice() {
+            self.head()
+        } else {
+            self.faulty()
+        }
+    }
+
     /// Whether the faulty bytes are this word.
     pub(crate) fn is_faulty(&self, word: &[u8]) -> bool {
         self.faulty().eq_ignore_ascii_case(word)
@@ -142,6 +151,73 @@ impl<'a> Scene<'a> {
             list = self.pieces.list_around(open);
         }
         depth
+    }
+
+    /// The number of the `(` around the fault that is inside this many other lists.
+    fn list_inside(&self, outer: usize) -> Option<usize> {
+        let depth = self.depth();
+        if depth <= outer {
+            return None;
+        }
+        let mut list = self.list();
+        for _ in outer.saturating_add(1)..depth {
+            list = self.pieces.list_around(list?);
+        }
+        list
+    }
+
+    /// The word before the value of a section's part that is around the fault, as `:effect`.
+    pub(crate) fn part(&self) -> &'a [u8] {
+        match self.list_inside(2) {
+            Some(open) => self.pieces.word(open.saturating_sub(1)),
+            None => b"",
+        }
+    }
+
+    /// Whether the section around the fault has this head.
+    pub(crate) fn is_in(&self, section: &[u8]) -> bool {
+        self.section().eq_ignore_ascii_case(section)
+    }
+
+    /// Whether the fault is in a declaration of predicates or functions.
+    pub(crate) fn is_declaration(&self) -> bool {
+        self.is_in(b":predicates") || self.is_in(b":functions")
+    }
+
+    /// Whether the piece with a number is a `(`.
+    fn is_left(&self, number: usize) -> bool {
+        self.pieces.get(number).is_some_and(|piece| piece.is_left())
+    }
+
+    /// Whether the piece after the fault is a `(`.
+    pub(crate) fn is_before_list(&self) -> bool {
+        self.is_left(self.number.saturating_add(1))
+    }
+
+    /// Whether the fault is the time of a timed initial literal.
+    pub(crate) fn is_timed_literal(&self) -> bool {
+        self.is_before_list()
+            && self.index_in_list() == 1
+            && self.head().eq_ignore_ascii_case(b"at")
+            && self
+                .faulty()
+                .first()
+                .is_some_and(|byte| byte.is_ascii_digit())
+            && self.is_in(b":init")
+    }
+
+    /// Whether the fault is the `=` of a condition on the value of a function.
+    pub(crate) fn compares_numbers(&self) -> bool {
+        let has_list = self.is_before_list() || self.is_left(self.number.saturating_add(2));
+        has_list && !self.is_in(b":init") && !self.part().eq_ignore_ascii_case(b":effect")
+    }
+
+    /// Whether the fault is an `=` that the dialect of the competitions reads: between terms of a condition, or before a value in `:init`.
+    pub(crate) fn is_ipc_equality(&self) -> bool {
+        if self.is_in(b":init") {
+            return self.is_before_list() && self.depth() == 3;
+        }
+        !self.is_declaration() && !self.part().eq_ignore_ascii_case(b":effect")
     }
 
     /// Which sort of name is allowed at the fault.

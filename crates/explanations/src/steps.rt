@@ -140,6 +140,24 @@ pub(crate) fn push_step(page: &mut Page, step: &[u8]) {
     page.say(")");
 }
 
+/// Adds the words of a step as a JSON list, in lower case.
+pub(crate) fn push_step_list(page: &mut Page, step: &[u8]) {
+    page.say("[");
+    let mut count: usize = 0;
+    if let Ok(mut cursor) = Cursor::new(step) {
+        'tokens: while let Ok(Some(token)) = cursor.next() {
+            if matches!(token.kind, TokenKind::Word) {
+                if count > 0 {
+                    page.say(",");
+                }
+                page.name_string(token.text);
+                count = count.saturating_add(1);
+            }
+        }
+    }
+    page.say("]");
+}
+
 /// Adds a word of a step, unless there were too many.
 fn push_word(page: &mut Page, word: &[u8], number: usize) {
     if number > MOST_WORDS {

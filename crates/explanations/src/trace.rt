@@ -4,10 +4,12 @@ ghost use Rattle.std.specs.Prelude.{◌<◌, length};
 
 use crate::effects::{World, action_of, ground, is_among, objects_of};
 use crate::page::Page;
+use crate::plans::PlanAt;
+use crate::records::{push_atom_list, push_cost_member, push_step_record};
 use plan_cost::{Cost, CostScratch, CostedTask, step_cost};
 use plan_text::{PlanSteps, StepWords, TextStep};
 use std::alloc::{AllocError, Global};
-use strips_task::{Action, OpenSteps, StepView};
+use strips_task::{Action, Atom, OpenSteps, StepView, Task};
 
 /// What a walk over the steps of a plan keeps.
 #[derive(Drop)]
@@ -24,13 +26,13 @@ struct Trace<'t> {
 pub(crate) fn push_trace(
     page: &mut Page,
     task: &CostedTask,
-    text: &[u8],
+    plan: PlanAt<'_>,
     most: usize,
 ) -> Result<(), AllocError> {
-    match PlanSteps::new(text) {
+    match PlanSteps::new(plan.part.text()) {
         Some(mut walk) => {
             let mut trace = Trace::new(page.alloc(), task);
-            trace.push_steps(page, &mut walk, most)
+            trace.push_steps(page, plan, &mut walk, most)
         }
         None => Ok(()),
     }
@@ -54,6 +56,7 @@ impl<'t> Trace<'t> {
     fn push_steps(
         &mut self,
         page: &mut Page,
+        plan: PlanAt<'_>,
         walk: &mut PlanSteps<'_>,
         most: usize,
     ) -> Result<(), AllocError> {
@@ -61,7 +64,7 @@ impl<'t> Trace<'t> {
             match walk.next_step() {
                 TextStep::Step { words, key: _ } => {
                     self.read(&words)?;
-                    self.push_step(page, walk.count())?;
+                    self.push_step(page, plan, walk.count())?;
                 }
                 TextStep::End => return Ok(()),
                 TextStep::Unreadable { line: _ } => return Ok(()),
@@ -79,24 +82,43 @@ impl<'t> Trace<'t> {
     }
 
     /// Adds the step that was read, and what it changes.
-    fn push_step(&mut self, page: &mut Page, number: usize) -> Result<(), AllocError> {
+    fn push_step(
+        &mut self,
+        page: &mut Page,
+        plan: PlanAt<'_>,
+        number: usize,
+    ) -> Result<(), AllocError> {
         if self.step.len() == 0 {
             return Ok(());
         }
         let step = self.step.get(0);
-        page.say("  ");
-        page.number(number);
-        page.say(" ");
-        page.step_view(&step);
-        page.say("\n");
+        if page.is_json() {
+            push_step_record(page, plan, number, &step);
+        } else {
+            page.say("  ");
+            page.number(number);
+            page.say(" ");
+            page.step_view(&step);
+            page.say("\n");
+        }
         push_changes(page, self.task, &mut self.world, step)?;
         self.cost = cost_with(self.task, self.cost, step, &mut self.scratch)?;
-        if self.cost != Cost::NotCounted {
-            page.say("    ");
-            page.cost(self.cost);
-            page.say(" so far\n");
-        }
+        push_cost_so_far(page, self.cost);
         Ok(())
+    }
+}
+
+/// Adds what the steps cost so far, and the end of the step's record.
+fn push_cost_so_far(page: &mut Page, cost: Cost) {
+    if page.is_json() {
+        push_cost_member(page, cost);
+        page.say("}\n");
+        return;
+    }
+    if cost != Cost::NotCounted {
+        page.say("    ");
+        page.cost(cost);
+        page.say(" so far\n");
     }
 }
 
@@ -143,16 +165,55 @@ fn push_deleted(
     for pattern in action.del.as_slice() {
         let atom = ground(page.alloc(), pattern, objects)?;
         if world.holds(&atom) && !is_among(page.alloc(), &atom, action.add.as_slice(), objects)? {
-            page.say(if shown { " " } else { "     deletes " });
-            page.atom(&task.task, &atom);
+            push_change(page, &task.task, "deletes", shown, &atom);
             world.set(atom, false)?;
             shown = true;
         }
     }
+    push_end(page, "deletes", shown);
+    Ok(())
+}
+
+/// Adds an atom that a step changes, the first of which begins a list.
+fn push_change(page: &mut Page, task: &Task, change: &str, shown: bool, atom: &Atom) {
+    if page.is_json() {
+        push_list_start(page, change, shown);
+        push_atom_list(page, task, atom);
+        return;
+    }
+    if shown {
+        page.say(" ");
+    } else {
+        page.say("     ");
+        page.say(change);
+        page.say(" ");
+    }
+    page.atom(task, atom);
+}
+
+/// Begins a member of a record with a list, or goes on with it.
+fn push_list_start(page: &mut Page, name: &str, shown: bool) {
+    if shown {
+        page.say(",");
+        return;
+    }
+    page.say(",\"");
+    page.say(name);
+    page.say("\":[");
+}
+
+/// Ends the list of the atoms that a step changes.
+fn push_end(page: &mut Page, change: &str, shown: bool) {
+    if page.is_json() {
+        if !shown {
+            push_list_start(page, change, false);
+        }
+        page.say("]");
+        return;
+    }
     if shown {
         page.say("\n");
     }
-    Ok(())
 }
 
 /// Adds atoms, and adds a line with those that were false.
@@ -167,14 +228,11 @@ fn push_added(
     for pattern in action.add.as_slice() {
         let atom = ground(page.alloc(), pattern, objects)?;
         if !world.holds(&atom) {
-            page.say(if shown { " " } else { "     adds " });
-            page.atom(&task.task, &atom);
+            push_change(page, &task.task, "adds", shown, &atom);
             world.set(atom, true)?;
             shown = true;
         }
     }
-    if shown {
-        page.say("\n");
-    }
+    push_end(page, "adds", shown);
     Ok(())
 }

@@ -6,7 +6,7 @@ use crate::library::Library;
 use crate::outline::Sort;
 use crate::page::Page;
 use crate::plans::{PlanAt, push_name};
-use crate::positions::{bytes_at, line_text, push_excerpt, push_position};
+use crate::positions::{Position, bytes_at, line_text, push_excerpt, push_place, push_position};
 
 /// Adds where a plan breaks and why.
 pub(crate) fn push_unreadable(page: &mut Page, library: &mut Library<'_>, plan: PlanAt<'_>) {
@@ -17,20 +17,72 @@ pub(crate) fn push_unreadable(page: &mut Page, library: &mut Library<'_>, plan: 
         page.say(" cannot be read\n");
         return;
     };
-    let mut lines = plan.part.lines;
-    let position = lines.position_of(plan.file.bytes, plan.part.in_file(found.range));
+    let position = position_of_break(plan, found);
     push_position(page, plan.file.name, position);
     page.say("plan ");
     page.number(plan.number);
     page.say(" cannot be read: ");
-    let word = bytes_at(plan.file.bytes, position.range);
-    push_message(page, found, word);
+    push_message(page, found, bytes_at(plan.file.bytes, position.range));
     page.say("\n");
     push_excerpt(page, plan.file.bytes, position);
+    push_hint(page, library, plan, found, position)
+}
+
+/// Adds the line at which a plan breaks, and why.
+pub(crate) fn push_break(page: &mut Page, plan: PlanAt<'_>) {
+    let Some(found) = break_of(plan.part.text()) else {
+        page.say("it cannot be read");
+        return;
+    };
+    let position = position_of_break(plan, found);
+    page.say("line ");
+    page.number(position.line.number);
+    page.say(": ");
+    push_message(page, found, bytes_at(plan.file.bytes, position.range))
+}
+
+/// Adds the members of the record of a plan that cannot be read.
+pub(crate) fn push_unreadable_members(
+    page: &mut Page,
+    library: &mut Library<'_>,
+    plan: PlanAt<'_>,
+) {
+    let Some(found) = break_of(plan.part.text()) else {
+        return;
+    };
+    let position = position_of_break(plan, found);
+    push_place(page, position);
+    let mut message = page.draft();
+    push_message(
+        &mut message,
+        found,
+        bytes_at(plan.file.bytes, position.range),
+    );
+    page.member("message", message);
+    let mut hint = page.draft();
+    push_hint(&mut hint, library, plan, found, position);
+    page.member("hint", hint)
+}
+
+/// Where in its file a plan breaks.
+fn position_of_break(plan: PlanAt<'_>, found: Break) -> Position {
+    let mut lines = plan.part.lines;
+    lines.position_of(plan.file.bytes, plan.part.in_file(found.range))
+}
+
+/// Adds what to do about a plan that breaks at a position.
+fn push_hint(
+    page: &mut Page,
+    library: &mut Library<'_>,
+    plan: PlanAt<'_>,
+    found: Break,
+    position: Position,
+) {
     if found.cause == Cause::Byte {
         push_bad_byte(page, plan.file.bytes, position.range.start);
         return;
     }
+    let word = bytes_at(plan.file.bytes, position.range);
     let line = line_text(plan.file.bytes, position);
     let is_action = library.find(Sort::Action, word).is_some();
     page.help_line(hint(found, word, line, is_action));
@@ -95,6 +147,9 @@ fn hint_between(word: &[u8], line: &[u8], is_action: bool) -> &'static str {
     if word == b")".as_slice() {
         return "this `)` closes no step: remove it";
     }
+    if is_lpg_number(word) {
+        return "this is a plan of LPG-td, with a duration and a cost after each step: remove each `[D:..; C:..]`, as `sed 's/\\[D:.*//'` does";
+    }
     if is_stamp(word) {
         return "stamps have to rise: steps at the same time cannot be judged";
     }
@@ -111,6 +166,11 @@ fn hint_between(word: &[u8], line: &[u8], is_action: bool) -> &'static str {
         return "this is a line of a planner's log: give the file with the plan, or put `;` before the line";
     }
     hint_for_sign(word)
+}
+
+/// Whether a word begins what LPG-td writes after a step, as in `[D:1.00; C:0.10]`. A comment begins at its `;`, so the word ends there.
+fn is_lpg_number(word: &[u8]) -> bool {
+    starts_with(word, b"[D:")
 }
 
 /// What to do about a word between steps, by its first byte.

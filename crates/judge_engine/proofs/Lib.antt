@@ -13,3 +13,4 @@ pub mod Standing
 pub mod PlanCounts
 pub mod Files
 pub mod Texts
+pub mod PlainNames

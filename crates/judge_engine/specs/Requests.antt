@@ -2,9 +2,9 @@
 
 use Rattle.std.specs.Prelude.{◌≡◌, ℕ, true, List, map}
 use Rattle.command_words.specs.CommandLine.{asks_for_help}
-use Rattle.judge_engine.specs.Command.{AsksToJudge, AsksToReplay, AsksToExplain}
+use Rattle.judge_engine.specs.Command.{AsksToJudge, AsksToReplay, AsksToExplain, AsksToValidate}
 use Rattle.judge_engine.specs.declared.requests.Request.{Request}
-use Rattle.judge_engine.specs.declared.requests.Request.TheVariants.{Judge, Replay, Explain, Show, Refused}
+use Rattle.judge_engine.specs.declared.requests.Request.TheVariants.{Judge, Replay, Explain, Validate, Show, Refused}
 
 -- what is asked for; any words may be refused
 abbrev pub IsAskedFor : List (List ℕ) → Request → Type 0
@@ -12,5 +12,6 @@ IsAskedFor words (Judge files) =
     AsksToJudge words files.dialect files.format files.domain.now files.problem.now (map (λ name. name.now) files.plans.items)
 IsAskedFor words (Replay files) = AsksToReplay words files.dialect files.domain.now files.problem.now files.steps.now
 IsAskedFor words (Explain files) = AsksToExplain words files.dialect files.domain.now files.problem.now (map (λ name. name.now) files.plans.items)
+IsAskedFor words (Validate files) = AsksToValidate words files.dialect files.domain.now files.problem.now (map (λ name. name.now) files.plans.items)
 IsAskedFor words (Show text) = asks_for_help words ≡ true
 IsAskedFor words (Refused text) = Unit {0}

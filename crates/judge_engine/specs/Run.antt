@@ -9,13 +9,17 @@ use Rattle.explanations.specs.declared.source.SourceText.{SourceText}
 use Rattle.explanations.specs.AllValid.{all_valid_for, task_in}
 use Rattle.judge_engine.specs.Answer.{answer_as}
 use Rattle.judge_engine.specs.Bundle.{BundleValue}
-use Rattle.judge_engine.specs.Command.{AsksToJudge, AsksToReplay, AsksToExplain}
+use Rattle.judge_engine.specs.Command.{AsksToJudge, AsksToReplay, AsksToExplain, AsksToValidate}
 use Rattle.judge_engine.specs.Outlet.{AppendsFront}
 use Rattle.judge_engine.specs.ReplayAnswer.{replay_answer_in}
 
+-- the file that a word of the command line names: `-` is standard input
+abbrev pub file_named : List ℕ → List ℕ
+file_named name = if bytes_eq name (codes "-") then codes "/dev/stdin" else name
+
 -- the file of a planner, which has the file's name
 abbrev pub IsFile : (List ℕ → List ℕ → Type 0) → List ℕ → BundleValue → Type 0
-IsFile MayHold name bundle = (bundle.name ≡ name) × MayHold name bundle.bytes
+IsFile MayHold name bundle = (bundle.name ≡ name) × MayHold (file_named name) bundle.bytes
 
 -- the files of planners, in the order of their names
 abbrev pub AreFiles : (List ℕ → List ℕ → Type 0) → List (List ℕ) → List BundleValue → Type 0
@@ -29,8 +33,8 @@ pub record IsReportOver (dialect : Dialect) (format : Format) (MayHold : List �
   pub domain_text : List ℕ
   pub problem_text : List ℕ
   pub bundles : List BundleValue
-  pub of_domain : MayHold domain domain_text
-  pub of_problem : MayHold problem problem_text
+  pub of_domain : MayHold (file_named domain) domain_text
+  pub of_problem : MayHold (file_named problem) problem_text
   pub of_plans : AreFiles MayHold plans bundles
   pub is_answer : answer_as dialect format domain_text problem_text bundles ≡ Some report
 
@@ -51,9 +55,9 @@ pub record IsReplayOver (dialect : Dialect) (MayHold : List ℕ → List ℕ →
   pub domain_text : List ℕ
   pub problem_text : List ℕ
   pub steps_text : List ℕ
-  pub of_domain : MayHold domain domain_text
-  pub of_problem : MayHold problem problem_text
-  pub of_steps : MayHold steps steps_text
+  pub of_domain : MayHold (file_named domain) domain_text
+  pub of_problem : MayHold (file_named problem) problem_text
+  pub of_steps : MayHold (file_named steps) steps_text
   pub is_answer : replay_answer_in dialect domain_text problem_text steps_text ≡ Some report
 
 -- the lines of the replay went out, and nothing else
@@ -68,10 +72,6 @@ pub record CutsReplay (dialect : Dialect) (MayHold : List ℕ → List ℕ → T
   pub is_report : IsReplayOver dialect MayHold domain problem steps report
   pub went_out : AppendsFront old new report
 
--- a file of plans as `explain` reads it: the word `-` means standard input
-abbrev pub file_named : List ℕ → List ℕ
-file_named name = if bytes_eq name (codes "-") then codes "/dev/stdin" else name
-
 -- the texts that the files of plans with these names may hold, in their order
 abbrev pub AreTexts : (List ℕ → List ℕ → Type 0) → List (List ℕ) → List (List ℕ) → Type 0
 AreTexts MayHold names texts = AllZip (λ name text. MayHold (file_named name) text) names texts
@@ -81,8 +81,8 @@ pub record AreAllValidOver (dialect : Dialect) (MayHold : List ℕ → List ℕ 
   pub domain_text : List ℕ
   pub problem_text : List ℕ
   pub files : List SourceText
-  pub of_domain : MayHold domain domain_text
-  pub of_problem : MayHold problem problem_text
+  pub of_domain : MayHold (file_named domain) domain_text
+  pub of_problem : MayHold (file_named problem) problem_text
   pub of_plans : AreTexts MayHold plans (map (λ file. file.bytes.now) files)
   pub are_valid : all_valid_for (task_in dialect domain_text problem_text) files ≡ true
 
@@ -114,6 +114,15 @@ pub record AreExplainedValid (MayHold : List ℕ → List ℕ → Type 0) (words
   pub asked : AsksToExplain words dialect domain problem plans
   pub valid : AreAllValidOver dialect MayHold domain problem plans
 
--- what a command line asks for went out; if it is an explanation, all plans are valid
+-- all plans that a command line asks to validate are valid
+pub record AreValidated (MayHold : List ℕ → List ℕ → Type 0) (words : List (List ℕ)) : Type 0 where
+  pub dialect : Dialect
+  pub domain : List ℕ
+  pub problem : List ℕ
+  pub plans : List (List ℕ)
+  pub asked : AsksToValidate words dialect domain problem plans
+  pub valid : AreAllValidOver dialect MayHold domain problem plans
+
+-- what a command line asks for went out; if it is an explanation or to validate, all plans are valid
 abbrev pub Answers : (List ℕ → List ℕ → Type 0) → List (List ℕ) → Option (List ℕ) → Option (List ℕ) → Type 0
-Answers MayHold words old new = WritesJudged MayHold words old new ⊎ WritesReplayed MayHold words old new ⊎ AreExplainedValid MayHold words
+Answers MayHold words old new = WritesJudged MayHold words old new ⊎ WritesReplayed MayHold words old new ⊎ AreExplainedValid MayHold words ⊎ AreValidated MayHold words

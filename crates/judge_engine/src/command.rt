@@ -7,12 +7,16 @@ ghost use Rattle.std.specs.String.{string_bytes};
 ghost use Rattle.command_words.specs.CommandLine.{has_command};
 ghost use Rattle.judge_engine.specs.Requests.{IsAskedFor};
 
-use crate::options::{dialect_asked, format_asked};
+use crate::messages::push_escaped;
+use crate::options::{can_show, dialect_asked, format_asked, is_plain};
 use crate::requests::Request;
 pub use crate::requests::{ExplainRequest, JudgeRequest, ReplayRequest};
 use clap::error::ErrorKind;
-use clap::{Arg, ArgAction, Command, Error, value_parser};
+use clap::{Arg, ArgAction, ArgMatches, Command, Error, value_parser};
 use command_words::{arguments, asks_for_help, has_command, operands, value_of};
+use explanations::{ExplanationFormat, Phrases};
+use pddl_reader::Dialect;
+use report_text::Text;
 use std::alloc::{AllocError, Global};
 
 /// The most threads that may judge.
@@ -21,11 +25,18 @@ const MOST_WORKERS: u32 = 32;
 /// The names of the dialects.
 const DIALECTS: [&str; 2] = ["strips", "ipc"];
 
-/// The names of the formats.
+/// The names of the formats of a report.
 const FORMATS: [&str; 3] = ["lines", "tsv", "json"];
+
+/// The names of the formats of an explanation.
+const EXPLANATION_FORMATS: [&str; 2] = ["text", "json"];
 
 /// The version of the program by the rules of semantic versioning. `--version` prints it; the manual page and the packages take it from here.
 const VERSION: &str = "0.3.0";
+
+/// Why a command line is refused that names standard input twice.
+const READ_TWICE: &str =
+    "error: - is standard input, which can be read only once; a file of that name is ./-\n";
 
 const ABOUT: &str =
     "Judges the plans of classical planners: says of each whether it is valid, or which step fails first and what is missing.";
@@ -39,13 +50,15 @@ A report of judge has a line for each plan and one for each planner:
 `plan_judge judge --help` and `plan_judge replay --help` explain each line. Where a plan fails or a text is refused,
 plan_judge explain says why.
 
+One of the files may be -, which is standard input.
+
 Exit status:
   0  a report was written, whatever the verdicts, or help was
   1  an input was refused
   2  the command line was refused
   3  memory ran out, or a thread could not be started
   4  the report could not be written
-explain ends with 0 only if the texts are read and all plans are valid, and with 1 if something is wrong.
+explain and validate end with 0 only if the texts are read and all plans are valid, and with 1 if something is wrong.
 
 Example:
   plan_judge judge --domain domain.pddl --problem problem.pddl planner-1 planner-2
@@ -94,8 +107,9 @@ const EXPLAIN_AFTER_HELP: &str = "\
 The explanation, on standard output:
   FILE:LINE:COLUMN: what is wrong, the line, and what to do about it
 of a text that is refused, of a plan that is no plan text, and of each plan that fails or misses its goal. For each
-condition that does not hold it names the step that made it so. PLANS may be left out, to test the domain and the problem alone;
-the word - is standard input.
+condition that does not hold it names the step that made it so. PLANS may be left out, to test the domain and the problem alone.
+With --format json it has the same facts as records for programs, a JSON object a line. With --lint warnings follow,
+which change no verdict and no exit status.
 
 Exit status:
   0  the domain and the problem are read, and all plans are valid
@@ -138,6 +152,62 @@ Example:
 
 Documents, in the folder docs of the repository: TUTORIAL.md, SPECIFICATION.md.";
 
+const VALIDATE_ABOUT: &str =
+    "Says in the phrases of VAL's command validate which plans are valid, for scripts that call it.";
+
+const VALIDATE_AFTER_HELP: &str = "\
+The texts are read in the dialect ipc. For each plan, on standard output:
+  Checking plan: FILE
+and, if it is valid, with its cost, or the number of its steps where the domain declares no total-cost:
+  Plan executed successfully - checking goal
+  Plan valid
+  Final value: 3
+or else one of these phrases, and below it the step that fails and what is missing:
+  Plan failed to execute
+  Goal not satisfied
+  Bad plan description!
+
+The program validate, which is installed with plan_judge, is this command.
+
+Exit status:
+  0  all plans are valid
+  1  a plan is not valid, or a file could not be read, is too large, or holds no domain or problem that this judge reads
+  2  the command line was refused
+  3  memory ran out
+  4  the verdicts could not be written
+
+Example:
+  plan_judge validate domain.pddl problem.pddl sas_plan
+
+Documents, in the folder docs of the repository: DIFFERENCES.md says what differs from VAL.";
+
+/// What the options of `explain` and `validate` without a value say.
+#[derive(Clone, Copy)]
+struct Flags {
+    trace: bool,
+    lint: bool,
+    phrases: Phrases,
+}
+
+/// The flags of a command line.
+fn flags_of(matches: &ArgMatches<'_>) -> Flags {
+    let is_set = |command: &str, flag: &str| match matches.subcommand_matches(command) {
+        Some(found) => found.get_flag(flag),
+        None => false,
+    };
+    Flags {
+        trace: is_set("explain", "trace"),
+        lint: is_set("explain", "lint"),
+        phrases: if is_set("validate", "silent") {
+            Phrases::Values
+        } else if is_set("validate", "verbose") {
+            Phrases::Full
+        } else {
+            Phrases::Short
+        },
+    }
+}
+
 /// What the words of a command line ask for; the first is the program's name.
 ///
 /// `clap` decides whether the command line is accepted; what it asks for is read from its words.
@@ -150,15 +220,11 @@ pub(crate) fn parse<'a>(alloc: Global, words: &'a [String]) -> Result<Request<'a
                 Some(judge) => judge.get_one::<u32>("workers"),
                 None => None,
             };
-            let trace = match matches.subcommand_matches("explain") {
-                Some(explain) => explain.get_flag("trace"),
-                None => false,
-            };
-            if let Some(request) = request_of(alloc, words, workers, trace)? {
-                return Ok(request);
+            match request_of(alloc, words, workers, flags_of(&matches))? {
+                Some(request) if request.reads_input_twice() => refused(alloc, READ_TWICE),
+                Some(request) => Ok(request),
+                None => refused(alloc, "a command is missing; try --help\n"),
             }
-            let text = String::from_str(alloc, "a command is missing; try --help\n")?;
-            Ok(Request::Refused(text))
         }
         Err(error) => {
             let request = refusal(alloc, words, error)?;
@@ -172,7 +238,7 @@ fn request_of<'a>(
     alloc: Global,
     words: &'a [String],
     workers: Option<u32>,
-    trace: bool,
+    flags: Flags,
 ) -> Result<Option<Request<'a>>, AllocError>
     ensures { IfOk result (λ request. IfSome request (IsAskedFor (map string_bytes words.now))) }
 {
@@ -183,7 +249,10 @@ fn request_of<'a>(
         return Ok(replay_request(words));
     }
     if has_command(words, "explain") {
-        return explain_request(alloc, words, trace);
+        return explain_request(alloc, words, flags);
+    }
+    if has_command(words, "validate") {
+        return validate_request(alloc, words, flags.phrases);
     }
     Ok(None)
 }
@@ -207,6 +276,10 @@ fn judge_request<'a>(
         && workers <= MOST_WORKERS
     {
         let plans = operands(alloc, arguments)?;
+        if !can_show(format, plans.as_slice()) {
+            let text = not_shown(alloc, plans.as_slice())?;
+            return Ok(Some(Request::Refused(text.into_bytes())));
+        }
         return Ok(Some(Request::Judge(JudgeRequest {
             domain,
             problem,
@@ -241,7 +314,7 @@ fn replay_request<'a>(words: &'a [String]) -> Option<Request<'a>>
 fn explain_request<'a>(
     alloc: Global,
     words: &'a [String],
-    trace: bool,
+    flags: Flags,
 ) -> Result<Option<Request<'a>>, AllocError>
     requires { has_command (codes "explain") (map string_bytes words.now) ≡ true }
     ensures { IfOk result (λ request. IfSome request (IsAskedFor (map string_bytes words.now))) }
@@ -252,15 +325,54 @@ fn explain_request<'a>(
         && let Some(dialect) = dialect_asked(arguments)
     {
         let plans = operands(alloc, arguments)?;
+        let format = explanation_format(arguments);
         return Ok(Some(Request::Explain(ExplainRequest {
             domain,
             problem,
             plans,
             dialect,
-            trace,
+            format,
+            trace: flags.trace,
+            lint: flags.lint,
         })));
     }
     Ok(None)
+}
+
+/// What the command `validate` asks for.
+fn validate_request<'a>(
+    alloc: Global,
+    words: &'a [String],
+    phrases: Phrases,
+) -> Result<Option<Request<'a>>, AllocError>
+    requires { has_command (codes "validate") (map string_bytes words.now) ≡ true }
+    ensures { IfOk result (λ request. IfSome request (IsAskedFor (map string_bytes words.now))) }
+{
+    let files = operands(alloc, arguments(words))?;
+    match files.as_slice() {
+        [domain, problem, rest @ ..] => {
+            let mut plans = Vec::new(alloc);
+            plans.extend_from_slice(rest)?;
+            Ok(Some(Request::Validate(ExplainRequest {
+                domain,
+                problem,
+                plans,
+                dialect: Dialect::Ipc,
+                format: ExplanationFormat::Phrases(phrases),
+                trace: false,
+                lint: false,
+            })))
+        }
+        _ => Ok(None),
+    }
+}
+
+/// The format of an explanation that some words ask for: a text, unless they name JSON.
+fn explanation_format(words: &[String]) -> ExplanationFormat {
+    match value_of(words, "--format") {
+        Some("json") => ExplanationFormat::Json,
+        _ => ExplanationFormat::Text,
+    }
 }
 
 /// What a command line that starts no run asks for: help, or nothing if it is refused.
@@ -274,8 +386,29 @@ fn refusal<'a>(alloc: Global, words: &[String], error: Error) -> Result<Request<
     if !error.use_stderr() && asks_for_help(words) {
         Ok(Request::Show(text))
     } else {
-        Ok(Request::Refused(text))
+        Ok(Request::Refused(text.into_bytes()))
     }
+}
+
+/// A refusal with this text.
+fn refused<'a>(alloc: Global, text: &str) -> Result<Request<'a>, AllocError>
+    ensures { IfOk result (λ request. (words : _) → IsAskedFor words request) }
+{
+    let text = String::from_str(alloc, text)?;
+    Ok(Request::Refused(text.into_bytes()))
+}
+
+/// Why a report in lines is refused for planners with these names, one of which has a control character.
+fn not_shown(alloc: Global, names: &[&str]) -> Result<Text, AllocError> {
+    let mut text = Text::new(alloc);
+    text.push(b"error: the name \"")?;
+    if let Some(name) = names.iter().find(|name| !is_plain(name)) {
+        push_escaped(&mut text, name.as_bytes())?;
+    }
+    text.push(
+        b"\" has a control character, which a report in lines cannot show; --format tsv and --format json can\n",
+    )?;
+    Ok(text)
 }
 
 /// The program's command line.
@@ -288,6 +421,7 @@ fn program<'a>(alloc: Global) -> Result<Command<'a>, AllocError> {
         .arg_required_else_help(true)
         .subcommand(judge_command(alloc)?)?
         .subcommand(explain_command(alloc)?)?
+        .subcommand(validate_command(alloc)?)?
         .subcommand(replay_command(alloc)?)
 }
 
@@ -324,13 +458,23 @@ fn judge_command<'a>(alloc: Global) -> Result<Command<'a>, AllocError> {
 
 /// The command `explain`.
 fn explain_command<'a>(alloc: Global) -> Result<Command<'a>, AllocError> {
+    let format = Arg::new(alloc, "format")
+        .long("format")
+        .value_name("FORMAT")
+        .help("How the explanation is written: text for people, or JSON records")
+        .value_parser(EXPLANATION_FORMATS.as_slice())
+        .default_value("text");
     let trace = Arg::new(alloc, "trace")
         .long("trace")
         .help("Also tell what each step deletes and adds")
         .action(ArgAction::SetTrue);
+    let lint = Arg::new(alloc, "lint")
+        .long("lint")
+        .help("Also warn of what is probably not meant in the domain and the problem")
+        .action(ArgAction::SetTrue);
     let plans = Arg::new(alloc, "plans")
         .value_name("PLANS")
-        .help("The planners' files, each with the plans of one planner; - is standard input")
+        .help("The planners' files, each with the plans of one planner")
         .num_args(0..)
         .action(ArgAction::Append);
     Command::new(alloc, "explain")
@@ -339,7 +483,9 @@ fn explain_command<'a>(alloc: Global) -> Result<Command<'a>, AllocError> {
         .arg(domain_file(alloc))?
         .arg(problem_file(alloc))?
         .arg(dialect(alloc))?
+        .arg(format)?
         .arg(trace)?
+        .arg(lint)?
         .arg(plans)
 }
 
@@ -358,6 +504,48 @@ fn replay_command<'a>(alloc: Global) -> Result<Command<'a>, AllocError> {
         .arg(problem_file(alloc))?
         .arg(steps)?
         .arg(dialect(alloc))
+}
+
+/// The command `validate`.
+fn validate_command<'a>(alloc: Global) -> Result<Command<'a>, AllocError> {
+    let verbose = Arg::new(alloc, "verbose")
+        .short('v')
+        .help("Explain why a plan is not valid, as the command explain does")
+        .action(ArgAction::SetTrue);
+    let tolerance = Arg::new(alloc, "tolerance")
+        .short('t')
+        .value_name("N")
+        .help("Changes nothing; VAL takes a tolerance for times here")
+        .action(ArgAction::Set);
+    let silent = Arg::new(alloc, "silent")
+        .short('S')
+        .help("Print a line for each plan: its value, or failed")
+        .action(ArgAction::SetTrue);
+    let domain = Arg::new(alloc, "domain")
+        .value_name("DOMAIN")
+        .help("The domain, in PDDL")
+        .required(true)
+        .action(ArgAction::Set);
+    let problem = Arg::new(alloc, "problem")
+        .value_name("PROBLEM")
+        .help("The problem, in PDDL")
+        .required(true)
+        .action(ArgAction::Set);
+    let plans = Arg::new(alloc, "plans")
+        .value_name("PLANS")
+        .help("The files of plans, each with one plan or more")
+        .required(true)
+        .num_args(1..)
+        .action(ArgAction::Append);
+    Command::new(alloc, "validate")
+        .about(VALIDATE_ABOUT)
+        .after_help(VALIDATE_AFTER_HELP)
+        .arg(verbose)?
+        .arg(tolerance)?
+        .arg(silent)?
+        .arg(domain)?
+        .arg(problem)?
+        .arg(plans)
 }
 
 fn domain_file<'a>(alloc: Global) -> Arg<'a> {

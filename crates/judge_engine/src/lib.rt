@@ -19,6 +19,7 @@ pub mod engine;
 mod explain;
 pub mod fault;
 pub mod inlet;
+mod messages;
 mod options;
 pub mod outlet;
 mod planner;

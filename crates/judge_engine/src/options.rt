@@ -1,7 +1,8 @@
 //! The dialect and the format that the words of a command line name.
 ghost use Rattle.std.specs.Prelude.{◌≡◌, map};
+ghost use Rattle.std.specs.List.{list_all};
 ghost use Rattle.std.specs.String.{string_bytes};
-ghost use Rattle.judge_engine.specs.Command.{dialect_asked, dialect_named, format_asked, format_named};
+ghost use Rattle.judge_engine.specs.Command.{can_show, dialect_asked, dialect_named, format_asked, format_named, is_control, is_plain};
 
 use command_words::value_of;
 use pddl_reader::Dialect;
@@ -53,4 +54,41 @@ fn format_named(name: &str) -> Option<Format>
     } else {
         None
     }
+}
+
+/// Whether a report in a format can show planners with these names.
+pub(crate) fn can_show(format: Format, names: &[&str]) -> bool
+    ensures { result ≡ can_show format (map (λ name. name.now) names.now) }
+{
+    match format {
+        Format::Lines => are_plain(names),
+        Format::Table | Format::Json => true,
+    }
+}
+
+/// Whether no name has a control character.
+#[tactic(auto, using(crate::proofs::PlainNames::plain_names))]
+fn are_plain(names: &[&str]) -> bool
+    ensures { result ≡ list_all is_plain (map (λ name. name.now) names.now) }
+{
+    for name in names {
+        if !is_plain(name) {
+            return false;
+        }
+    }
+    true
+}
+
+/// Whether a name has no control character.
+pub(crate) fn is_plain(name: &str) -> bool
+    ensures { result ≡ is_plain name.now }
+{
+    name.as_bytes().iter().all(|b| !is_control(*b))
+}
+
+/// Whether a byte moves the cursor of a terminal or ends a line.
+fn is_control(byte: u8) -> bool
+    ensures { result ≡ is_control byte }
+{
+    byte < 32 || byte == 127
 }

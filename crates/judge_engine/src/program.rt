@@ -4,53 +4,28 @@
 ghost use Rattle.std.specs.Prelude.{◌≡◌, ◌↔◌, ◌⊎◌, ◌<◌, ◌≤◌, true, false, map, IfOk};
 ghost use Rattle.std.specs.String.{string_bytes};
 ghost use Rattle.command_words.specs.CommandLine.{asks_for_help};
-ghost use Rattle.judge_engine.specs.Command.{asks_to_explain};
+ghost use Rattle.judge_engine.specs.Command.{asks_what_is_wrong};
 ghost use Rattle.std.specs.Io.KnownBytes.{Appends};
 ghost use Rattle.judge_engine.specs.Outlet.{AppendsFront};
-ghost use Rattle.judge_engine.specs.Run.{Answers, AreAllValidOver, IsReportOver, WritesReport, CutsReport, IsReplayOver, WritesReplay, CutsReplay, IsFile, AreFiles};
+ghost use Rattle.judge_engine.specs.Run.{Answers, AreAllValidOver, IsReportOver, WritesReport, CutsReport, IsReplayOver, WritesReplay, CutsReplay, IsFile, AreFiles, file_named};
 
 use crate::Seed;
 use crate::bundle::Bundle;
 use crate::command::{ExplainRequest, JudgeRequest, ReplayRequest, parse};
 use crate::engine::judge_bytes_as;
-use crate::explain::explain_files;
-use crate::fault::{Input, JudgeFault};
-use crate::inlet::{InFault, Sources};
+use crate::explain::{Explained, explain_files};
+use crate::inlet::{InFault, Sources, file_named};
+use crate::messages::{Call, Stop, message, push_escaped};
 use crate::outlet::{Outlet, write_bytes, write_report};
 use crate::replay::replay_bytes_in;
 use crate::report::Report;
 use crate::requests::Request;
 use judge_bench::Open;
-use pddl_reader::ReadFault;
-use pddl_tokens::line_of;
 use rayon::prelude::*;
-use report_text::Text;
-use std::alloc::{AllocError, AllocFailed, Global};
+use report_text::{Format, Text};
+use std::alloc::{AllocError, Global};
 use std::sync::{Arc, Wait};
 use std::thread::Threads;
-
-/// Why a run over files stops without a report.
-#[derive(Debug, Drop)]
-enum Stop {
-    /// A file can't be read, as this line says.
-    Unreadable(Vec<u8>),
-    /// The run gives no report, for this reason, as this line says.
-    NoReport(JudgeFault, Vec<u8>),
-    /// Memory ran out.
-    OutOfMemory,
-}
-
-impl From<AllocError> for Stop {
-    fn from(_error: AllocError) -> Stop {
-        Stop::OutOfMemory
-    }
-}
-
-impl<T: Drop> From<AllocFailed<T>> for Stop {
-    fn from(_error: AllocFailed<T>) -> Stop {
-        Stop::OutOfMemory
-    }
-}
 
 /// Runs the program on the words of a command line, the first of which is the program's name, and answers the exit status:
 /// 0 if a report or help was written, 1 if an input was refused, 2 if the command line was, 3 if memory ran out or a thread could not be started,
@@ -59,7 +34,7 @@ impl<T: Drop> From<AllocFailed<T>> for Stop {
 /// A report goes to `out` as a whole. If `out` fails, it has taken only the beginning. Messages go to `err`, whose faults are ignored. Tables of
 /// names and atoms hash with the seed, and nothing that is written depends on it.
 ///
-/// The command `explain` writes to `out` even with status 1, since what is wrong is what it is asked for.
+/// The commands `explain` and `validate` write to `out` even with status 1, since what is wrong is what they are asked for.
 pub fn main_with<R: AllocGlobal + Threads + Wait + Sync, S: Sources + Sync, O: Outlet, E: Outlet>(
     rt: &R,
     seed: Seed,
@@ -72,15 +47,16 @@ pub fn main_with<R: AllocGlobal + Threads + Wait + Sync, S: Sources + Sync, O: O
     ensures status { result ≤ 4 }
     ensures written { result ≡ 0 → asks_for_help (map string_bytes words.now) ≡ false → Answers (S.may_hold sources.now) (map string_bytes words.now) (O.taken out.old) (O.taken out.new) }
     ensures unwritten { (result ≡ 4) ↔ (O.failed out.new ≡ true) }
-    ensures untouched { asks_to_explain (map string_bytes words.now) ≡ false → 0 < result → result < 4 → out.new ≡ out.old }
+    ensures untouched { asks_what_is_wrong (map string_bytes words.now) ≡ false → 0 < result → result < 4 → out.new ≡ out.old }
 {
     match parse(rt.alloc(), words) {
         Ok(Request::Judge(files)) => judge_with(rt, seed, &files, sources, out, err),
         Ok(Request::Replay(files)) => replay_with(rt.alloc(), seed, &files, sources, out, err),
         Ok(Request::Explain(files)) => explain_with(rt.alloc(), seed, &files, sources, out, err),
+        Ok(Request::Validate(files)) => validate_with(rt.alloc(), seed, &files, sources, out, err),
         Ok(Request::Show(text)) => write_out(&Report::from_bytes(text.into_bytes()), out, err),
         Ok(Request::Refused(text)) => {
-            tell(err, text.as_bytes());
+            tell(err, text.as_slice());
             2
         }
         Err(AllocError) => out_of_memory(err),
@@ -107,7 +83,16 @@ pub fn judge_with<R: AllocGlobal + Threads + Wait + Sync, S: Sources + Sync, O: 
 {
     match judge_files(rt, seed, files, sources) {
         Ok(report) => write_out(&report, out, err),
-        Err(stop) => stopped(stop, err),
+        Err(stop) => {
+            let call = Call {
+                domain: files.domain,
+                problem: files.problem,
+                others: files.plans.as_slice(),
+                dialect: files.dialect,
+                is_json: files.format == Format::Json,
+            };
+            stopped(rt.alloc(), stop, call, err)
+        }
     }
 }
 
@@ -131,7 +116,16 @@ pub fn replay_with<S: Sources, O: Outlet, E: Outlet>(
 {
     match replay_files(alloc, seed, files, sources) {
         Ok(report) => write_out(&report, out, err),
-        Err(stop) => stopped(stop, err),
+        Err(stop) => {
+            let call = Call {
+                domain: files.domain,
+                problem: files.problem,
+                others: &[files.steps],
+                dialect: files.dialect,
+                is_json: false,
+            };
+            stopped(alloc, stop, call, err)
+        }
     }
 }
 
@@ -155,27 +149,87 @@ pub fn explain_with<S: Sources, O: Outlet, E: Outlet>(
         Ok(explained) => explained,
         Err(AllocError) => return out_of_memory(err),
     };
-    match write_out(&explained.report, out, err) {
-        0 if explained.all_valid => 0,
+    write_explained(&explained.report, explained.all_valid, out, err)
+}
+
+/// Says in the phrases of VAL's `validate` which plans are valid, and answers the exit status, as `main_with` does for a command line that names
+/// these files: 0 if all plans are valid, and 1 if not. If a file can't be read, or a text is refused, `out` takes nothing, and `err` what
+/// [`judge_with`] writes to it.
+pub fn validate_with<S: Sources, O: Outlet, E: Outlet>(
+    alloc: Global,
+    seed: Seed,
+    files: &ExplainRequest<'_>,
+    sources: &S,
+    out: &mut O,
+    err: &mut E,
+) -> u8
+    requires { O.failed out.old ≡ false }
+    ensures status { result ≤ 4 }
+    ensures valid { result ≡ 0 → AreAllValidOver files.now.dialect (S.may_hold sources.now) files.now.domain.now files.now.problem.now (map (λ name. name.now) files.now.plans.items) }
+    ensures unwritten { (result ≡ 4) ↔ (O.failed out.new ≡ true) }
+    ensures lacking { result ≡ 3 → out.new ≡ out.old }
+{
+    match explain_files(alloc, seed, files, sources, false) {
+        Ok(
+            Explained {
+                stop: Some(stop),
+                ..
+            },
+        ) => {
+            let call = Call {
+                domain: files.domain,
+                problem: files.problem,
+                others: files.plans.as_slice(),
+                dialect: files.dialect,
+                is_json: false,
+            };
+            stopped(alloc, stop, call, err)
+        }
+        Ok(
+            Explained {
+                report,
+                all_valid,
+                stop: None,
+            },
+        ) => write_explained(&report, all_valid, out, err),
+        Err(AllocError) => out_of_memory(err),
+    }
+}
+
+/// Writes what was found about plans, and answers the exit status: 0 if all of them are valid and all of it was written.
+fn write_explained<O: Outlet, E: Outlet>(
+    report: &Report,
+    all_valid: bool,
+    out: &mut O,
+    err: &mut E,
+) -> u8
+    requires { O.failed out.old ≡ false }
+    ensures status { (result ≡ 0) ⊎ ((result ≡ 1) ⊎ (result ≡ 4)) }
+    ensures valid { result ≡ 0 → all_valid ≡ true }
+    ensures unwritten { (result ≡ 4) ↔ (O.failed out.new ≡ true) }
+{
+    match write_out(report, out, err) {
+        0 if all_valid => 0,
         0 => 1,
         _ => 4,
     }
 }
 
 /// Writes why a run stops without a report, and answers the exit status.
-fn stopped<E: Outlet>(stop: Stop, err: &mut E) -> u8
+fn stopped<E: Outlet>(alloc: Global, stop: Stop<'_>, call: Call<'_>, err: &mut E) -> u8
     ensures status { (result ≡ 1) ⊎ (result ≡ 3) }
 {
-    match stop {
-        Stop::Unreadable(line) => {
-            tell(err, line.as_slice());
-            1
+    let status = match stop {
+        Stop::Unreadable(_, _) => 1,
+        Stop::NoReport(fault, _) => fault.status(),
+        Stop::OutOfMemory => return out_of_memory(err),
+    };
+    match message(alloc, stop, call, err.is_terminal()) {
+        Ok(text) => {
+            tell(err, text.into_bytes().as_slice());
+            status
         }
-        Stop::NoReport(fault, line) => {
-            tell(err, line.as_slice());
-            fault.status()
-        }
-        Stop::OutOfMemory => out_of_memory(err),
+        Err(AllocError) => out_of_memory(err),
     }
 }
 
@@ -211,18 +265,39 @@ fn tell<E: Outlet>(err: &mut E, bytes: &[u8]) {
     }
 }
 
+/// Writes that a word of the command line is no text, and answers the exit status.
+pub fn not_a_text<E: Outlet>(alloc: Global, word: &[u8], err: &mut E) -> u8
+    ensures { (result ≡ 2) ⊎ (result ≡ 3) }
+{
+    let mut text = Text::new(alloc);
+    match push_not_a_text(&mut text, word) {
+        Ok(()) => {
+            tell(err, text.into_bytes().as_slice());
+            2
+        }
+        Err(AllocError) => out_of_memory(err),
+    }
+}
+
+/// Adds that a word is no text.
+fn push_not_a_text(text: &mut Text, word: &[u8]) -> Result<(), AllocError> {
+    text.push(b"error: the word \"")?;
+    push_escaped(text, word)?;
+    text.push(b"\" is not UTF-8\n")
+}
+
 /// The report of a run over files. They are read in the order of domain, problem and plans.
-fn judge_files<R: AllocGlobal + Threads + Wait + Sync, S: Sources + Sync>(
+fn judge_files<'a, R: AllocGlobal + Threads + Wait + Sync, S: Sources + Sync>(
     rt: &R,
     seed: Seed,
-    files: &JudgeRequest<'_>,
+    files: &JudgeRequest<'a>,
     sources: &S,
-) -> Result<Report, Stop>
+) -> Result<Report, Stop<'a>>
     ensures { IfOk result (IsReportOver files.now.dialect files.now.format (S.may_hold sources.now) files.now.domain.now files.now.problem.now (map (λ name. name.now) files.now.plans.items)) }
 {
     let alloc = rt.alloc();
-    let domain = read(alloc, sources, files.domain)?;
-    let problem = read(alloc, sources, files.problem)?;
+    let domain = read(sources, files.domain)?;
+    let problem = read(sources, files.problem)?;
     let bundles = read_bundles(rt, sources, files.plans.as_slice(), files.workers)?;
     match judge_bytes_as(
         rt,
@@ -237,29 +312,22 @@ fn judge_files<R: AllocGlobal + Threads + Wait + Sync, S: Sources + Sync>(
         &Open,
     ) {
         Ok(report) => Ok(report),
-        Err(fault) => {
-            let names = Names {
-                domain: files.domain,
-                problem: files.problem,
-                others: files.plans.as_slice(),
-            };
-            Err(stop_for(alloc, fault, names, domain.as_slice(), problem.as_slice())?)
-        }
+        Err(fault) => Err(Stop::for_fault(fault, domain.as_slice(), problem.as_slice())),
     }
 }
 
 /// The lines of a replay over files. They are read in the order of domain, problem and steps.
-fn replay_files<S: Sources>(
+fn replay_files<'a, S: Sources>(
     alloc: Global,
     seed: Seed,
-    files: &ReplayRequest<'_>,
+    files: &ReplayRequest<'a>,
     sources: &S,
-) -> Result<Report, Stop>
+) -> Result<Report, Stop<'a>>
     ensures { IfOk result (IsReplayOver files.now.dialect (S.may_hold sources.now) files.now.domain.now files.now.problem.now files.now.steps.now) }
 {
-    let domain = read(alloc, sources, files.domain)?;
-    let problem = read(alloc, sources, files.problem)?;
-    let steps = read(alloc, sources, files.steps)?;
+    let domain = read(sources, files.domain)?;
+    let problem = read(sources, files.problem)?;
+    let steps = read(sources, files.steps)?;
     match replay_bytes_in(
         alloc,
         seed,
@@ -269,24 +337,17 @@ fn replay_files<S: Sources>(
         steps.as_slice(),
     ) {
         Ok(report) => Ok(report),
-        Err(fault) => {
-            let names = Names {
-                domain: files.domain,
-                problem: files.problem,
-                others: &[files.steps],
-            };
-            Err(stop_for(alloc, fault, names, domain.as_slice(), problem.as_slice())?)
-        }
+        Err(fault) => Err(Stop::for_fault(fault, domain.as_slice(), problem.as_slice())),
     }
 }
 
 /// The files of planners, in the order of their names. A planner has the name of its file. At most `threads` threads read.
-fn read_bundles<R: AllocGlobal + Threads + Sync, S: Sources + Sync>(
+fn read_bundles<'a, R: AllocGlobal + Threads + Sync, S: Sources + Sync>(
     rt: &R,
     sources: &S,
-    names: &[&str],
+    names: &[&'a str],
     threads: u32,
-) -> Result<Vec<Bundle>, Stop>
+) -> Result<Vec<Bundle>, Stop<'a>>
     requires { 1 ≤ threads }
     ensures { IfOk result (λ bundles. AreFiles (S.may_hold sources.now) (map (λ name. name.now) names.now) bundles.items) }
 {
@@ -300,114 +361,31 @@ fn read_bundles<R: AllocGlobal + Threads + Sync, S: Sources + Sync>(
                 ensures { IfOk result (IsFile (S.may_hold sources.entry.now) name.now.now) }
             { read_bundle(alloc, sources, name) },
         )
-        .collect::<Result<Vec<Bundle>, Stop>>(rt, alloc)?
+        .collect::<Result<Vec<Bundle>, Stop<'a>>>(rt, alloc)?
 }
 
 /// The file of a planner.
-fn read_bundle<S: Sources>(alloc: Global, sources: &S, name: &str) -> Result<Bundle, Stop>
+fn read_bundle<'a, S: Sources>(
+    alloc: Global,
+    sources: &S,
+    name: &'a str,
+) -> Result<Bundle, Stop<'a>>
     ensures { IfOk result (IsFile (S.may_hold sources.now) name.now) }
 {
-    let bytes = read(alloc, sources, name)?;
+    let bytes = read(sources, name)?;
     let name = String::from_str(alloc, name)?;
     let bytes = Arc::new(alloc, bytes)?;
     Ok(Bundle { name, bytes })
 }
 
-/// The text of a file.
-fn read<S: Sources>(alloc: Global, sources: &S, name: &str) -> Result<Vec<u8>, Stop>
-    ensures { IfOk result (λ bytes. S.may_hold sources.now name.now bytes.items) }
+/// The text of the file that a word names.
+fn read<'a, S: Sources>(sources: &S, name: &'a str) -> Result<Vec<u8>, Stop<'a>>
+    ensures { IfOk result (λ bytes. S.may_hold sources.now (file_named name.now) bytes.items) }
 {
-    match sources.text(name) {
+    let file = file_named(name);
+    match sources.text(file) {
         Ok(bytes) => Ok(bytes),
         Err(InFault::OutOfMemory) => Err(Stop::OutOfMemory),
-        Err(InFault::Unreadable) => {
-            let mut text = Text::new(alloc);
-            text.push(b"cannot read ")?;
-            text.push(name.as_bytes())?;
-            text.push(b"\n")?;
-            Err(Stop::Unreadable(text.into_bytes()))
-        }
+        Err(InFault::Unreadable) => Err(Stop::Unreadable(name, sources.absence(file))),
     }
-}
-
-/// The names of the files of a run: `others` are the planners' files, or the steps of a replay.
-#[derive(Clone, Copy)]
-struct Names<'a> {
-    domain: &'a str,
-    problem: &'a str,
-    others: &'a [&'a str],
-}
-
-impl<'a> Names<'a> {
-    /// The name of the file of an input.
-    fn of(self, input: Input) -> &'a str {
-        let index = match input {
-            Input::Domain => return self.domain,
-            Input::Problem => return self.problem,
-            Input::Plans(index) => index,
-            Input::Steps => 0,
-        };
-        match self.others.get(index) {
-            Some(name) => name,
-            None => "a file",
-        }
-    }
-}
-
-/// Why a run stops without a report, with the line that says so.
-fn stop_for(
-    alloc: Global,
-    fault: JudgeFault,
-    names: Names<'_>,
-    domain: &[u8],
-    problem: &[u8],
-) -> Result<Stop, AllocError> {
-    let mut text = Text::new(alloc);
-    match fault {
-        JudgeFault::TooLarge(input) => {
-            text.push(names.of(input).as_bytes())?;
-            text.push(b" is too large")?;
-        }
-        JudgeFault::TooManyPlanners => text.push(b"more than 64 planners")?,
-        JudgeFault::Domain(fault) => push_fault(&mut text, b"domain", domain, fault)?,
-        JudgeFault::Problem(fault) => push_fault(&mut text, b"problem", problem, fault)?,
-        JudgeFault::TooManyPlans => text.push(b"more than 65536 plans")?,
-        JudgeFault::Steps(fault) => {
-            text.push(b"steps line ")?;
-            text.push_number(fault.line as usize)?;
-            text.push(b": ")?;
-            text.push(fault.kind.word().as_bytes())?;
-        }
-        JudgeFault::OutOfMemory => return Ok(Stop::OutOfMemory),
-        JudgeFault::NoThread => text.push(b"no thread")?,
-        JudgeFault::Held(_) => text.push(b"a job is held")?,
-    }
-    text.push(b"\n")?;
-    Ok(Stop::NoReport(fault, text.into_bytes()))
-}
-
-/// Adds what is wrong with a text and where: the line, the offsets of the first byte and of the end, and the kind of fault.
-fn push_fault(
-    text: &mut Text,
-    what: &[u8],
-    bytes: &[u8],
-    fault: ReadFault,
-) -> Result<(), AllocError> {
-    text.push(what)?;
-    text.push(b" line ")?;
-    text.push_number(line_at(bytes, fault.span.start) as usize)?;
-    text.push(b" bytes ")?;
-    text.push_number(fault.span.start as usize)?;
-    text.push(b"-")?;
-    text.push_number(fault.span.end as usize)?;
-    text.push(b": ")?;
-    text.push(fault.kind.word().as_bytes())
-}
-
-/// The line of an offset in a text. An offset past the end counts as the end, and a text of 2^31 bytes or more as one line.
-fn line_at(bytes: &[u8], offset: u32) -> u32 {
-    if bytes.len() >= 1 << 31 {
-        return 1;
-    }
-    line_of(bytes, offset.min(bytes.len() as u32))
 }

@@ -1,6 +1,8 @@
 //! What a command line asks for, by the names of files.
 ghost use Rattle.std.specs.Prelude.{◌≤◌};
 
+use crate::inlet::STANDARD_INPUT;
+use explanations::ExplanationFormat;
 use pddl_reader::Dialect;
 use report_text::Format;
 
@@ -13,10 +15,36 @@ pub(crate) enum Request<'a> {
     Replay(ReplayRequest<'a>),
     /// Explain why texts are refused and plans fail.
     Explain(ExplainRequest<'a>),
+    /// Say in VAL's phrases which plans are valid.
+    Validate(ExplainRequest<'a>),
     /// Show a text, as help.
     Show(String),
     /// The command line is refused, with this text.
-    Refused(String),
+    Refused(Vec<u8>),
+}
+
+impl Request<'_> {
+    /// Whether more than one file is standard input.
+    pub(crate) fn reads_input_twice(&self) -> bool {
+        match self {
+            Request::Judge(files) => {
+                count_input(&[files.domain, files.problem], files.plans.as_slice()) > 1
+            }
+            Request::Replay(files) => {
+                count_input(&[files.domain, files.problem], &[files.steps]) > 1
+            }
+            Request::Explain(files) | Request::Validate(files) => {
+                count_input(&[files.domain, files.problem], files.plans.as_slice()) > 1
+            }
+            Request::Show(_) | Request::Refused(_) => false,
+        }
+    }
+}
+
+/// How many of the names of files are the word for standard input.
+fn count_input(texts: &[&str], others: &[&str]) -> usize {
+    let count = |names: &[&str]| names.iter().filter(|name| **name == STANDARD_INPUT).count();
+    count(texts).saturating_add(count(others))
 }
 
 /// A run over files.
@@ -38,7 +66,7 @@ pub struct JudgeRequest<'a> {
     ghost most: { workers ≤ 32 },
 }
 
-/// What is to be explained.
+/// What is to be explained or validated.
 #[derive(Debug, Drop)]
 pub struct ExplainRequest<'a> {
     /// The name of the file of the domain.
@@ -49,8 +77,12 @@ pub struct ExplainRequest<'a> {
     pub plans: Vec<&'a str>,
     /// The dialect of the domain and the problem.
     pub dialect: Dialect,
+    /// How the explanation is written.
+    pub format: ExplanationFormat,
     /// Whether to show what each step changes, too.
     pub trace: bool,
+    /// Whether to warn of what is probably not meant in the domain and the problem, too.
+    pub lint: bool,
 }
 
 /// The files of a replay.

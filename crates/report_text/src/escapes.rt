@@ -39,7 +39,7 @@ fn push_field_byte(text: &mut Text, byte: u8) -> Result<(), AllocError>
 
 /// Adds a JSON string.
 #[tactic(auto, unfolding(crate::specs::Format::json_string))]
-pub(crate) fn push_string(text: &mut Text, bytes: &[u8]) -> Result<(), AllocError>
+pub fn push_json_string(text: &mut Text, bytes: &[u8]) -> Result<(), AllocError>
     ensures { OnOk result (text.new ≡ text.old ++ json_string bytes.now) }
 {
     text.push(b"\"")?;

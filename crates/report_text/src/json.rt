@@ -6,7 +6,7 @@ ghost use Rattle.report_text.specs.Format.{after_commas, json_atom, json_best, j
 ghost use Rattle.report_text.specs.Report.{as_judged, name_at};
 
 use crate::costs::push_billionths;
-use crate::escapes::push_string;
+use crate::escapes::push_json_string;
 use crate::format::Format;
 use crate::render::push_failing_step;
 use crate::text::Text;
@@ -22,9 +22,9 @@ pub(crate) fn push_run(text: &mut Text, task: &Task) -> Result<(), AllocError>
     ensures { OnOk result (text.new ≡ text.old ++ json_run task.now) }
 {
     text.push(b"{\"type\":\"run\",\"domain\":")?;
-    push_string(text, task.domain_name().as_bytes())?;
+    push_json_string(text, task.domain_name().as_bytes())?;
     text.push(b",\"problem\":")?;
-    push_string(text, task.problem_name().as_bytes())?;
+    push_json_string(text, task.problem_name().as_bytes())?;
     text.push(b"}\n")
 }
 
@@ -39,7 +39,7 @@ pub(crate) fn push_plan(
     ensures { OnOk result (text.new ≡ text.old ++ json_plan task.now name.now number (as_judged finding.now)) }
 {
     text.push(b"{\"type\":\"plan\",\"planner\":")?;
-    push_string(text, name)?;
+    push_json_string(text, name)?;
     text.push(b",\"plan\":")?;
     text.push_number(number)?;
     text.push(b",\"verdict\":")?;
@@ -67,7 +67,7 @@ pub(crate) fn push_planner_record(
     ensures { OnOk result (text.new ≡ text.old ++ json_planner name.now plans valid best cost) }
 {
     text.push(b"{\"type\":\"planner\",\"planner\":")?;
-    push_string(text, name)?;
+    push_json_string(text, name)?;
     text.push(b",\"plans\":")?;
     text.push_number(plans)?;
     text.push(b",\"valid\":")?;
@@ -177,7 +177,7 @@ fn push_step(text: &mut Text, step: &StepView) -> Result<(), AllocError>
     ensures { OnOk result (text.new ≡ text.old ++ json_step (step_shown step.now)) }
 {
     text.push(b"[")?;
-    push_string(text, step.action())?;
+    push_json_string(text, step.action())?;
     push_arguments(text, step)?;
     text.push(b"]")
 }
@@ -188,7 +188,7 @@ fn push_arguments(text: &mut Text, step: &StepView) -> Result<(), AllocError>
 {
     for index in 0..step.arg_count() {
         text.push(b",")?;
-        push_string(text, step.arg(index))?;
+        push_json_string(text, step.arg(index))?;
     }
     Ok(())
 }
@@ -264,9 +264,9 @@ fn push_predicate(text: &mut Text, task: &Task, number: u16) -> Result<(), Alloc
     ensures { OnOk result (text.new ≡ text.old ++ json_string (name_at (keys_of task.now.preds) number)) }
 {
     if usize::from(number) < task.pred_count() {
-        return push_string(text, task.pred_name(number).as_bytes());
+        return push_json_string(text, task.pred_name(number).as_bytes());
     }
-    push_string(text, b"")
+    push_json_string(text, b"")
 }
 
 /// Adds the name of the object with a number; a number that no object has adds an empty name.
@@ -274,9 +274,9 @@ fn push_object(text: &mut Text, task: &Task, number: u16) -> Result<(), AllocErr
     ensures { OnOk result (text.new ≡ text.old ++ json_string (name_at (keys_of task.now.objects) number)) }
 {
     if usize::from(number) < task.object_count() {
-        return push_string(text, task.object_name(number).as_bytes());
+        return push_json_string(text, task.object_name(number).as_bytes());
     }
-    push_string(text, b"")
+    push_json_string(text, b"")
 }
 
 /// Adds the names of objects, each after a comma.

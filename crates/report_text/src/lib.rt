@@ -20,6 +20,7 @@ mod table;
 mod text;
 
 pub use costs::push_cost;
+pub use escapes::push_json_string;
 pub use format::Format;
 pub use lines::{push_head, push_plan_in, push_summary_in};
 pub use render::{push_atom, push_condition, push_finding, push_step};

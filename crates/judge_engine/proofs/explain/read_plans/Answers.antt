@@ -1,4 +1,4 @@
-use Rattle.std.proofs.Common.{◌≡◌, ◌++◌, ◌∷◌, [], map, ap, ◌∙◌, subst}
+use Rattle.std.proofs.Common.{◌≡◌, ◌++◌, ◌∷◌, [], map, ap, ◌∙◌}
 use Rattle.std.proofs.lemmas.List.{map-append}
 use Rattle.judge_engine.proofs.Texts.{text_pushed}
 use Rattle.judge_engine.proofs.explain.read_plans.Goals as goal
@@ -11,5 +11,5 @@ loop-name-preserved g c =
     let may_hold = g.S.Sources.may_hold c.args.sources.now in
     let pushed : after ≡ before ++ read ∷ [] = c.in_ok-push.ensures.items in
     text_pushed may_hold c.args.names.now c.loop-name.name-index _ (map (λ plan. plan.bytes.items) before) (map (λ plan. plan.bytes.items) after) read.bytes.items c.loop-name-test.true c.loop-name.invariant
-    (subst (λ name. may_hold name read.bytes.items) c.file_named.ensures c.in_ok-read.ensures)
+    c.in_ok-read.ensures
     (ap (map (λ plan. plan.bytes.items)) pushed ∙ map-append (λ plan. plan.bytes.items) before (read ∷ []))

@@ -3,7 +3,7 @@ use Rattle.std.specs.List.{AllZip}
 use Rattle.judge_engine.specs.Bundle.{BundleValue}
 use Rattle.rayon.proofs.ToStd.{slice-AllZip}
 use Rattle.rayon.specs.Lists.{min_len_base}
-use Rattle.judge_engine.specs.declared.program.Stop.{Stop}
+use Rattle.judge_engine.specs.declared.messages.Stop.{Stop}
 use Rattle.judge_engine.specs.Run.{IsFile}
 use Rattle.judge_engine.proofs.Files.{read_files}
 use Rattle.judge_engine.proofs.program.read_bundles.Goals as goal

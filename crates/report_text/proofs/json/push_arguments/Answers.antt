@@ -10,5 +10,5 @@ loop-index-preserved c =
     let args = (step_shown c.args.step.now).args in
     let before = after_commas (map json_string (take c.loop-index.index args)) in
     let behind = then t before (codes ",") c.loop-index.invariant c.in_ok-push.ensures in
-    then t (before ++ codes ",") (json_string c.arg.result.now) behind c.in_ok-push_string.ensures
+    then t (before ++ codes ",") (json_string c.arg.result.now) behind c.in_ok-push_json_string.ensures
     ∙ ap (λ l. t ++ l) (sym (commas_more json_string args c.loop-index.index c.arg.result.now c.arg.ensures))

@@ -13,7 +13,7 @@ returns c =
     let e = json_string task.problem in
     let f = codes "}\n" in
     let s1 : c.push.new.self ≡ t ++ a = c.in_ok-push.ensures in
-    let s2 = then t a b s1 (c.in_ok-push_string.ensures ∙ ap (λ n. c.push.new.self ++ json_string n) (c.as_bytes.ensures.bytes ∙ c.domain_name.ensures)) in
+    let s2 = then t a b s1 (c.in_ok-push_json_string.ensures ∙ ap (λ n. c.push.new.self ++ json_string n) (c.as_bytes.ensures.bytes ∙ c.domain_name.ensures)) in
     let s3 = then t (a ++ b) d s2 c.in_ok-push-2.ensures in
-    let s4 = then t ((a ++ b) ++ d) e s3 (c.in_ok-push_string-2.ensures ∙ ap (λ n. c.push-2.new.self ++ json_string n) (c.as_bytes-2.ensures.bytes ∙ c.problem_name.ensures)) in
+    let s4 = then t ((a ++ b) ++ d) e s3 (c.in_ok-push_json_string-2.ensures ∙ ap (λ n. c.push-2.new.self ++ json_string n) (c.as_bytes-2.ensures.bytes ∙ c.problem_name.ensures)) in
     on_ok_more c.push-3.result (λ last. then t (((a ++ b) ++ d) ++ e) f s4 last) c.push-3.ensures

@@ -1,0 +1,5 @@
+(define (problem lamp-1)
+  (:domain lamp)
+  (:objects hall attic o0 o1 o2 o3 o4 o5 o6 o7 o8 o9 o10 o11 o12 o13 o14 o15 o16 o17 o18 o19 o20 o21 o22 o23 o24 o25 o26 o27 o28 o29 o30 o31 o32 o33 o34 o35 o36 o37 o38 o39 o40 o41 o42 o43 o44 o45 o46 o47 o48 o49 o50 - room box - thing)
+  (:init (here hall) (in box hall))
+  (:goal (and (lit o0) (lit o1) (lit o2) (lit o3) (lit o4) (lit o5) (lit o6) (lit o7) (lit o8) (lit o9) (lit o10) (lit o11) (lit o12) (lit o13) (lit o14) (lit o15) (lit o16) (lit o17) (lit o18) (lit o19) (lit o20) (lit o21) (lit o22) (lit o23) (lit o24) (lit o25) (lit o26) (lit o27) (lit o28) (lit o29) (lit o30) (lit o31) (lit o32) (lit o33) (lit o34) (lit o35) (lit o36) (lit o37) (lit o38) (lit o39) (lit o40) (lit o41) (lit o42) (lit o43) (lit o44) (lit o45) (lit o46) (lit o47) (lit o48) (lit o49) (lit o50))))

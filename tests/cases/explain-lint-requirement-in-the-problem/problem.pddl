@@ -1,0 +1,6 @@
+(define (problem lamp-1)
+  (:domain lamp)
+  (:requirements :negative-preconditions)
+  (:objects hall attic - room box - thing)
+  (:init (here hall) (in box hall))
+  (:goal (and (lit hall) (not (here hall)))))

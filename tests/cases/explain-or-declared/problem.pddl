@@ -1,0 +1,5 @@
+(define (problem lamp-1)
+  (:domain lamp)
+  (:objects hall attic - room box - thing)
+  (:init (here hall) (in box hall))
+  (:goal (and (lit hall) (here attic))))

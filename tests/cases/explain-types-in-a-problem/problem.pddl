@@ -1,0 +1,6 @@
+(define (problem lamp-1)
+  (:domain lamp)
+  (:objects hall attic - room box - thing)
+  (:types room)
+  (:init (here hall) (in box hall))
+  (:goal (and (lit hall) (here attic))))

@@ -1,0 +1,2 @@
+(define
+ (domian lamp))

@@ -1,0 +1,5 @@
+(define (problem trip) (:domain road)
+  (:objects a b c - town)
+  (:init (in a) (= (length a b) 12) (= (length b c) 0.5))
+  (:goal (in c))
+  (:metric minimize (total-cost)))

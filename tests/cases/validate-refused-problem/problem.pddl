@@ -1,0 +1,4 @@
+(define (problem lamp-1)
+  (:domain lamp)
+  (:objects hall - hose)
+  (:goal (lit hall)))

@@ -1,0 +1,8 @@
+(define (domain road)
+  (:requirements :strips :typing :action-costs :equality)
+  (:types town)
+  (:predicates (in ?t - town))
+  (:functions (total-cost) (length ?from ?to - town))
+  (:action drive :parameters (?from ?to - town)
+    :precondition (and (in ?from) (not (= ?from ?to)))
+    :effect (and (in ?to) (not (in ?from)) (increase (total-cost) (length ?from ?to)))))
