@@ -34,8 +34,8 @@ def chosen():
 
 
 def made_of(*words):
-    """What bin/made_of prints. If it cannot say, it has told why on standard error, and the script ends."""
-    answer = subprocess.run([os.path.join(TOP, "bin", "made_of"), *words], stdout=subprocess.PIPE, text=True)
+    """What bin/made_of prints. If it cannot say, it has told why on standard error, and the script ends. An interrupt of the terminal does not reach it."""
+    answer = subprocess.run([os.path.join(TOP, "bin", "made_of"), *words], stdout=subprocess.PIPE, start_new_session=True, text=True)
     if answer.returncode:
         sys.exit(1)
     return answer.stdout
@@ -61,7 +61,7 @@ def read(folder, name):
 
 def stripped(program):
     """The bytes of a program without symbols, by the toolchain's own command, so that they are the same on each machine."""
-    kit = os.path.dirname(subprocess.run(["rt", "doc"], check=True, stdout=subprocess.PIPE, text=True).stdout.strip())
+    kit = os.path.dirname(subprocess.run(["rt", "doc"], check=True, stdout=subprocess.PIPE, start_new_session=True, text=True).stdout.strip())
     to = f"{program}.{os.getpid()}"
     try:
         words = ["llvm-strip", "--strip-all", "-o", to, program]
