@@ -1,4 +1,5 @@
 """Runs commands one after another, and ends the one that runs when the caller is interrupted."""
+import contextlib
 import os
 import signal
 import subprocess
@@ -54,26 +55,38 @@ class Progress:
         return "\r\033[K" if sys.stderr.isatty() else ""
 
 
+class Command:
+    """A command that runs, and whose output goes to a file. `heard` is called with each line of it, when it is looked for."""
+
+    def __init__(self, words, log, heard=lambda line: None, **how):
+        with open(log, "wb") as out:
+            self.process = subprocess.Popen(words, stdin=subprocess.DEVNULL, stdout=out, stderr=subprocess.STDOUT, start_new_session=True, **how)
+        self.said, self.heard = open(log, encoding="utf-8", errors="replace"), heard
+
+    def status(self):
+        """Its status, or None while it runs."""
+        found = self.process.poll()
+        for line in self.said:
+            self.heard(line.rstrip("\n"))
+        return found
+
+    def close(self):
+        """Ends it and all that it started, if it still runs."""
+        if self.process.poll() is None:
+            end(self.process)
+        self.said.close()
+
+
 def run(words, progress, log, heard=lambda line: None, **how):
     """Runs a command whose output goes to a file, and answers its status. `heard` is called with each line of it, as soon as it can be read.
 
     An interrupt is passed on to the command and all that it started, and to the caller once they have ended.
     """
-    with open(log, "wb") as out:
-        process = subprocess.Popen(words, stdin=subprocess.DEVNULL, stdout=out, stderr=subprocess.STDOUT, start_new_session=True, **how)
-    try:
-        with open(log, encoding="utf-8", errors="replace") as said:
-            is_running = True
-            while is_running:
-                is_running = process.poll() is None
-                progress.show()
-                for line in said:
-                    heard(line.rstrip("\n"))
-                time.sleep(0.1 if is_running else 0)
-    except BaseException:
-        end(process)
-        raise
-    return process.returncode
+    with contextlib.closing(Command(words, log, heard, **how)) as command:
+        while (status := command.status()) is None:
+            progress.show()
+            time.sleep(0.1)
+    return status
 
 
 def passed_on(words, **how):
