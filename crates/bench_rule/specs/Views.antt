@@ -1,10 +1,9 @@
 -- What seats know of a bench, and how steps change it.
 
 use Rattle.bench_rule.specs.declared.contents.Item.TheVariants.{Nothing}
-use Rattle.std.specs.Prelude.{◌≡◌, ◌⊎◌, ◌<◌, ℕ, suc, ◌+◌, ◌-◌, true, false, nat_eq, cond, List, [], ◌∷◌, ◌++◌, length, map, replicate, slice_get, slice_index, slice_set, Option, Some, None}
+use Rattle.std.specs.Prelude.{◌≡◌, ◌⊎◌, ◌<◌, ℕ, zero, suc, ◌+◌, ◌-◌, Bool, true, false, nat_eq, cond, List, [], ◌∷◌, ◌++◌, length, map, replicate, slice_get, slice_index, slice_set, Option, Some, None}
 use Rattle.atomic_table.specs.Table.{State, Me}
 use Rattle.intake_rules.specs.Jobs.{AcceptedPlan}
-pub use Rattle.planner_lines.specs.Lines.{one_if, times_among}
 use Rattle.bench_rule.specs.declared.contents.Item.{Item}
 use Rattle.bench_rule.specs.declared.views.Held.{Held}
 use Rattle.bench_rule.specs.declared.views.Role.{Role}
@@ -79,6 +78,10 @@ spent_view = record {
   noted = false;
 }
 
+-- 1 if the test holds, and else 0
+abbrev pub one_if : Bool → ℕ
+one_if test = cond test 1 0
+
 -- how often a list names a slot
 abbrev pub times : ℕ → List ℕ → ℕ
 times slot [] = 0
@@ -115,6 +118,12 @@ total f (x ∷ xs) = f x + total f xs
 -- the planner of each job
 abbrev pub planners_of : List AcceptedPlan → List ℕ
 planners_of jobs = map (λ job. job.planner) jobs
+
+-- how many of the first jobs are this planner's, by the planner of each job
+abbrev pub times_among : List ℕ → ℕ → ℕ → ℕ
+times_among [] number count = 0
+times_among (x ∷ xs) number zero = 0
+times_among (x ∷ xs) number (suc count) = one_if (nat_eq x number) + times_among xs number count
 
 -- how many of the first jobs are this planner's
 abbrev pub rank : List AcceptedPlan → ℕ → ℕ → ℕ

@@ -2,6 +2,7 @@
 
 ghost use Rattle.std.specs.Prelude.{◌≡◌, IfOk};
 
+use intake_rules::SubmittedPlan;
 use judge_bench::Submission;
 use pddl_reader::{ReadFault, Seed, read_domain, read_problem};
 use plan_cost::CostedTask;
@@ -10,7 +11,6 @@ use std::alloc::{AllocError, Global};
 use std::sync::Arc;
 use std::sync::atomic::{AtomicBool, Ordering};
 use strips_judge::Verdict;
-use submitted_plan::SubmittedPlan;
 
 const LAMP: &[u8] = b"(define (domain lamp)
   (:predicates (lit) (dark))

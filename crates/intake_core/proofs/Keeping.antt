@@ -1,12 +1,13 @@
 -- What the calls of a desk keep true of its rows.
 
-use Rattle.std.proofs.Common.{◌≡◌, ◌≢◌, ℕ, ◌<◌, ◌≤◌, ⊎_elim, Bool, true, false, List, [], ◌∷◌, ◌++◌, length, get_or, set, map, Option, Some, None, ap, sym, ◌∙◌, subst, refl, arith, get_or-set_same, get_or-set_other}
+use Rattle.std.proofs.Common.{◌≡◌, ◌≢◌, ℕ, ◌<◌, ◌≤◌, ⊎_elim, true, false, List, [], ◌∷◌, ◌++◌, length, get_or, set, map, Option, Some, None, ap, sym, ◌∙◌, subst, refl, arith}
 use Rattle.std.specs.Prelude.{slice_get, IfSome, ◌-◌}
 use Rattle.std.proofs.Math.Seq.{map-set_same}
 use Rattle.std.proofs.Math.ListN.{length-set}
 use Rattle.std.proofs.lemmas.Bool.{cases_eq, cases_lt}
 use Rattle.std.proofs.lemmas.List.{map-append, length-map}
 use Rattle.std.proofs.lemmas.Option.{slice_get_past, slice_get_within, slice_get_read}
+use Rattle.bit_rows.specs.Rows.{row_has, ChangesBit}
 use Rattle.plan_cost.specs.declared.costs.CostedTask.{CostedTask}
 use Rattle.intake_rules.specs.declared.finding.Finding.{Finding}
 use Rattle.intake_rules.specs.declared.stage.Stage.{Stage}
@@ -14,7 +15,6 @@ use Rattle.intake_rules.specs.declared.stage.Stage.TheVariants.{Waiting, Finishe
 use Rattle.intake_rules.specs.Findings.{IsRight}
 use Rattle.intake_rules.specs.Jobs.{AcceptedPlan}
 use Rattle.intake_rules.specs.Intake.{Intake, is_waiting_stage}
-use Rattle.number_set.specs.Members.{is_member}
 use Rattle.intake_core.specs.declared.slot.Slot.{Slot}
 use Rattle.intake_core.specs.declared.slot.Planner.{Planner}
 use Rattle.intake_core.specs.State.{DeskState, with_intake}
@@ -34,15 +34,14 @@ module _ (table : List Slot) (j : ℕ) (row new : Slot) (was : row ≡ get_or ta
   links-written same = map-set_same (λ r. r.following) table j new row (same ∙ ap (λ r. r.following) was)
 
 -- the same lists under other names
-pub kept-as : (task : CostedTask) (slots : ℕ) (jobs new_jobs : List AcceptedPlan) (stages new_stages : List Stage) (links new_links : List (Option ℕ)) (planners new_planners : List Planner) (waiting new_waiting : List Bool)
-    → new_jobs ≡ jobs → new_stages ≡ stages → new_links ≡ links → new_planners ≡ planners → new_waiting ≡ waiting
-    → IsKept task slots jobs stages links planners waiting → IsKept task slots new_jobs new_stages new_links new_planners new_waiting
-kept-as task slots jobs new_jobs stages new_stages links new_links planners new_planners waiting new_waiting same_jobs same_stages same_links same_planners same_waiting kept =
-    subst (λ x. IsKept task slots x new_stages new_links new_planners new_waiting) (sym same_jobs)
-    (subst (λ x. IsKept task slots jobs x new_links new_planners new_waiting) (sym same_stages)
-    (subst (λ x. IsKept task slots jobs stages x new_planners new_waiting) (sym same_links)
-    (subst (λ x. IsKept task slots jobs stages links x new_waiting) (sym same_planners)
-    (subst (λ x. IsKept task slots jobs stages links planners x) (sym same_waiting) kept))))
+pub kept-as : (task : CostedTask) (slots : ℕ) (jobs new_jobs : List AcceptedPlan) (stages new_stages : List Stage) (links new_links : List (Option ℕ)) (planners new_planners : List Planner) (waiting : List ℕ)
+    → new_jobs ≡ jobs → new_stages ≡ stages → new_links ≡ links → new_planners ≡ planners
+    → IsKept task slots jobs stages links planners waiting → IsKept task slots new_jobs new_stages new_links new_planners waiting
+kept-as task slots jobs new_jobs stages new_stages links new_links planners new_planners waiting same_jobs same_stages same_links same_planners kept =
+    subst (λ x. IsKept task slots x new_stages new_links new_planners waiting) (sym same_jobs)
+    (subst (λ x. IsKept task slots jobs x new_links new_planners waiting) (sym same_stages)
+    (subst (λ x. IsKept task slots jobs stages x new_planners waiting) (sym same_links)
+    (subst (λ x. IsKept task slots jobs stages links x waiting) (sym same_planners) kept)))
 
 -- a row that was added
 module _ (old new : List Slot) (slot : Slot) (is : new ≡ old ++ slot ∷ []) where
@@ -69,42 +68,30 @@ same-intake a b jobs stages closed emitted =
     ∙ ap (λ x. record { jobs = b.jobs; stages = b.stages; closed = x; emitted = a.emitted }) closed
     ∙ ap (λ x. record { jobs = b.jobs; stages = b.stages; closed = b.closed; emitted = x }) emitted
 
--- the set of the jobs that wait, where one job's stage is written
-module _ (stages : List Stage) (waiting : List Bool) (is : (k : ℕ) → is_member waiting k ≡ waits_at stages k) (j : ℕ) (stage : Stage) (within : j < length stages) where
-  pub waits-written : (value : Bool) → j < length waiting → is_waiting_stage stage ≡ value → (k : ℕ) → is_member (set waiting j value) k ≡ waits_at (set stages j stage) k
-  waits-written value inside same k =
-      ⊎_elim
-      (λ (at : k ≡ j).
-      ap (is_member (set waiting j value)) at ∙ get_or-set_same waiting j value false inside ∙ sym same
-      ∙ sym (ap (waits_at (set stages j stage)) at ∙ ap waits (get-set_same stages j stage within)))
-      (λ (apart : k ≢ j). get_or-set_other waiting j k value false apart ∙ is k ∙ ap waits (sym (get-set_other stages j k stage apart)))
-      (cases_eq k j)
+-- the bits of the jobs that wait, where one job's stage is written
+waits-written : (stages : List Stage) (old new : List ℕ) (j : ℕ) (stage : Stage) → ((k : ℕ) → row_has old k ≡ waits_at stages k) → j < length stages
+    → ChangesBit old new j (is_waiting_stage stage) → (k : ℕ) → row_has new k ≡ waits_at (set stages j stage) k
+waits-written stages old new j stage is within change k =
+    ⊎_elim
+    (λ (at : k ≡ j).
+    ap (row_has new) at ∙ change.at ∙ sym (ap (waits_at (set stages j stage)) at ∙ ap waits (get-set_same stages j stage within)))
+    (λ (apart : k ≢ j). change.others k apart ∙ is k ∙ ap waits (sym (get-set_other stages j k stage apart)))
+    (cases_eq k j)
 
-  pub waits-unwritten : is_waiting_stage stage ≡ false → waits_at stages j ≡ false → (k : ℕ) → is_member waiting k ≡ waits_at (set stages j stage) k
-  waits-unwritten after before k =
-      ⊎_elim
-      (λ (at : k ≡ j).
-      ap (is_member waiting) at ∙ is j ∙ before ∙ sym after
-      ∙ sym (ap (waits_at (set stages j stage)) at ∙ ap waits (get-set_same stages j stage within)))
-      (λ (apart : k ≢ j). is k ∙ ap waits (sym (get-set_other stages j k stage apart)))
-      (cases_eq k j)
-
-module _ (task : CostedTask) (slots : ℕ) (jobs : List AcceptedPlan) (stages : List Stage) (links : List (Option ℕ)) (planners : List Planner) (waiting : List Bool)
+module _ (task : CostedTask) (slots : ℕ) (jobs : List AcceptedPlan) (stages : List Stage) (links : List (Option ℕ)) (planners : List Planner) (waiting : List ℕ)
     (kept : IsKept task slots jobs stages links planners waiting) where
   -- one job's stage is written
-  pub kept-stage : (j : ℕ) (stage : Stage) (new_waiting : List Bool) → j < length jobs → length new_waiting ≡ length waiting
-      → ((k : ℕ) → is_member new_waiting k ≡ waits_at (set stages j stage) k)
+  kept-stage : (j : ℕ) (stage : Stage) (new_waiting : List ℕ) → j < length jobs → ChangesBit waiting new_waiting j (is_waiting_stage stage)
       → ((job : AcceptedPlan) (finding : Finding) → slice_get jobs j ≡ Some job → stage ≡ Finished finding → IsAtRest task job finding)
       → IsKept task slots jobs (set stages j stage) links planners new_waiting
-  kept-stage j stage new_waiting within same waiting_is rest =
+  kept-stage j stage new_waiting within change rest =
       record {
         few = kept.few;
         room = kept.room;
         staged = length-set stages j stage ∙ kept.staged;
         linked = kept.linked;
         numbered = kept.numbered;
-        all_slots = same ∙ kept.all_slots;
-        waiting_is = waiting_is;
+        waiting_is = waits-written stages waiting new_waiting j stage kept.waiting_is (omega (arith, kept.staged, within)) change;
         at_rest = λ k job finding at resting.
             ⊎_elim
             (λ (here : k ≡ j).
@@ -118,20 +105,18 @@ module _ (task : CostedTask) (slots : ℕ) (jobs : List AcceptedPlan) (stages : 
       }
 
   -- one job waits, or is given out
-  pub kept-waiting : (j : ℕ) (stage : Stage) (value : Bool) → j < length jobs → is_waiting_stage stage ≡ value
-      → ((finding : Finding) → stage ≢ Finished finding) → IsKept task slots jobs (set stages j stage) links planners (set waiting j value)
-  kept-waiting j stage value within same no_finding =
-      kept-stage j stage (set waiting j value) within (length-set waiting j value)
-      (waits-written stages waiting kept.waiting_is j stage (omega (arith, kept.staged, within)) value (omega (arith, kept.all_slots, kept.room, within)) same)
-      (λ job finding at is. absurd (no_finding finding is))
+  pub kept-waiting : (j : ℕ) (stage : Stage) (new_waiting : List ℕ) → j < length jobs → ChangesBit waiting new_waiting j (is_waiting_stage stage)
+      → ((finding : Finding) → stage ≢ Finished finding) → IsKept task slots jobs (set stages j stage) links planners new_waiting
+  kept-waiting j stage new_waiting within change no_finding =
+      kept-stage j stage new_waiting within change (λ job finding at is. absurd (no_finding finding is))
 
   -- one job that does not wait comes to another stage at which it does not
   pub kept-idle : (j : ℕ) (stage : Stage) → j < length jobs → is_waiting_stage stage ≡ false → waits_at stages j ≡ false
       → ((job : AcceptedPlan) (finding : Finding) → slice_get jobs j ≡ Some job → stage ≡ Finished finding → IsAtRest task job finding)
       → IsKept task slots jobs (set stages j stage) links planners waiting
   kept-idle j stage within after before rest =
-      kept-stage j stage waiting within refl
-      (waits-unwritten stages waiting kept.waiting_is j stage (omega (arith, kept.staged, within)) after before) rest
+      kept-stage j stage waiting within
+      (record { at = kept.waiting_is j ∙ before ∙ sym after; others = λ k apart. refl; words = λ k apart. refl }) rest
 
   -- one planner's row is written
   pub kept-planner : (planner : ℕ) (row : Planner) → planner < length planners → IsLine jobs links planner row → IsKept task slots jobs stages links (set planners planner row) waiting
@@ -142,7 +127,6 @@ module _ (task : CostedTask) (slots : ℕ) (jobs : List AcceptedPlan) (stages : 
         staged = kept.staged;
         linked = kept.linked;
         numbered = kept.numbered;
-        all_slots = kept.all_slots;
         waiting_is = kept.waiting_is;
         at_rest = kept.at_rest;
         lines = λ other found at.
@@ -156,9 +140,9 @@ module _ (task : CostedTask) (slots : ℕ) (jobs : List AcceptedPlan) (stages : 
       }
 
   -- a job is accepted
-  pub kept-accept : (job : AcceptedPlan) (row : Planner) → job.number ≡ length jobs → length jobs < slots → slice_get planners job.planner ≡ Some row
-      → IsKept task slots (jobs ++ job ∷ []) (stages ++ Waiting ∷ []) (linked links row.last job.number ++ None ∷ []) (set planners job.planner (joined row job.number)) (set waiting job.number true)
-  kept-accept job row number room at =
+  pub kept-accept : (job : AcceptedPlan) (row : Planner) (new_waiting : List ℕ) → ChangesBit waiting new_waiting job.number true → job.number ≡ length jobs → length jobs < slots → slice_get planners job.planner ≡ Some row
+      → IsKept task slots (jobs ++ job ∷ []) (stages ++ Waiting ∷ []) (linked links row.last job.number ++ None ∷ []) (set planners job.planner (joined row job.number)) new_waiting
+  kept-accept job row new_waiting change number room at =
       let mine = kept.lines job.planner row at in
       record {
         few = kept.few;
@@ -166,7 +150,6 @@ module _ (task : CostedTask) (slots : ℕ) (jobs : List AcceptedPlan) (stages : 
         staged = omega (arith, length-push jobs job, length-push stages Waiting, kept.staged);
         linked = omega (arith, length-push jobs job, length-push (linked links row.last job.number) None, length-linked links row.last job.number, kept.linked);
         numbered = λ j other e. numbers j other e;
-        all_slots = length-set waiting job.number true ∙ kept.all_slots;
         waiting_is = λ k. all k;
         at_rest = λ k other finding e resting.
             ⊎_elim
@@ -200,14 +183,13 @@ module _ (task : CostedTask) (slots : ℕ) (jobs : List AcceptedPlan) (stages : 
           ap (λ x. x.number) (sym same) ∙ number ∙ sym last)
           (cases_lt j (length jobs))
 
-      all : (k : ℕ) → is_member (set waiting job.number true) k ≡ waits_at (stages ++ Waiting ∷ []) k
+      all : (k : ℕ) → row_has new_waiting k ≡ waits_at (stages ++ Waiting ∷ []) k
       all k =
           ⊎_elim
           (λ (here : k ≡ job.number).
-          ap (is_member (set waiting job.number true)) here ∙ get_or-set_same waiting job.number true false (omega (arith, kept.all_slots, number, room))
-          ∙ sym (ap waits (get-push_at stages Waiting k (omega (arith, kept.staged, number, here)))))
+          ap (row_has new_waiting) here ∙ change.at ∙ sym (ap waits (get-push_at stages Waiting k (omega (arith, kept.staged, number, here)))))
           (λ (apart : k ≢ job.number).
-          get_or-set_other waiting job.number k true false apart ∙ kept.waiting_is k
+          change.others k apart ∙ kept.waiting_is k
           ∙ ap waits
           (⊎_elim
           (λ (early : k < length stages). sym (get-push_before stages Waiting k early))

@@ -1,12 +1,13 @@
 -- A desk that nothing was asked of.
 
-use Rattle.std.proofs.Common.{◌≡◌, ℕ, zero, suc, ◌<◌, ◌≤◌, ⊎_elim, Bool, false, List, [], ◌∷◌, map, replicate, Some, None, ap, sym, ◌∙◌, subst, refl, arith}
+use Rattle.std.proofs.Common.{◌≡◌, ℕ, zero, suc, ◌/◌, ◌<◌, ◌≤◌, ⊎_elim, false, List, [], ◌∷◌, map, replicate, Some, None, ap, sym, ◌∙◌, subst, refl, arith}
 use Rattle.std.proofs.lemmas.Bool.{cases_lt}
 use Rattle.std.proofs.lemmas.List.{length-replicate, get_or-replicate, get_or_past}
 use Rattle.std.proofs.lemmas.Option.{slice_get-get_or, slice_get_within}
+use Rattle.bit_rows.specs.Rows.{row_has}
+use Rattle.bit_rows.proofs.Bits.{row_has-zero}
 use Rattle.plan_cost.specs.declared.costs.CostedTask.{CostedTask}
 use Rattle.intake_rules.specs.Intake.{Intake, empty_intake, jobs_of}
-use Rattle.number_set.specs.Members.{is_member}
 use Rattle.intake_core.specs.declared.slot.Slot.{Slot}
 use Rattle.intake_core.specs.declared.slot.Planner.{Planner}
 use Rattle.intake_core.specs.State.{DeskState}
@@ -20,14 +21,15 @@ open-line : (planner : ℕ) → IsLine [] [] planner open_planner
 unfolding jobs_of
 open-line planner = record { next = refl; last = refl; told = omega arith; along = λ k j e. absurd (cc) }
 
-no_member : (slots j : ℕ) → is_member (replicate slots false) j ≡ false
-no_member slots j =
-    ⊎_elim
-    (λ (within : j < slots). get_or-replicate slots j false false within)
-    (λ (past : slots ≤ j). get_or_past (replicate slots false) j false (omega (arith, past, length-replicate slots false)))
-    (cases_lt j slots)
+none_waits : (words k : ℕ) → row_has (replicate words 0) k ≡ false
+none_waits words k =
+    row_has-zero (replicate words 0) k
+    (⊎_elim
+    (λ (within : k / 64 < words). get_or-replicate words (k / 64) 0 0 within)
+    (λ (past : words ≤ k / 64). get_or_past (replicate words 0) (k / 64) 0 (omega (arith, past, length-replicate {A = ℕ} words 0)))
+    (cases_lt (k / 64) words))
 
-kept-empty : (task : CostedTask) (slots planners : ℕ) → slots ≤ 65536 → IsKept task slots [] [] [] (replicate planners open_planner) (replicate slots false)
+kept-empty : (task : CostedTask) (slots planners : ℕ) → slots ≤ 65536 → IsKept task slots [] [] [] (replicate planners open_planner) (replicate 1024 0)
 kept-empty task slots planners few =
     record {
       few = few;
@@ -35,8 +37,7 @@ kept-empty task slots planners few =
       staged = refl;
       linked = refl;
       numbered = λ j job e. absurd (cc);
-      all_slots = length-replicate slots false;
-      waiting_is = no_member slots;
+      waiting_is = none_waits 1024;
       at_rest = λ j job finding e f. absurd (cc);
       lines = λ planner row e.
           let within : planner < planners = omega (arith, slice_get_within (replicate planners open_planner) planner row e, length-replicate planners open_planner) in
@@ -47,12 +48,11 @@ kept-empty task slots planners few =
           subst (IsLine [] [] planner) row_is (open-line planner);
     }
 
-pub kept-made : (task : CostedTask) (slots planners : ℕ) (table : List Slot) (rows : List Planner) (waiting : List Bool) → slots ≤ 65536
-    → table ≡ [] → rows ≡ replicate planners open_planner → waiting ≡ replicate slots false → IsKeptIn task slots table rows waiting
-kept-made task slots planners table rows waiting few no_rows rows_are none =
-    subst (λ t. IsKeptIn task slots t rows waiting) (sym no_rows)
-    (subst (λ r. IsKeptIn task slots [] r waiting) (sym rows_are)
-    (subst (λ w. IsKeptIn task slots [] (replicate planners open_planner) w) (sym none) (kept-empty task slots planners few)))
+pub kept-made : (task : CostedTask) (slots planners : ℕ) (table : List Slot) (rows : List Planner) → slots ≤ 65536
+    → table ≡ [] → rows ≡ replicate planners open_planner → IsKeptIn task slots table rows (replicate 1024 0)
+kept-made task slots planners table rows few no_rows rows_are =
+    subst (λ t. IsKeptIn task slots t rows (replicate 1024 0)) (sym no_rows)
+    (subst (λ r. IsKeptIn task slots [] r (replicate 1024 0)) (sym rows_are) (kept-empty task slots planners few))
 
 map-copies : {X Y : Type 0} (f : X → Y) → (n : ℕ) (x : X) → map f (replicate n x) ≡ replicate n (f x)
 map-copies f zero x = refl

@@ -1,77 +1,45 @@
--- The least job that waits, by the set and by the stages.
+-- The least job that waits, by the bits and by the stages.
 
-use Rattle.std.proofs.Common.{ltb, ◌≡◌, ℕ, ◌<◌, ◌≤◌, ⊎_elim, Bool, true, false, List, length, get_or, Some, None, ap, sym, ◌∙◌, refl, arith, true≢false, cond}
+use Rattle.std.proofs.Common.{◌≡◌, ℕ, ◌<◌, ◌≤◌, ⊎_elim, true, false, List, length, get_or, Option, Some, None, ap, sym, ◌∙◌, refl, arith, true≢false}
+use Rattle.std.specs.Prelude.{MatchOption}
 use Rattle.std.specs.List.{position_from, position_or_len}
 use Rattle.std.proofs.lemmas.Bool.{cases_lt}
-use Rattle.std.proofs.lemmas.List.Quantifiers.{position-Some}
 use Rattle.std.proofs.lemmas.Bool.Decides.{nat_tests}
-use Rattle.std.proofs.lemmas.List.{get_or_past}
-use Rattle.std.proofs.lemmas.List.Sums.{position_or_len_is, passes_at_first, fails_before_first}
+use Rattle.std.proofs.lemmas.List.Sums.{position_or_len_is}
 use Rattle.std.proofs.lemmas.Iterator.Adapters.{position_from-zero}
 use Rattle.std.proofs.lemmas.Option.{slice_get-get_or, slice_get_past}
+use Rattle.bit_rows.specs.Rows.{row_has}
 use Rattle.intake_rules.specs.declared.stage.Stage.{Stage}
 use Rattle.intake_rules.specs.declared.stage.Stage.TheVariants.{Waiting}
 use Rattle.intake_rules.specs.Intake.{is_waiting_stage}
-use Rattle.number_set.specs.Members.{is_member, least_member}
-use Rattle.intake_core.specs.Rows.{waits, waits_at}
+use Rattle.intake_core.specs.Rows.{waits, waits_at, IsLeastBit}
 
 -- a job that waits has an index
-pub waits-lt : (stages : List Stage) (k : ℕ) → waits_at stages k ≡ true → k < length stages
+waits-lt : (stages : List Stage) (k : ℕ) → waits_at stages k ≡ true → k < length stages
 waits-lt stages k e =
     ⊎_elim
     (λ (within : k < length stages). within)
     (λ (past : length stages ≤ k). absurd (true≢false (sym e ∙ ap waits (slice_get_past stages k past))))
     (cases_lt k (length stages))
 
-stage-waits : (stages : List Stage) (k : ℕ) → k < length stages → is_waiting_stage (get_or stages k Waiting) ≡ waits_at stages k
-stage-waits stages k within = sym (ap waits (slice_get-get_or stages k Waiting within))
+module _ (row : List ℕ) (stages : List Stage) (is : (k : ℕ) → row_has row k ≡ waits_at stages k) where
+  -- the bit of a job
+  bit-of : (k : ℕ) → k < length stages → is_waiting_stage (get_or stages k Waiting) ≡ row_has row k
+  bit-of k within = sym (is k ∙ ap waits (slice_get-get_or stages k Waiting within))
 
-member-lt : (waiting : List Bool) (k : ℕ) → is_member waiting k ≡ true → k < length waiting
-member-lt waiting k e =
-    ⊎_elim
-    (λ (within : k < length waiting). within)
-    (λ (past : length waiting ≤ k). absurd (true≢false (sym e ∙ get_or_past waiting k false past)))
-    (cases_lt k (length waiting))
+  -- the least bit that is set is that of a job
+  pub least-lt : (found : Option ℕ) (bit : ℕ) → MatchOption found ((k : ℕ) → row_has row k ≡ false) (IsLeastBit row) → found ≡ Some bit → bit < length stages
+  least-lt None bit none e = absurd (cc)
+  least-lt (Some other) bit least e = let same : other ≡ bit = cc in waits-lt stages bit (sym (is bit) ∙ ap (row_has row) (sym same) ∙ least.at)
 
-found : (p : Bool → Bool) (waiting : List Bool) (stages : List Stage) (k : ℕ) → position_or_len p waiting ≡ k → position_or_len is_waiting_stage stages ≡ k
-    → k < length waiting → k < length stages
-    → cond (ltb (position_or_len p waiting) (length waiting)) (Some (position_or_len p waiting)) None ≡ cond (ltb (position_or_len is_waiting_stage stages) (length stages)) (Some (position_or_len is_waiting_stage stages)) None
-found p waiting stages k first second inside within = grind (arith, nat_tests, first, second, inside, within)
-
-missed : (p : Bool → Bool) (waiting : List Bool) (stages : List Stage) → length waiting ≤ position_or_len p waiting → length stages ≤ position_or_len is_waiting_stage stages
-    → cond (ltb (position_or_len p waiting) (length waiting)) (Some (position_or_len p waiting)) None ≡ cond (ltb (position_or_len is_waiting_stage stages) (length stages)) (Some (position_or_len is_waiting_stage stages)) None
-missed p waiting stages first second = grind (arith, nat_tests, first, second)
-
--- the least member of the set is the first of the stages that waits
-pub least-same : (waiting : List Bool) (stages : List Stage) → ((k : ℕ) → is_member waiting k ≡ waits_at stages k) → least_member waiting ≡ position_from is_waiting_stage 0 stages
-least-same waiting stages is =
-    ⊎_elim
-    (λ (inside : position_or_len (λ m. m) waiting < length waiting).
-    let here : waits_at stages (position_or_len (λ m. m) waiting) ≡ true = sym (is _) ∙ passes_at_first (λ m. m) waiting false inside in
-    let within : position_or_len (λ m. m) waiting < length stages = waits-lt stages _ here in
-    let same : position_or_len is_waiting_stage stages ≡ position_or_len (λ m. m) waiting =
-    position_or_len_is is_waiting_stage stages _ Waiting (omega (arith, within))
-    (λ k lt.
-    let early : k < length stages = omega (arith, lt, within) in
-    stage-waits stages k early ∙ sym (is k) ∙ fails_before_first (λ m. m) waiting k false lt)
-    (λ lt. stage-waits stages _ within ∙ here) in
-    found (λ m. m) waiting stages _ refl same inside within)
-    (λ (outside : length waiting ≤ position_or_len (λ m. m) waiting).
-    missed (λ m. m) waiting stages outside (none outside))
-    (cases_lt (position_or_len (λ m. m) waiting) (length waiting))
-    ∙ position_from-zero is_waiting_stage stages
-  where
-    none : length waiting ≤ position_or_len (λ m. m) waiting → length stages ≤ position_or_len is_waiting_stage stages
-    none outside =
-        ⊎_elim
-        (λ (within : position_or_len is_waiting_stage stages < length stages).
-        let here : waits_at stages (position_or_len is_waiting_stage stages) ≡ true = sym (stage-waits stages _ within) ∙ passes_at_first is_waiting_stage stages Waiting within in
-        let member : is_member waiting (position_or_len is_waiting_stage stages) ≡ true = is _ ∙ here in
-        let early : position_or_len is_waiting_stage stages < position_or_len (λ m. m) waiting = omega (arith, outside, member-lt waiting _ member) in
-        absurd (true≢false (sym member ∙ fails_before_first (λ m. m) waiting _ false early)))
-        (λ (past : length stages ≤ position_or_len is_waiting_stage stages). past)
-        (cases_lt (position_or_len is_waiting_stage stages) (length stages))
-
--- the least member of the set has an index
-pub least-lt : (waiting : List Bool) (stages : List Stage) (number : ℕ) → ((k : ℕ) → is_member waiting k ≡ waits_at stages k) → least_member waiting ≡ Some number → number < length stages
-least-lt waiting stages number is least = waits-lt stages number (sym (is number) ∙ (position-Some (λ m. m) waiting number false least).1)
+  -- and of the first job that waits
+  pub least-same : (found : Option ℕ) → MatchOption found ((k : ℕ) → row_has row k ≡ false) (IsLeastBit row) → found ≡ position_from is_waiting_stage 0 stages
+  least-same None none =
+      let first : position_or_len is_waiting_stage stages ≡ length stages =
+      position_or_len_is is_waiting_stage stages (length stages) Waiting (omega arith) (λ k lt. bit-of k lt ∙ none k) (λ lt. absurd (omega (arith, lt))) in
+      grind (arith, nat_tests, first) ∙ position_from-zero is_waiting_stage stages
+  least-same (Some bit) least =
+      let within : bit < length stages = least-lt (Some bit) bit least refl in
+      let first : position_or_len is_waiting_stage stages ≡ bit =
+      position_or_len_is is_waiting_stage stages bit Waiting (omega (arith, within)) (λ k lt. bit-of k (omega (arith, lt, within)) ∙ least.before k lt) (λ lt. bit-of bit within ∙ least.at) in
+      grind (arith, nat_tests, first, within) ∙ position_from-zero is_waiting_stage stages

@@ -1,6 +1,7 @@
 -- How a desk keeps what it knows: a row for each slot in use and one for each planner.
 
-use Rattle.std.specs.Prelude.{◌≡◌, ◌≤◌, ◌-◌, ℕ, suc, Bool, true, false, List, Option, Some, None, map, length, slice_get, slice_index_or, set, option_map}
+use Rattle.std.specs.Prelude.{◌≡◌, ◌<◌, ◌≤◌, ◌-◌, ℕ, suc, Bool, true, false, List, Option, Some, None, map, length, slice_get, slice_index_or, set, option_map}
+use Rattle.bit_rows.specs.Rows.{row_has}
 use Rattle.plan_cost.specs.declared.costs.CostedTask.{CostedTask}
 use Rattle.intake_rules.specs.declared.finding.Finding.{Finding}
 use Rattle.intake_rules.specs.declared.stage.Stage.TheVariants.{Finished}
@@ -10,7 +11,6 @@ use Rattle.intake_rules.specs.Intake.{Intake, is_waiting_stage, jobs_of, has_pla
 use Rattle.intake_rules.specs.Jobs.{AcceptedPlan}
 use Rattle.intake_core.specs.declared.slot.Slot.{Slot}
 use Rattle.intake_core.specs.declared.slot.Planner.{Planner}
-use Rattle.number_set.specs.Members.{is_member}
 
 -- the jobs of the rows
 abbrev pub jobs_in : List Slot → List AcceptedPlan
@@ -57,25 +57,29 @@ waits None = false
 abbrev pub waits_at : List Stage → ℕ → Bool
 waits_at stages j = waits (slice_get stages j)
 
+-- the least bit that is set in a row
+pub record IsLeastBit (row : List ℕ) (bit : ℕ) : Type 0 where
+  pub at : row_has row bit ≡ true
+  pub before : (k : ℕ) → k < bit → row_has row k ≡ false
+
 -- a finding in a slot is one of the job there, and right
 pub record IsAtRest (task : CostedTask) (job : AcceptedPlan) (finding : Finding) : Type 0 where
   pub same : finding.job ≡ job
   pub right : IsRight task finding
 
--- how the jobs, stages and links of a desk of this many slots, its planners and the set of the jobs that wait fit together
-pub record IsKept (task : CostedTask) (slots : ℕ) (jobs : List AcceptedPlan) (stages : List Stage) (links : List (Option ℕ)) (planners : List Planner) (waiting : List Bool) : Type 0 where
+-- how the jobs, stages and links of a desk of this many slots, its planners and the bits of the jobs that wait fit together
+pub record IsKept (task : CostedTask) (slots : ℕ) (jobs : List AcceptedPlan) (stages : List Stage) (links : List (Option ℕ)) (planners : List Planner) (waiting : List ℕ) : Type 0 where
   pub few : slots ≤ 65536
   pub room : length jobs ≤ slots
   pub staged : length stages ≡ length jobs
   pub linked : length links ≡ length jobs
   pub numbered : (j : ℕ) (job : AcceptedPlan) → slice_get jobs j ≡ Some job → job.number ≡ j
-  pub all_slots : length waiting ≡ slots
-  pub waiting_is : (j : ℕ) → is_member waiting j ≡ waits_at stages j
+  pub waiting_is : (j : ℕ) → row_has waiting j ≡ waits_at stages j
   pub at_rest : (j : ℕ) (job : AcceptedPlan) (finding : Finding) → slice_get jobs j ≡ Some job → slice_get stages j ≡ Some (Finished finding) → IsAtRest task job finding
   pub lines : (planner : ℕ) (row : Planner) → slice_get planners planner ≡ Some row → IsLine jobs links planner row
 
 -- the same for the rows of a desk of this many slots
-abbrev pub IsKeptIn : CostedTask → ℕ → List Slot → List Planner → List Bool → Type 0
+abbrev pub IsKeptIn : CostedTask → ℕ → List Slot → List Planner → List ℕ → Type 0
 IsKeptIn task slots table planners waiting = IsKept task slots (jobs_in table) (stages_in table) (links_in table) planners waiting
 
 -- the links once this job follows the one that was the last of its planner

@@ -1,19 +1,20 @@
 //! The desk: each call asks first whether the rules refuse it, and only then changes the tables.
 ghost use Rattle.std.specs.Arc.{arc_value};
 ghost use Rattle.std.specs.Option.{option_copied};
-ghost use Rattle.std.specs.Prelude.{◌≡◌, ◌≤◌, ◌<◌, ◌++◌, ◌∷◌, [], length, slice_get, Option, None, Some, true, false, IfOk, IfErr, MatchResult, vec_len, vec_capacity, IfSome, slice_set};
+ghost use Rattle.std.specs.Prelude.{◌≡◌, ◌≤◌, ◌<◌, ◌++◌, ◌∷◌, [], ℕ, length, slice_get, Option, None, Some, true, false, IfOk, IfErr, MatchOption, MatchResult, vec_len, vec_capacity, IfSome, slice_set};
+ghost use Rattle.bit_rows.specs.Rows.{row_has};
 ghost use Rattle.intake_rules.specs.Findings.{IsRight};
 ghost use Rattle.intake_rules.specs.Intake.{next_job, with_job, with_stage, with_closed, with_emitted, empty_intake};
 ghost use Rattle.intake_rules.specs.Rules.{submit, close, take_job, hand_back, finish, emit, submit_refusal, close_refusal, hand_back_refusal, finish_refusal, emit_reply};
 ghost use Rattle.intake_rules.specs.Answers.{submit_reply, close_reply, take_reply, hand_back_reply, finish_reply, emit_answer};
 ghost use Rattle.intake_core.specs.Histories.{GoesOn, Leaves};
-ghost use Rattle.intake_core.specs.Rows.{jobs_in, stages_in, links_in, linked, rests_at, IsReady};
+ghost use Rattle.intake_core.specs.Rows.{jobs_in, stages_in, links_in, linked, rests_at, IsLeastBit, IsReady};
 ghost use Rattle.intake_core.specs.State.{DeskState, with_intake, desk_after, desk_reply};
 
 use crate::slot::{Planner, Slot};
 use crate::{FinishRefused, SubmitRefused};
-use intake_rules::{Finding, Job, Refusal, Reply, Stage};
-use number_set::NumberSet;
+use bit_rows::{clear_bit, least_bit, set_bit};
+use intake_rules::{Finding, Job, Refusal, Reply, Stage, SubmittedPlan};
 use plan_cost::CostedTask;
 use std::alloc::{AllocError, Global};
 use std::marker::Model;
@@ -21,7 +22,9 @@ use std::mem;
 use std::snapshot::Snapshot;
 use std::sync::Arc;
 use strips_judge::Plan;
-use submitted_plan::SubmittedPlan;
+
+/// How many words have a bit for each of the 65,536 slots that a desk can have.
+const WAITING_WORDS: usize = 1024;
 
 /// The desk of one thread. Contracts see its task, the number of its slots, and what it knows.
 #[derive(Drop)]
@@ -30,7 +33,8 @@ pub struct Desk {
     limit: u32,
     table: Vec<Slot>,
     planners: Vec<Planner>,
-    waiting: NumberSet,
+    /// For each slot a bit, which is set while the job of the slot waits.
+    waiting: [u64; WAITING_WORDS],
 }
 
 impl Model for Desk {
@@ -70,7 +74,7 @@ impl Desk {
             limit: slots,
             table: Vec::with_capacity(alloc, slots as usize)?,
             planners: vec![in alloc; open; planners as usize]?,
-            waiting: NumberSet::new(alloc, slots)?,
+            waiting: [0; WAITING_WORDS],
         })
     }
 
@@ -119,8 +123,8 @@ impl Desk {
         ensures state { self.new ≡ desk_after self.old take_job (take_reply result) }
         ensures history { GoesOn self.old self.new take_job (take_reply result) }
     {
-        let number = self.waiting.least()?;
-        self.waiting.remove(number);
+        let number = least_waiting(&self.waiting)?;
+        clear_bit(&mut self.waiting, number as usize);
         set_stage(&mut self.table, number, Stage::Out);
         Some(number)
     }
@@ -225,7 +229,7 @@ impl Desk {
         ensures { self.new ≡ with_intake self.old (with_stage self.old.intake job Stage.Waiting) }
     {
         set_stage(&mut self.table, job, Stage::Waiting);
-        self.waiting.insert(job);
+        set_bit(&mut self.waiting, job as usize);
     }
 
     /// Stores a right finding with its job.
@@ -257,7 +261,7 @@ impl Desk {
         };
         link(&mut self.table, row.last, number);
         add(&mut self.table, slot);
-        self.waiting.insert(number);
+        set_bit(&mut self.waiting, number as usize);
         number
     }
 
@@ -322,6 +326,19 @@ impl Desk {
             Stage::Waiting | Stage::Out | Stage::Emitted => unreachable!(),
         }
     }
+}
+
+/// The least bit that is set in these words, if one is.
+fn least_waiting(words: &[u64]) -> Option<u32>
+    requires { length words.now ≤ 1024 }
+    ensures { MatchOption result ((k : ℕ) → row_has words.now k ≡ false) (λ bit. IsLeastBit words.now bit) }
+{
+    for index in 0..words.len() {
+        if words[index] != 0 {
+            return Some(least_bit(words, index) as u32);
+        }
+    }
+    None
 }
 
 /// Sets the stage of a job. Returns the one before.

@@ -22,8 +22,8 @@
 //! [`replay`] makes a desk and runs a whole list of steps on it. Its contract states what the rules are for: see `Headline` in
 //! `specs/Replays.antt`.
 //!
-//! Of a desk's calls only [`Desk::make`] takes memory, and no call goes through all slots: a [`NumberSet`](number_set::NumberSet) finds the least
-//! job that waits, and each slot links to its planner's next one.
+//! Of a desk's calls only [`Desk::make`] takes memory, and no call goes through all slots: [`Desk::take`] reads at most 1,024 words, in which each
+//! slot has a bit, to find the least job that waits, and each slot links to its planner's next one.
 #![tactic(auto)]
 
 mod desk;

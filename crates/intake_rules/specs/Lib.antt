@@ -6,3 +6,4 @@ pub mod Jobs
 pub mod Laws
 pub mod Refusals
 pub mod Rules
+pub mod Contents

@@ -4,11 +4,10 @@ ghost use Rattle.plan_cost.specs.Assessments.{assessment};
 ghost use Rattle.plan_cost.specs.CompactCosts.{IsCompact};
 ghost use Rattle.intake_rules.specs.Findings.{IsRight};
 
-use crate::Job;
+use crate::{Form, Job, SubmittedPlan};
 use plan_cost::{Assessment, CompactCost, CostedTask, assess};
 use std::alloc::{AllocError, AllocFailed, Global};
 use strips_judge::Verdict;
-use submitted_plan::{Form, SubmittedPlan};
 use text_judge::{MOST_JUDGES, TextJudge};
 
 /// A job that was judged, with its verdict and its cost.

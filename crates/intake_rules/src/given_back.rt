@@ -1,6 +1,5 @@
 //! What an intake gives back with a refusal.
-use crate::{Finding, Refusal};
-use submitted_plan::SubmittedPlan;
+use crate::{Finding, Refusal, SubmittedPlan};
 
 /// A plan that was not accepted.
 #[derive(Drop)]

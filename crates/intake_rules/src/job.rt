@@ -2,9 +2,9 @@
 ghost use Rattle.std.specs.Prelude.{◌≡◌, IfOk};
 ghost use Rattle.intake_rules.specs.Jobs.{job_eq};
 
+use crate::SubmittedPlan;
 use std::alloc::AllocError;
 use std::marker::Model;
-use submitted_plan::SubmittedPlan;
 
 /// An accepted plan with its number. Contracts see the number, the planner and the plan's content, however the plan is kept.
 #[derive(Drop)]

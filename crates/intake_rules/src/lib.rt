@@ -8,7 +8,9 @@
 //! Refusal::NotReady(0).word()                           // "NotReady"
 //! ```
 //!
-//! A [`Job`] is an accepted plan with its number. A [`Finding`] is a job with its verdict and the cost of its plan, and [`Finding::judge`] makes
+//! A [`SubmittedPlan`] is a plan as it was handed in: already read, or still as text. A plan that is kept as text takes no memory of its own, since its text
+//! is a range of a file's bytes that all plans of the file share; it is read by the code that judges it. Contracts see its content, a
+//! [`Plan`](strips_task::Plan). A [`Job`] is an accepted plan with its number. A [`Finding`] is a job with its verdict and the cost of its plan, and [`Finding::judge`] makes
 //! the right one. A [`Reply`] is what an intake answers to a request, and a [`Refusal`] is the reason if it refuses one.
 //!
 //! The rules themselves are definitions in `specs/`:
@@ -29,13 +31,17 @@ mod finding;
 mod given_back;
 mod job;
 pub mod laws;
+mod plan;
 mod refusal;
 mod reply;
+mod shared_text;
 mod stage;
 
 pub use finding::Finding;
 pub use given_back::{FinishRefused, SubmitRefused};
 pub use job::Job;
+pub use plan::{Form, SubmittedPlan};
 pub use refusal::Refusal;
 pub use reply::Reply;
+pub use shared_text::SharedText;
 pub use stage::Stage;

@@ -47,7 +47,8 @@ one_row_else f g planner others first (suc planners) (suc index) at within =
     let apart : first ≢ planner = λ e. omega arith in
     λ i. others first apart i ∷ one_row_else f g planner others (first + 1) planners index (omega arith) (omega arith) i
 
-zeros : (planners planner : ℕ) → slice_index (replicate planners 0) planner ≡ 0
+-- at first each planner's number is 0
+pub zeros : (planners planner : ℕ) → slice_index (replicate planners 0) planner ≡ 0
 zeros zero planner = refl
 zeros (suc planners) zero = refl
 zeros (suc planners) (suc planner) = zeros planners planner

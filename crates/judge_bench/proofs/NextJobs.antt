@@ -1,8 +1,7 @@
--- A planner's next job, by the lines of the planners and by the jobs themselves.
+-- A planner's next job, by the count of its jobs before a slot and by the list of its jobs.
 
 use Rattle.std.proofs.Common.{◌≡◌, ◌<◌, ◌≤◌, ℕ, zero, suc, ◌+◌, Bool, true, false, cond, List, [], ◌∷◌, length, slice_get, slice_index, Some, refl, sym, ap, ◌∙◌, subst, arith}
-use Rattle.std.specs.Prelude.{MatchOption, None, Option, if◌then◌else◌, slice_index_or}
-use Rattle.std.proofs.lemmas.List.{length-map}
+use Rattle.std.specs.Prelude.{None, if◌then◌else◌, slice_index_or}
 use Rattle.std.specs.List.{filter}
 use Rattle.std.proofs.lemmas.Option.{slice_get_past}
 use Rattle.std.proofs.lemmas.Bool.{lt-ltb}
@@ -12,9 +11,8 @@ use Rattle.intake_rules.specs.Intake.{has_planner, is_of, jobs_of, next_job}
 use Rattle.intake_rules.specs.Jobs.{AcceptedPlan}
 use Rattle.intake_rules.specs.Rules.{emit_reply, emit_reply_of, nothing_left}
 use Rattle.bench_rule.specs.declared.views.View.{View}
-use Rattle.bench_rule.specs.Views.{IsNext, one_if, planners_of, rank, times_among}
+use Rattle.bench_rule.specs.Views.{IsNext, one_if, planners_of, rank}
 use Rattle.bench_rule.proofs.Ranks.{job_by_rank}
-use Rattle.planner_lines.specs.Lines.{IsNextJob, LinesValue}
 use Rattle.judge_bench.specs.Kept.{Numbered}
 use Rattle.judge_bench.specs.Seats.{accepted_intake}
 
@@ -41,11 +39,11 @@ job_there [] slot planner e = cc
 job_there (x ∷ xs) zero planner e = (x, refl, cc)
 job_there (x ∷ xs) (suc slot) planner e = job_there xs slot planner e
 
--- the next job by the lines is the next job
-pub next_by_lines : (view : View) (slot planner : ℕ) → slice_get (planners_of view.jobs) slot ≡ Some planner → times_among (planners_of view.jobs) planner slot ≡ slice_index view.emitted planner → planner < length view.emitted
-    → (job : AcceptedPlan) × IsNext view slot job × (job.planner ≡ planner)
-next_by_lines view slot planner there counted inside = let (job, at, his) = job_there view.jobs slot planner there in
-    (job, record { job_of_slot = at; next = subst (λ p. rank view.jobs p slot ≡ slice_index view.emitted p) (sym his) counted; planner_within = subst (λ p. p < length view.emitted) (sym his) inside }, his)
+-- a job of the planner before which it has as many jobs as findings were emitted
+pub next_by_count : (view : View) (slot planner : ℕ) → Numbered view.jobs → slice_get (planners_of view.jobs) slot ≡ Some planner → rank view.jobs planner slot ≡ slice_index view.emitted planner → planner < length view.emitted
+    → (job : AcceptedPlan) × IsNext view slot job × (job.planner ≡ planner) × (job.number ≡ slot)
+next_by_count view slot planner numbered there counted inside = let (job, at, his) = job_there view.jobs slot planner there in
+    (job, record { job_of_slot = at; next = subst (λ p. rank view.jobs p slot ≡ slice_index view.emitted p) (sym his) counted; planner_within = subst (λ p. p < length view.emitted) (sym his) inside }, his, numbered slot job at)
 
 -- what an emit answers for a planner that has no next job
 pub nothing_left_reply : (view : View) (planner : ℕ) (closed : Bool) → planner < length view.closed → next_job (accepted_intake view) planner ≡ None → slice_index_or view.closed planner false ≡ closed
@@ -60,17 +58,3 @@ pub not_ready_reply : (view : View) (planner slot : ℕ) (job : AcceptedPlan) �
 not_ready_reply view planner slot job inside next number = let known : has_planner (accepted_intake view) planner ≡ true = lt-ltb planner (length view.closed) inside in
     ap (λ b. if b then emit_reply_of (accepted_intake view) planner (next_job (accepted_intake view) planner) else Refused NoPlanner) known
     ∙ (ap (emit_reply_of (accepted_intake view) planner) next ∙ ap (λ n. Refused (NotReady n)) number)
-
--- what the lines of the planners find is the slot of the planner's next job
-pub found_by_lines : (view : View) (lines : LinesValue) (planner : ℕ) (found : Option ℕ) → lines.planners ≡ planners_of view.jobs → lines.passed ≡ view.emitted → planner < length view.emitted → Numbered view.jobs
-    → MatchOption found (times_among lines.planners planner (length lines.planners) ≤ slice_index lines.passed planner) (IsNextJob lines planner)
-    → MatchOption found (next_job (accepted_intake view) planner ≡ None) (λ slot. (job : AcceptedPlan) × IsNext view slot job × (job.planner ≡ planner) × (job.number ≡ slot))
-found_by_lines view lines planner None whose told inside numbered h =
-    let long : length (planners_of view.jobs) ≡ length view.jobs = length-map view.jobs (λ (job : AcceptedPlan). job.planner) in
-    let same : times_among lines.planners planner (length lines.planners) ≡ rank view.jobs planner (length view.jobs) = ap (λ (l : List ℕ). times_among l planner (length l)) whose ∙ ap (times_among (planners_of view.jobs) planner) long in
-    let passed : slice_index lines.passed planner ≡ slice_index view.emitted planner = ap (λ (l : List ℕ). slice_index l planner) told in
-    no_next view planner (omega arith)
-found_by_lines view lines planner (Some slot) whose told inside numbered h =
-    let (job, next, his) = next_by_lines view slot planner (ap (λ (l : List ℕ). slice_get l slot) (sym whose) ∙ h.planner_of)
-    (ap (λ (l : List ℕ). times_among l planner slot) (sym whose) ∙ (h.before ∙ ap (λ (l : List ℕ). slice_index l planner) told)) inside in
-    (job, next, his, numbered slot job next.job_of_slot)

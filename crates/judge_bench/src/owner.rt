@@ -1,12 +1,12 @@
 //! The seat of the owner.
-ghost use Rattle.std.specs.Prelude.{◌≡◌, ◌<◌, ◌≤◌, ◌+◌, ℕ, [], Some, None, IfOk, IfErr, MatchOption, MatchResult, length};
+ghost use Rattle.std.specs.Prelude.{◌≡◌, ◌<◌, ◌≤◌, ◌+◌, ◌^◌, ℕ, [], Some, None, IfOk, IfErr, MatchOption, MatchResult, length, slice_get};
 ghost use Rattle.intake_rules.specs.Answers.{submit_reply, close_reply};
 ghost use Rattle.intake_rules.specs.Findings.{IsRight};
 ghost use Rattle.intake_rules.specs.Intake.{next_job};
 ghost use Rattle.intake_rules.specs.Rules.{submit, close, emit_reply, reply_to, submit_refusal};
 ghost use Rattle.intake_rules.specs.declared.reply.Reply.TheVariants.{Refused};
 ghost use Rattle.bench_rule.specs.Plays.{SeemsWaiting};
-ghost use Rattle.bench_rule.specs.Views.{HoldsJob, IsNext, with_close, with_emission, with_finished, with_handed_back, with_joined, with_posted, with_seat_out, with_shut, with_taken, worker_view, first_view, times};
+ghost use Rattle.bench_rule.specs.Views.{HoldsJob, IsNext, with_close, with_emission, with_finished, with_handed_back, with_joined, with_posted, with_seat_out, with_shut, with_taken, worker_view, first_view, times, times_among};
 ghost use Rattle.judge_bench.specs.Kept.{NoneWaitsAmong, NoneWaitsBefore};
 ghost use Rattle.intake_rules.specs.Jobs.{AcceptedPlan};
 ghost use Rattle.intake_rules.specs.declared.refusal.Refusal.TheVariants.{NotReady};
@@ -15,18 +15,19 @@ ghost use Rattle.bench_rule.specs.declared.views.Setting.{Setting};
 
 use crate::{Bench, Ticket, WorkerSeat};
 use bench_rule::{BenchSeat, steps};
-use intake_rules::{Finding, Job, Refusal, SubmitRefused};
-use planner_lines::PlannerLines;
+use intake_rules::{Finding, Job, Refusal, SubmitRefused, SubmittedPlan};
 use std::alloc::{AllocError, Global};
 use std::marker::Model;
-use submitted_plan::SubmittedPlan;
 
 /// The seat of the owner: it accepts plans, gives seats out, emits findings, and may judge as a worker does. Contracts see at which bench it is, and
 /// what it knows.
 #[derive(Drop)]
 pub struct Owner {
     seat: BenchSeat,
-    lines: PlannerLines,
+    /// Whose each job is.
+    planners: Vec<u32>,
+    /// For each planner the slot from which its next job is looked for. It only grows.
+    cursors: Vec<u32>,
     closed: Vec<bool>,
     seats_out: u32,
     /// The first slot at which the owner tries to take a job.
@@ -34,6 +35,7 @@ pub struct Owner {
 }
 
 impl Model for Owner {
+    ghost use Rattle.std.specs.Prelude.{◌≤◌, vec_capacity};
     ghost use Rattle.judge_bench.specs.Seats.{SeatFacts};
     ghost use Rattle.judge_bench.specs.Kept.{OwnerKept};
 
@@ -41,7 +43,7 @@ impl Model for Owner {
 
     ghost view = { λ owner. record { table = owner.seat.table_id; view = owner.seat.me.0 } };
 
-    ghost invariant = { λ owner. OwnerKept owner.seat.table_id owner.seat.id owner.seat.me owner.lines owner.closed.items owner.seats_out owner.first };
+    ghost invariant = { λ owner. OwnerKept owner.seat.table_id owner.seat.id owner.seat.me owner.planners.items owner.cursors.items owner.closed.items owner.seats_out owner.first × (owner.seat.table_id.slots ≤ vec_capacity owner.planners) };
 }
 
 impl Owner {
@@ -58,7 +60,8 @@ impl Owner {
     {
         Ok(Owner {
             seat,
-            lines: PlannerLines::make(alloc, planners, slots)?,
+            planners: Vec::with_capacity(alloc, slots as usize)?,
+            cursors: vec![in alloc; 0; planners as usize]?,
             closed: vec![in alloc; false; planners as usize]?,
             seats_out: 0,
             first: 0,
@@ -163,7 +166,7 @@ impl Owner {
         ensures took { MatchOption result (self.new.view ≡ self.old.view) (λ ticket. self.new.view ≡ with_taken self.old.view ticket.slot ticket.job) }
         ensures alone { self.old.view.seats_out ≡ 0 → MatchOption result ((slot : ℕ) → SeemsWaiting slot self.old.view → ⊥) (λ ticket. SeemsWaiting ticket.slot self.old.view × NoneWaitsBefore ticket.slot self.old.view) }
     {
-        let jobs = self.lines.jobs();
+        let jobs = self.jobs();
         match self.take_from(bench, self.first, jobs) {
             Some(ticket) => {
                 self.tried_before(ticket.slot + 1);
@@ -210,6 +213,13 @@ impl Owner {
         steps::shut(bench.words(), &mut self.seat);
     }
 
+    /// How many jobs were accepted.
+    fn jobs(&self) -> u32
+        ensures { result ≡ length self.now.view.jobs }
+    {
+        self.planners.len() as u32
+    }
+
     /// Why a plan of a planner is not accepted.
     fn submit_refusal(&self, bench: &Bench, planner: u32) -> Option<Refusal>
         requires { SitsAt bench.now self.now }
@@ -218,7 +228,7 @@ impl Owner {
         match self.closed.get(planner as usize) {
             None => Some(Refusal::NoPlanner),
             Some(closed) if *closed => Some(Refusal::Closed),
-            Some(_) if self.lines.jobs() == bench.slots() => Some(Refusal::Full),
+            Some(_) if self.jobs() == bench.slots() => Some(Refusal::Full),
             Some(_) => None,
         }
     }
@@ -231,23 +241,29 @@ impl Owner {
         ensures number { result ≡ length self.old.view.jobs }
         ensures view { self.new.view ≡ with_posted self.old.view record { number = result; planner = planner; plan = plan } }
     {
-        let number = self.lines.jobs();
+        let number = self.jobs();
         let job = Job {
             number,
             planner,
             plan,
         };
         steps::post(bench.words(), &mut self.seat, number, job);
-        self.lines.add(planner);
+        self.planners.push_reserved(planner);
         number
     }
 
-    /// The slot of a planner's next job, if it has one.
-    fn next_slot(&self, planner: u32) -> Option<u32>
-        requires { planner < length self.now.view.closed }
-        ensures { MatchOption result (next_job (accepted_intake self.now.view) planner ≡ None) (λ slot. (job : AcceptedPlan) × IsNext self.now.view slot job × (job.planner ≡ planner) × (job.number ≡ slot)) }
+    /// The slot of a planner's next job, if it has one. Goes over the jobs of other planners from the planner's cursor on, and moves the cursor behind them.
+    fn next_slot(&mut self, planner: u32) -> Option<u32>
+        requires { planner < length self.old.view.closed }
+        ensures same { self.new ≡ self.old }
+        ensures next { MatchOption result (next_job (accepted_intake self.old.view) planner ≡ None) (λ slot. (job : AcceptedPlan) × IsNext self.old.view slot job × (job.planner ≡ planner) × (job.number ≡ slot)) }
     {
-        self.lines.next(planner)
+        let slot = first_of(&self.planners, planner, self.cursors[planner as usize]);
+        self.cursors[planner as usize] = slot;
+        if slot == self.jobs() {
+            return None;
+        }
+        Some(slot)
     }
 
     /// Emits the finding of a planner's next job, which is in this slot, if it is finished.
@@ -263,7 +279,7 @@ impl Owner {
     {
         match steps::emit(bench.words(), &mut self.seat, slot) {
             Some(finding) => {
-                self.lines.pass(planner);
+                self.cursors[planner as usize] = slot + 1;
                 Ok(finding)
             }
             None => Err(Refusal::NotReady(slot)),
@@ -308,4 +324,21 @@ impl Owner {
             self.first = slot;
         }
     }
+}
+
+/// The first job of a planner from this slot on, by its slot, or else the number of jobs.
+fn first_of(planners: &[u32], planner: u32, from: u32) -> u32
+    requires from { from ≤ length planners.now }
+    requires few { length planners.now < 2 ^ 32 }
+    ensures within { (from ≤ result) × (result ≤ length planners.now) }
+    ensures between { times_among planners.now planner result ≡ times_among planners.now planner from }
+    ensures found { result < length planners.now → slice_get planners.now result ≡ Some planner }
+{
+    let jobs = planners.len() as u32;
+    for slot in from..jobs {
+        if planners[slot as usize] == planner {
+            return slot;
+        }
+    }
+    jobs
 }

@@ -1,6 +1,6 @@
 //! A plan that is handed in.
+use intake_rules::SubmittedPlan;
 use std::marker::Model;
-use submitted_plan::SubmittedPlan;
 
 /// A plan that is handed in. Contracts see whose plan it is and its content, however the plan is kept.
 #[derive(Drop)]

@@ -14,3 +14,6 @@ pub mod PlanCounts
 pub mod Files
 pub mod Texts
 pub mod PlainNames
+pub mod ValueSteps
+pub mod OperandSteps
+pub mod HelpSteps

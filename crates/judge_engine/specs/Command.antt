@@ -2,7 +2,7 @@
 
 use Rattle.std.specs.Prelude.{◌≡◌, ℕ, Bool, true, List, ◌∷◌, Option, Some, None, codes, bytes_eq, nat_eq, nat_lt, not, ◌||◌, if◌then◌else◌}
 use Rattle.std.specs.List.{list_all}
-use Rattle.command_words.specs.CommandLine.{arguments, has_command, operands, value_of}
+use Rattle.judge_engine.specs.CommandLine.{arguments, has_command, operands, value_of}
 use Rattle.pddl_syntax.specs.declared.dialect.Dialect.{Dialect}
 use Rattle.pddl_syntax.specs.declared.dialect.Dialect.TheVariants.{Strips, Ipc}
 use Rattle.report_text.specs.declared.format.Format.{Format}

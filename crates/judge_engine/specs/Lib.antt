@@ -12,3 +12,4 @@ pub mod Run
 pub mod Status
 pub mod Tally
 pub mod Standing
+pub mod CommandLine

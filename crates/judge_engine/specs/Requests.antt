@@ -1,7 +1,7 @@
 -- A request is what the words of a command line ask for.
 
 use Rattle.std.specs.Prelude.{◌≡◌, ℕ, true, List, map}
-use Rattle.command_words.specs.CommandLine.{asks_for_help}
+use Rattle.judge_engine.specs.CommandLine.{asks_for_help}
 use Rattle.judge_engine.specs.Command.{AsksToJudge, AsksToReplay, AsksToExplain, AsksToValidate}
 use Rattle.judge_engine.specs.declared.requests.Request.{Request}
 use Rattle.judge_engine.specs.declared.requests.Request.TheVariants.{Judge, Replay, Explain, Validate, Show, Refused}

@@ -2,10 +2,10 @@
 ghost use Rattle.std.specs.Prelude.{◌≡◌, ◌≤◌, length, slice_range, IfOk};
 ghost use Rattle.plan_text.specs.PlanReading.{plan_of};
 
+use intake_rules::{SharedText, SubmittedPlan};
 use std::alloc::AllocError;
 use std::marker::Model;
 use std::sync::Arc;
-use submitted_plan::{SharedText, SubmittedPlan};
 
 /// A planner's name and the bytes of its file. Contracts see the two lists of bytes.
 #[derive(Debug, Drop)]

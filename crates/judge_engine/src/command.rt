@@ -4,16 +4,16 @@
 
 ghost use Rattle.std.specs.Prelude.{◌≡◌, true, codes, map, IfOk, IfSome};
 ghost use Rattle.std.specs.String.{string_bytes};
-ghost use Rattle.command_words.specs.CommandLine.{has_command};
+ghost use Rattle.judge_engine.specs.CommandLine.{has_command};
 ghost use Rattle.judge_engine.specs.Requests.{IsAskedFor};
 
 use crate::messages::push_escaped;
 use crate::options::{can_show, dialect_asked, format_asked, is_plain};
 use crate::requests::Request;
 pub use crate::requests::{ExplainRequest, JudgeRequest, ReplayRequest};
+use crate::words::{arguments, asks_for_help, has_command, operands, value_of};
 use clap::error::ErrorKind;
 use clap::{Arg, ArgAction, ArgMatches, Command, Error, value_parser};
-use command_words::{arguments, asks_for_help, has_command, operands, value_of};
 use explanations::{ExplanationFormat, Phrases};
 use pddl_reader::Dialect;
 use report_text::Text;

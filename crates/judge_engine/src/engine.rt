@@ -7,7 +7,7 @@ ghost use Rattle.pddl_syntax.specs.declared.fault.ReadFault as read_fault;
 ghost use Rattle.pddl_syntax.specs.Trees.{text_fault};
 ghost use Rattle.explanations.specs.AllValid.{task_in};
 ghost use Rattle.judge_bench.specs.Findings.{findings_of};
-ghost use Rattle.judge_engine.specs.Answer.{answer, answer_as, answer_in, planner_of, too_large, plan_count, most_planners, most_plans};
+ghost use Rattle.judge_engine.specs.Answer.{answer, answer_as, planner_of, too_large, plan_count, most_planners, most_plans};
 ghost use Rattle.judge_engine.specs.Plans.{AreCutsOf, handed_in, plans_of_cuts, plans_of_files};
 ghost use Rattle.judge_engine.specs.Refusal.{IsOfTexts, ReadingCallsFor, TextsCallFor, TextsCallForIn};
 ghost use Rattle.judge_engine.specs.Standing.{start_of, rest_text};
@@ -18,10 +18,9 @@ ghost use Rattle.judge_engine.specs.declared.fault.JudgeFault.TheVariants.{OutOf
 use crate::bundle::Bundle;
 use crate::fault::{Input, JudgeFault};
 use crate::inlet::FILE_LIMIT;
-use crate::planner::{Standing, push_plans, push_sum};
+use crate::planner::{push_plans, push_sum};
 use crate::plans::{Cut, CutPlans, cut_plans};
 use crate::report::Report;
-use crate::short_plans::{are_quick, push_one_by_one};
 use judge_bench::{Findings, Gate, run};
 use pddl_reader::{Dialect, FaultKind, ReadFault, read_domain_in, read_problem_in};
 use plan_cost::CostedTask;
@@ -37,8 +36,8 @@ pub const MOST_PLANNERS: usize = 64;
 /// The most plans of a run, of all planners together.
 pub const MOST_PLANS: usize = 65536;
 
-/// The report of a run over a domain text, a problem text and the files of planners, in the default dialect: [`judge_bytes_in`] with
-/// [`Dialect::Strips`].
+/// The report of a run over a domain text, a problem text and the files of planners, in the default dialect and in lines: [`judge_run`] with
+/// [`Dialect::Strips`] and [`Format::Lines`].
 pub fn judge_bytes<R: Threads + Wait + Sync, G: Gate + Sync>(
     rt: &R,
     alloc: Global,
@@ -61,64 +60,41 @@ pub fn judge_bytes<R: Threads + Wait + Sync, G: Gate + Sync>(
     ensures domain_text { (e : read_fault.ReadFault) → too_large domain.now problem.now bundles.now ≡ None → length bundles.now ≤ most_planners
         → text_fault domain.now ≡ Some e → result ≡ Err (Domain e) }
 {
-    judge_bytes_in(
-        rt,
-        alloc,
-        seed,
-        Dialect::Strips,
+    let input = RunInput {
+        dialect: Dialect::Strips,
+        format: Format::Lines,
         domain,
         problem,
         bundles,
         workers,
-        gate,
-    )
+    };
+    judge_run(rt, alloc, seed, &input, gate)
 }
 
-/// The report of a run in lines, with both texts in this dialect: [`judge_bytes_as`] with [`Format::Lines`].
-pub fn judge_bytes_in<R: Threads + Wait + Sync, G: Gate + Sync>(
-    rt: &R,
-    alloc: Global,
-    seed: Seed,
-    dialect: Dialect,
-    domain: &[u8],
-    problem: &[u8],
-    bundles: &[Bundle],
-    workers: u32,
-    gate: &G,
-) -> Result<Report, JudgeFault>
-    requires { (1 ≤ workers) × (workers ≤ 32) }
-    ensures answer { IfOk result (λ report. answer_in dialect domain.now problem.now bundles.now ≡ Some report) }
-    ensures refusal { IfErr result (λ fault. IsOfTexts fault → answer_in dialect domain.now problem.now bundles.now ≡ None) }
-    ensures cause { IfErr result (λ fault. IsOfTexts fault → TextsCallForIn dialect domain.now problem.now bundles.now fault) }
-    ensures held { IfErr result (λ fault. (job : ℕ) → fault ≡ Held job → G.may_hold gate.now job) }
-
-    // Faults that take no memory to find are always reported.
-    ensures large { (large : Input) → (result ≡ Err (TooLarge large)) ↔ (too_large domain.now problem.now bundles.now ≡ Some large) }
-    ensures planners { too_large domain.now problem.now bundles.now ≡ None → most_planners < length bundles.now → result ≡ Err TooManyPlanners }
-    ensures domain_text { (e : read_fault.ReadFault) → too_large domain.now problem.now bundles.now ≡ None → length bundles.now ≤ most_planners
-        → text_fault domain.now ≡ Some e → result ≡ Err (Domain e) }
-{
-    judge_bytes_as(
-        rt,
-        alloc,
-        seed,
-        dialect,
-        Format::Lines,
-        domain,
-        problem,
-        bundles,
-        workers,
-        gate,
-    )
+/// What a run is given.
+#[derive(Clone, Copy, Debug)]
+pub struct RunInput<'a> {
+    /// The dialect of the domain and the problem.
+    pub dialect: Dialect,
+    /// How the report is written.
+    pub format: Format,
+    /// The text of the domain.
+    pub domain: &'a [u8],
+    /// The text of the problem.
+    pub problem: &'a [u8],
+    /// The files of the planners.
+    pub bundles: &'a [Bundle],
+    /// How many threads may judge, 1 to 32.
+    pub workers: u32,
+    ghost some: { 1 ≤ workers },
+    ghost most: { workers ≤ 32 },
 }
 
-/// The report of a run over a domain text and a problem text, both in this dialect, and the files of planners, in a format. At most `workers` threads
-/// judge the plans.
+/// The report of a run.
 ///
 /// A file holds one plan or more (`plan_text::Parts`). No plan is a reason to refuse the run: a text that is no plan gets a verdict, too.
 /// The plans are jobs, numbered from 0 in the order of the files and of the parts of each. The threads read and judge them side by
-/// side, and the gate is asked before each is judged. Very many very short plans of a task with few conditions are judged on the
-/// calling thread alone. If the domain declares `total-cost`, the cost of each valid plan is reported
+/// side, and the gate is asked before each is judged. If the domain declares `total-cost`, the cost of each valid plan is reported
 /// with its verdict, and the least of them in the planner's last line. The whole report is made before anything is written; without
 /// planners it is only its head. Tables of names and atoms hash with the seed; the report does not depend on it.
 /// Waits until all threads are done.
@@ -127,39 +103,32 @@ pub fn judge_bytes_in<R: Threads + Wait + Sync, G: Gate + Sync>(
 /// parentheses of a text are right, the reader decides which fault it reports, and where. Running out of memory can be reported instead of any
 /// fault but those that take no memory to find: that a text is too large, too many planners, and the wrong bytes and parentheses of
 /// the domain.
-pub fn judge_bytes_as<R: Threads + Wait + Sync, G: Gate + Sync>(
+pub fn judge_run<R: Threads + Wait + Sync, G: Gate + Sync>(
     rt: &R,
     alloc: Global,
     seed: Seed,
-    dialect: Dialect,
-    format: Format,
-    domain: &[u8],
-    problem: &[u8],
-    bundles: &[Bundle],
-    workers: u32,
+    input: &RunInput<'_>,
     gate: &G,
 ) -> Result<Report, JudgeFault>
-    requires { (1 ≤ workers) × (workers ≤ 32) }
-    ensures answer { IfOk result (λ report. answer_as dialect format domain.now problem.now bundles.now ≡ Some report) }
-    ensures refusal { IfErr result (λ fault. IsOfTexts fault → answer_as dialect format domain.now problem.now bundles.now ≡ None) }
-    ensures cause { IfErr result (λ fault. IsOfTexts fault → TextsCallForIn dialect domain.now problem.now bundles.now fault) }
+    ensures answer { IfOk result (λ report. answer_as input.now.dialect input.now.format input.now.domain.now input.now.problem.now input.now.bundles.now ≡ Some report) }
+    ensures refusal { IfErr result (λ fault. IsOfTexts fault → answer_as input.now.dialect input.now.format input.now.domain.now input.now.problem.now input.now.bundles.now ≡ None) }
+    ensures cause { IfErr result (λ fault. IsOfTexts fault → TextsCallForIn input.now.dialect input.now.domain.now input.now.problem.now input.now.bundles.now fault) }
     ensures held { IfErr result (λ fault. (job : ℕ) → fault ≡ Held job → G.may_hold gate.now job) }
 
     // Faults that take no memory to find are always reported.
-    ensures large { (large : Input) → (result ≡ Err (TooLarge large)) ↔ (too_large domain.now problem.now bundles.now ≡ Some large) }
-    ensures planners { too_large domain.now problem.now bundles.now ≡ None → most_planners < length bundles.now → result ≡ Err TooManyPlanners }
-    ensures domain_text { (e : read_fault.ReadFault) → too_large domain.now problem.now bundles.now ≡ None → length bundles.now ≤ most_planners
-        → text_fault domain.now ≡ Some e → result ≡ Err (Domain e) }
+    ensures large { (large : Input) → (result ≡ Err (TooLarge large)) ↔ (too_large input.now.domain.now input.now.problem.now input.now.bundles.now ≡ Some large) }
+    ensures planners { too_large input.now.domain.now input.now.problem.now input.now.bundles.now ≡ None → most_planners < length input.now.bundles.now → result ≡ Err TooManyPlanners }
+    ensures domain_text { (e : read_fault.ReadFault) → too_large input.now.domain.now input.now.problem.now input.now.bundles.now ≡ None → length input.now.bundles.now ≤ most_planners
+        → text_fault input.now.domain.now ≡ Some e → result ≡ Err (Domain e) }
 {
-    match too_large(domain, problem, bundles) {
+    match too_large(input.domain, input.problem, input.bundles) {
         Some(large) => Err(JudgeFault::TooLarge(large)),
         None => {
-            if bundles.len() > MOST_PLANNERS {
+            if input.bundles.len() > MOST_PLANNERS {
                 return Err(JudgeFault::TooManyPlanners);
             }
-            let size = domain.len();
-            match read_task(alloc, seed, dialect, domain, problem) {
-                Ok(task) => judge_planners(rt, alloc, format, &task, size, bundles, workers, gate),
+            match read_task(alloc, seed, input.dialect, input.domain, input.problem) {
+                Ok(task) => judge_planners(rt, alloc, input, &task, gate),
                 Err(fault) => Err(fault),
             }
         }
@@ -219,35 +188,21 @@ fn refusal(fault: ReadFault, other: JudgeFault) -> JudgeFault
     }
 }
 
-/// The report of a task's plans, unless there are too many. The domain has `size` bytes.
+/// The report of a task's plans, unless there are too many.
 fn judge_planners<R: Threads + Wait + Sync, G: Gate + Sync>(
     rt: &R,
     alloc: Global,
-    format: Format,
+    input: &RunInput<'_>,
     task: &CostedTask,
-    size: usize,
-    bundles: &[Bundle],
-    workers: u32,
     gate: &G,
 ) -> Result<Report, JudgeFault>
-    requires planners { length bundles.now ≤ 64 }
-    requires workers { (1 ≤ workers) × (workers ≤ 32) }
-    ensures report { IfOk result (λ text. (plan_count bundles.now ≤ most_plans) × (text ≡ report format task.now (map (planner_of task.now) bundles.now))) }
-    ensures refusal { IfErr result (λ fault. IsOfTexts fault → (fault ≡ TooManyPlans) × (most_plans < plan_count bundles.now)) }
+    requires planners { length input.now.bundles.now ≤ 64 }
+    ensures report { IfOk result (λ text. (plan_count input.now.bundles.now ≤ most_plans) × (text ≡ report input.now.format task.now (map (planner_of task.now) input.now.bundles.now))) }
+    ensures refusal { IfErr result (λ fault. IsOfTexts fault → (fault ≡ TooManyPlans) × (most_plans < plan_count input.now.bundles.now)) }
     ensures held { IfErr result (λ fault. (job : ℕ) → fault ≡ Held job → G.may_hold gate.now job) }
 {
-    match cut_plans(alloc, bundles) {
-        Ok(Some(cuts)) => report_of(
-            rt,
-            alloc,
-            format,
-            task,
-            size,
-            bundles,
-            cuts.as_slice(),
-            workers,
-            gate,
-        ),
+    match cut_plans(alloc, input.bundles) {
+        Ok(Some(cuts)) => report_of(rt, alloc, input, task, cuts.as_slice(), gate),
         Ok(None) => Err(JudgeFault::TooManyPlans),
         Err(AllocError) => Err(JudgeFault::OutOfMemory),
     }
@@ -257,83 +212,48 @@ fn judge_planners<R: Threads + Wait + Sync, G: Gate + Sync>(
 fn report_of<R: Threads + Wait + Sync, G: Gate + Sync>(
     rt: &R,
     alloc: Global,
-    format: Format,
+    input: &RunInput<'_>,
     task: &CostedTask,
-    size: usize,
-    bundles: &[Bundle],
     cuts: &[Cut],
-    workers: u32,
     gate: &G,
 ) -> Result<Report, JudgeFault>
-    requires within { AreCutsOf bundles.now cuts.now }
-    requires plans { plans_of_cuts bundles.now cuts.now ≡ plans_of_files 0 bundles.now }
-    requires few { plan_count bundles.now ≤ most_plans }
-    requires workers { (1 ≤ workers) × (workers ≤ 32) }
-    ensures report { IfOk result (λ text. text ≡ report format task.now (map (planner_of task.now) bundles.now)) }
+    requires within { AreCutsOf input.now.bundles.now cuts.now }
+    requires plans { plans_of_cuts input.now.bundles.now cuts.now ≡ plans_of_files 0 input.now.bundles.now }
+    requires few { plan_count input.now.bundles.now ≤ most_plans }
+    ensures report { IfOk result (λ text. text ≡ report input.now.format task.now (map (planner_of task.now) input.now.bundles.now)) }
     ensures refusal { IfErr result (λ fault. IsOfTexts fault → ⊥) }
     ensures held { IfErr result (λ fault. (job : ℕ) → fault ≡ Held job → G.may_hold gate.now job) }
 {
+    let format = input.format;
+    let bundles = input.bundles;
     let mut text = Text::new(alloc);
     push_head(&mut text, format, &task.task)?;
     if bundles.is_empty() {
         return Ok(Report::from_bytes(text.into_bytes()));
     }
-    let last = push_all(
-        rt, alloc, &mut text, format, task, size, bundles, cuts, workers, gate,
-    )?;
+    let findings = judge_together(rt, alloc, input, task, cuts, gate)?;
+    let last = push_plans(&mut text, format, task, bundles, cuts, &findings)?;
     push_sum(&mut text, format, task, bundles, last)?;
     Ok(Report::from_bytes(text.into_bytes()))
-}
-
-/// Adds the plans of all planners to a report, and answers where it stands then.
-fn push_all<R: Threads + Wait + Sync, G: Gate + Sync>(
-    rt: &R,
-    alloc: Global,
-    text: &mut Text,
-    format: Format,
-    task: &CostedTask,
-    size: usize,
-    bundles: &[Bundle],
-    cuts: &[Cut],
-    workers: u32,
-    gate: &G,
-) -> Result<Standing, JudgeFault>
-    requires some { 0 < length bundles.now }
-    requires within { AreCutsOf bundles.now cuts.now }
-    requires few { length cuts.now ≤ 65536 }
-    requires workers { (1 ≤ workers) × (workers ≤ 32) }
-    ensures text { IfOk result (λ last. text.new ++ rest_text format task.now bundles.now last []
-        ≡ text.old ++ rest_text format task.now bundles.now (start_of 0) (plans_of_cuts bundles.now cuts.now)) }
-    ensures known { IfOk result (λ last. last.planner < length bundles.now) }
-    ensures refusal { IfErr result (λ fault. IsOfTexts fault → ⊥) }
-    ensures held { IfErr result (λ fault. (job : ℕ) → fault ≡ Held job → G.may_hold gate.now job) }
-{
-    if are_quick(size, &task.task, bundles, cuts.len()) {
-        return push_one_by_one(alloc, text, format, task, bundles, cuts, gate);
-    }
-    let findings = judge_together(rt, alloc, task, bundles, cuts, workers, gate)?;
-    Ok(push_plans(text, format, task, bundles, cuts, &findings)?)
 }
 
 /// What is found about the plans of these ranges, all handed in as plans of one planner. No more threads judge than there are plans.
 fn judge_together<R: Threads + Wait + Sync, G: Gate + Sync>(
     rt: &R,
     alloc: Global,
+    input: &RunInput<'_>,
     task: &CostedTask,
-    bundles: &[Bundle],
     cuts: &[Cut],
-    workers: u32,
     gate: &G,
 ) -> Result<Findings, JudgeFault>
-    requires within { AreCutsOf bundles.now cuts.now }
+    requires within { AreCutsOf input.now.bundles.now cuts.now }
     requires few { length cuts.now ≤ 65536 }
-    requires workers { (1 ≤ workers) × (workers ≤ 32) }
-    ensures findings { IfOk result (λ findings. findings ≡ findings_of task.now 1 (handed_in bundles.now cuts.now)) }
+    ensures findings { IfOk result (λ findings. findings ≡ findings_of task.now 1 (handed_in input.now.bundles.now cuts.now)) }
     ensures refusal { IfErr result (λ fault. IsOfTexts fault → ⊥) }
     ensures held { IfErr result (λ fault. (job : ℕ) → fault ≡ Held job → G.may_hold gate.now job) }
 {
     let slots = cuts.len() as u32;
-    let mut intake = CutPlans::new(bundles, cuts);
-    let workers = workers.min(slots).max(1);
+    let mut intake = CutPlans::new(input.bundles, cuts);
+    let workers = input.workers.min(slots).max(1);
     Ok(run(rt, alloc, task, 1, slots, &mut intake, workers, gate)?)
 }

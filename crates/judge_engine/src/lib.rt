@@ -8,8 +8,7 @@
 //! ```
 //!
 //! [`engine::judge_bytes`] makes the report of a run and [`replay::replay_bytes`] the lines of a replay, each from the bytes of its input
-//! files; [`engine::judge_bytes_in`] and [`replay::replay_bytes_in`] do the same in a [`Dialect`] of the caller's choice, and
-//! [`engine::judge_bytes_as`] in a [`Format`], too.
+//! files; [`engine::judge_run`] and [`replay::replay_bytes_in`] do the same in a [`Dialect`] of the caller's choice, the former also in a [`Format`].
 //! [`program::main_with`] reads the command line and the files, and writes what they answer.
 #![tactic(auto)]
 
@@ -29,7 +28,7 @@ pub mod replay;
 mod replies;
 pub mod report;
 mod requests;
-mod short_plans;
+mod words;
 
 pub use pddl_reader::Dialect;
 pub use report_text::Format;

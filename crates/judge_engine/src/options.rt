@@ -4,7 +4,7 @@ ghost use Rattle.std.specs.List.{list_all};
 ghost use Rattle.std.specs.String.{string_bytes};
 ghost use Rattle.judge_engine.specs.Command.{can_show, dialect_asked, dialect_named, format_asked, format_named, is_control, is_plain};
 
-use command_words::value_of;
+use crate::words::value_of;
 use pddl_reader::Dialect;
 use report_text::Format;
 

@@ -9,11 +9,11 @@ ghost use Rattle.judge_engine.specs.Plans.{AreCutsOf, IsCutOf, bytes_of, handed_
 
 use crate::bundle::Bundle;
 use crate::engine::MOST_PLANS;
+use intake_rules::SubmittedPlan;
 use judge_bench::{Intake, Submission};
 use plan_text::{PartEnd, part_from};
 use std::alloc::{AllocError, Global};
 use std::marker::Model;
-use submitted_plan::SubmittedPlan;
 
 /// A plan of a planner's file, as the range of its bytes.
 #[derive(Clone, Copy, Debug)]

@@ -3,7 +3,7 @@
 //! [`main_with`] does all that `main` does, over sources and outlets that are handed in, so that tests can make them fail.
 ghost use Rattle.std.specs.Prelude.{◌≡◌, ◌↔◌, ◌⊎◌, ◌<◌, ◌≤◌, true, false, map, IfOk};
 ghost use Rattle.std.specs.String.{string_bytes};
-ghost use Rattle.command_words.specs.CommandLine.{asks_for_help};
+ghost use Rattle.judge_engine.specs.CommandLine.{asks_for_help};
 ghost use Rattle.judge_engine.specs.Command.{asks_what_is_wrong};
 ghost use Rattle.std.specs.Io.KnownBytes.{Appends};
 ghost use Rattle.judge_engine.specs.Outlet.{AppendsFront};
@@ -12,7 +12,7 @@ ghost use Rattle.judge_engine.specs.Run.{Answers, AreAllValidOver, IsReportOver,
 use crate::Seed;
 use crate::bundle::Bundle;
 use crate::command::{ExplainRequest, JudgeRequest, ReplayRequest, parse};
-use crate::engine::judge_bytes_as;
+use crate::engine::{RunInput, judge_run};
 use crate::explain::{Explained, explain_files};
 use crate::inlet::{InFault, Sources, file_named};
 use crate::messages::{Call, Stop, message, push_escaped};
@@ -299,18 +299,15 @@ fn judge_files<'a, R: AllocGlobal + Threads + Wait + Sync, S: Sources + Sync>(
     let domain = read(sources, files.domain)?;
     let problem = read(sources, files.problem)?;
     let bundles = read_bundles(rt, sources, files.plans.as_slice(), files.workers)?;
-    match judge_bytes_as(
-        rt,
-        alloc,
-        seed,
-        files.dialect,
-        files.format,
-        domain.as_slice(),
-        problem.as_slice(),
-        bundles.as_slice(),
-        files.workers,
-        &Open,
-    ) {
+    let input = RunInput {
+        dialect: files.dialect,
+        format: files.format,
+        domain: domain.as_slice(),
+        problem: problem.as_slice(),
+        bundles: bundles.as_slice(),
+        workers: files.workers,
+    };
+    match judge_run(rt, alloc, seed, &input, &Open) {
         Ok(report) => Ok(report),
         Err(fault) => Err(Stop::for_fault(fault, domain.as_slice(), problem.as_slice())),
     }

@@ -142,36 +142,6 @@ fn a_held_job_is_told(rt: HostRuntime) {
     }
 }
 
-/// A planner's file with 1,025 plans that light the lamp: so many that the calling thread judges them alone.
-fn many_plans(alloc: Global) -> Result<Vec<u8>, AllocError> {
-    let mut bytes = Vec::new(alloc);
-    for _ in 0..1024u32 {
-        bytes.extend_from_slice(b"(light)\n---\n")?;
-    }
-    bytes.extend_from_slice(b"(light)\n")?;
-    Ok(bytes)
-}
-
-#[test]
-fn a_held_job_among_very_many_short_ones_is_told(rt: HostRuntime) -> Result<(), Fail> {
-    let plans = many_plans(rt.alloc())?;
-    for job in [0, 1, 1024] {
-        let gate = Holds {
-            first: job,
-            last: job,
-        };
-        let held = judged(&rt, plans.as_slice(), 4, &gate).err();
-        assert_eq!(rt; held, Some(JudgeFault::Held(job)));
-    }
-    let gate = Holds {
-        first: 1025,
-        last: 2000,
-    };
-    let none = judged(&rt, plans.as_slice(), 4, &gate).err();
-    assert_eq!(rt; none, None);
-    Ok(())
-}
-
 #[test]
 fn two_workers_judge_at_once(rt: HostRuntime) -> Result<(), Fail> {
     let expected: &[u8] =

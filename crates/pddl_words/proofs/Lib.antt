@@ -4,3 +4,7 @@ pub mod NameRows
 pub mod FirstWords
 pub mod DigitRuns
 pub mod DecimalLaws
+pub mod JoinedLaws
+pub mod SameBytes
+pub mod ShortWordLaws
+pub mod LowerCase

@@ -3,3 +3,5 @@ pub mod Kinds
 pub mod Decimals
 pub mod DecimalReading
 pub mod SpacedWords
+pub mod JoinedBytes
+pub mod ShortWords

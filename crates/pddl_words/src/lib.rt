@@ -1,4 +1,4 @@
-//! The words of PDDL: what kind a word is, whether two words are the same, and which number a word writes.
+//! The words of PDDL: what kind a word is, whether two words are the same, which number a word writes, and hashes of words.
 //!
 //! ```text
 //! word_kind(b"?x")                    // WordKind::Variable
@@ -6,9 +6,18 @@
 //! same_folded(b"Stack", b"sTACK")     // true
 //! digits(b"042")                      // Some(42)
 //! billionths(b"0.5")                  // Some(500_000_000)
+//!
+//! let a = ShortWord::of(b"truck-12")?;            // None if there are no bytes, or more than 16
+//! let b = ShortWord::of(b"truck-13")?;
+//! a.is(b)                                         // false
+//! are_same(b"drive truck-12 b c", key)            // whether the bytes are the same
+//! KeyedHash { start, by }.of(key)                 // a number that only who knows `start` and `by` can foretell
 //! ```
 //!
 //! A word is given by its bytes as they are in the text, in upper or lower case. Nothing here takes memory.
+//!
+//! The `==` of slices goes byte by byte. A [`ShortWord`] is a word of at most 16 bytes as two numbers, so that two of them are hashed and compared
+//! at once, [`are_same`] compares slices of any length eight bytes at a time, and a [`KeyedHash`] hashes them.
 #![tactic(auto)]
 
 ghost use Rattle.std.specs.Prelude.{◌≡◌};
@@ -18,10 +27,18 @@ ghost use Rattle.pddl_words.specs.Kinds.{kind_of_word, is_marked_name, is_same_w
 ghost use Rattle.std.specs.List.{list_all};
 
 mod decimals;
+mod hashes;
+mod lower_case;
+mod numbers;
 mod row_words;
+mod same_bytes;
+mod short_words;
 
 pub use decimals::{billionths, digits};
+pub use hashes::KeyedHash;
 pub use row_words::{RowWords, first_word_len};
+pub use same_bytes::are_same;
+pub use short_words::ShortWord;
 
 /// What a word may stand for, judged by its spelling alone.
 #[derive(Clone, Copy, Debug, PartialEq, Eq)]

@@ -14,5 +14,4 @@ mod OnlyPlan
 mod WholeSteps
 mod WalkSteps
 mod WrittenRows
-mod Extensions
 mod Comparisons

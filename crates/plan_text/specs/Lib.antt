@@ -9,4 +9,4 @@ pub mod Wants
 pub mod Walks
 pub mod WalkFinds
 pub mod StepAt
-pub mod Faults
+pub mod Comparing

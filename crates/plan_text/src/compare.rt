@@ -1,15 +1,17 @@
 //! Whether texts have the same plan, or a given one, without reading a plan into memory.
 
-ghost use Rattle.std.specs.Prelude.{◌≡◌, ◌<◌, length, map};
+ghost use Rattle.std.specs.Prelude.{◌≡◌, ◌<◌, [], List, length, map};
 ghost use Rattle.std.specs.Cmp.Lexicographic.{pointwise};
 ghost use Rattle.std.specs.Str.{bytes_eq};
 ghost use Rattle.pddl_words.specs.Words.{folded};
 ghost use Rattle.strips_task.specs.declared.plans.Plan.TheVariants.{Steps};
+ghost use Rattle.strips_task.specs.declared.steps.StepText.{StepText};
 ghost use Rattle.strips_task.specs.Plans.{plan_eq};
 ghost use Rattle.strips_task.specs.StepView.{step_shown};
 ghost use Rattle.strips_task.specs.Steps.{step_of, step_eq};
 ghost use Rattle.plan_text.specs.PlanReading.{plan_of};
-ghost use Rattle.plan_text.specs.Faults.{HasFault, IsReadable, AreNext};
+ghost use Rattle.plan_text.specs.Walks.{HasPassed};
+ghost use Rattle.plan_text.specs.Comparing.{EndsAs, PartAt, has_at};
 
 use crate::walk::{PlanSteps, StepWords, TextStep};
 use pddl_tokens::same_folded;
@@ -17,32 +19,57 @@ use strips_task::{Plan, StepList, StepView};
 
 /// Whether two texts have the same plan: the same steps, or their first faults in the same line. Takes no memory.
 ///
-/// Texts with equal bytes are not read. Other texts are read twice.
+/// Texts with equal bytes are not read. Other texts are read to their ends.
 pub fn same_plans(text: &[u8], other: &[u8]) -> bool
     ensures { result ≡ plan_eq (plan_of text.now) (plan_of other.now) }
 {
     if text == other {
         return true;
     }
-    match fault_line(text) {
-        Some(line) => match fault_line(other) {
-            Some(other_line) => line == other_line,
-            None => false,
-        },
-        None => match fault_line(other) {
-            Some(_) => false,
-            None => have_same_steps(text, other),
-        },
+    let Some(first) = PlanSteps::new(text) else {
+        return is_plan_of(&Plan::Unreadable { line: 1 }, other);
+    };
+    let Some(second) = PlanSteps::new(other) else {
+        return is_plan_of(&Plan::Unreadable { line: 1 }, text);
+    };
+    have_same_plan(first, second)
+}
+
+/// Whether two texts whose walks are at their starts have the same plan.
+fn have_same_plan(mut first: PlanSteps<'_>, mut second: PlanSteps<'_>) -> bool
+    requires { HasPassed first [] × HasPassed second [] }
+    ensures { result ≡ plan_eq (plan_of first.entry.text) (plan_of second.entry.text) }
+{
+    let mut same = true;
+    'steps: loop {
+        match (first.next_step(), second.next_step()) {
+            (
+                TextStep::Step { words, key: _ },
+                TextStep::Step {
+                    words: others,
+                    key: _,
+                },
+            ) => same &= are_same_words(words, others),
+            (TextStep::End, TextStep::End) => return same,
+            _ => return have_same_fault(first, second),
+        }
     }
 }
 
-/// The line of a text's first fault, counted from 1; `None` if the text is a plan text.
-fn fault_line(text: &[u8]) -> Option<u32>
-    ensures { HasFault result (plan_of text.now) }
+/// Whether two texts have their first faults in the same line, if they have no plan with steps in common.
+fn have_same_fault(first: PlanSteps<'_>, second: PlanSteps<'_>) -> bool
+    requires { PartAt first second }
+    ensures { result ≡ plan_eq (plan_of first.entry.text) (plan_of second.entry.text) }
 {
-    let Some(mut walk) = PlanSteps::new(text) else {
-        return Some(1);
-    };
+    let fault = first_fault(first);
+    let other = first_fault(second);
+    fault.is_some() && fault == other
+}
+
+/// The line of a text's first fault, counted from 1; `None` if the text is a plan text.
+fn first_fault(mut walk: PlanSteps<'_>) -> Option<u32>
+    ensures { (steps : List StepText) → HasPassed walk.entry steps → EndsAs result (plan_of walk.entry.text) steps }
+{
     'steps: loop {
         match walk.next_step() {
             TextStep::Step { words: _, key: _ } => {}
@@ -52,67 +79,7 @@ fn fault_line(text: &[u8]) -> Option<u32>
     }
 }
 
-/// Whether two plan texts have the same steps.
-fn have_same_steps(text: &[u8], other: &[u8]) -> bool
-    requires first { IsReadable (plan_of text.now) }
-    requires second { IsReadable (plan_of other.now) }
-    ensures { result ≡ plan_eq (plan_of text.now) (plan_of other.now) }
-{
-    let Some(mut first) = PlanSteps::new(text) else {
-        return false;
-    };
-    let Some(mut second) = PlanSteps::new(other) else {
-        return false;
-    };
-    'steps: loop {
-        match next_of_both(&mut first, &mut second) {
-            Next::SameStep => {}
-            Next::BothEnd => return true,
-            Next::Differ => return false,
-        }
-    }
-}
-
-/// What two walks find next.
-#[derive(Clone, Copy)]
-enum Next {
-    /// The same step.
-    SameStep,
-    /// The ends of both texts.
-    BothEnd,
-    /// Different things, or a fault.
-    Differ,
-}
-
-/// What two walks that have passed the same steps find next.
-fn next_of_both(first: &mut PlanSteps<'_>, second: &mut PlanSteps<'_>) -> Next
-    ensures { AreNext result first.old second.old first.new second.new }
-{
-    match first.next_step() {
-        TextStep::Step { words, key: _ } => match second.next_step() {
-            TextStep::Step {
-                words: others,
-                key: _,
-            } => {
-                if are_same_words(words, others) {
-                    Next::SameStep
-                } else {
-                    Next::Differ
-                }
-            }
-            TextStep::End => Next::Differ,
-            TextStep::Unreadable { line: _ } => Next::Differ,
-        },
-        TextStep::End => match second.next_step() {
-            TextStep::Step { words: _, key: _ } => Next::Differ,
-            TextStep::End => Next::BothEnd,
-            TextStep::Unreadable { line: _ } => Next::Differ,
-        },
-        TextStep::Unreadable { line: _ } => Next::Differ,
-    }
-}
-
-/// Whether words are the same one by one, in upper or lower case.
+/// Whether the words of two steps are the same one by one, in upper or lower case.
 fn are_same_words(mut words: StepWords<'_>, mut others: StepWords<'_>) -> bool
     ensures { result ≡ pointwise bytes_eq (map folded words.entry) (map folded others.entry) }
 {
@@ -129,61 +96,52 @@ fn are_same_words(mut words: StepWords<'_>, mut others: StepWords<'_>) -> bool
     others.next().is_none()
 }
 
-/// Whether a text has this plan. Takes no memory; the text is read twice.
+/// Whether a text has this plan. Takes no memory; the text is read to its end.
 pub fn is_plan_of(plan: &Plan, text: &[u8]) -> bool
     ensures { result ≡ plan_eq plan.now (plan_of text.now) }
 {
+    let Some(walk) = PlanSteps::new(text) else {
+        return matches!(plan, Plan::Unreadable { line: 1 });
+    };
     match plan {
-        Plan::Steps(steps) => match fault_line(text) {
-            Some(_) => false,
-            None => are_steps_of(steps, text),
-        },
-        Plan::Unreadable { line } => match fault_line(text) {
-            Some(fault) => *line == fault,
-            None => false,
-        },
+        Plan::Steps(steps) => are_steps_of(steps, walk),
+        Plan::Unreadable { line } => first_fault(walk) == Some(*line),
     }
 }
 
-/// Whether a plan text has these steps.
-fn are_steps_of(steps: &StepList, text: &[u8]) -> bool
-    requires { IsReadable (plan_of text.now) }
-    ensures { result ≡ plan_eq (Steps steps.now) (plan_of text.now) }
+/// Whether a text whose walk is at its start has these steps.
+#[tactic(auto, using(crate::proofs::Comparisons::taken_pairs))]
+fn are_steps_of(steps: &StepList, mut walk: PlanSteps<'_>) -> bool
+    requires { HasPassed walk [] }
+    ensures { result ≡ plan_eq (Steps steps.now) (plan_of walk.entry.text) }
 {
-    let Some(mut walk) = PlanSteps::new(text) else {
-        return false;
-    };
-    let mut index = 0;
+    let mut same = true;
     'steps: loop {
+        let index = walk.count();
         match walk.next_step() {
-            TextStep::Step { words, key: _ } => {
-                if index == steps.len() {
-                    return false;
-                }
-                if !is_step(steps.get(index), words) {
-                    return false;
-                }
-                index += 1;
-            }
-            TextStep::End => return index == steps.len(),
+            TextStep::Step { words, key: _ } => same &= is_step_at(steps, index, words),
+            TextStep::End => return same & (index == steps.len()),
             TextStep::Unreadable { line: _ } => return false,
         }
     }
 }
 
+/// Whether there is a step at an index, and its words are these, in upper or lower case.
+fn is_step_at(steps: &StepList, index: usize, words: StepWords<'_>) -> bool
+    requires { 0 < length words }
+    ensures { result ≡ has_at steps.now index (step_of (map folded words.entry)) }
+{
+    index < steps.len() && is_step(steps.get(index), words)
+}
+
 /// Whether words, in upper or lower case, are those of a step.
+#[tactic(auto, using(crate::proofs::Comparisons::step_by_words))]
 fn is_step(step: StepView<'_>, mut words: StepWords<'_>) -> bool
     requires { 0 < length words }
     ensures { result ≡ step_eq (step_shown step.entry) (step_of (map folded words.entry)) }
 {
     match words.next() {
-        Some(action) => {
-            if is_folded(step.action(), action) {
-                are_args(step, words)
-            } else {
-                false
-            }
-        }
+        Some(action) => is_folded(step.action(), action) && are_args(step, words),
         None => false,
     }
 }

@@ -6,12 +6,12 @@ ghost use Rattle.judge_bench.specs.Seats.{SitsAt};
 use crate::desks::is_valid;
 use crate::seen::Seen;
 use crate::tasks::{discard, lamp, light};
+use intake_rules::SubmittedPlan;
 use judge_bench::{Bench, Ended, Open, Owner, WorkFault, work};
 use plan_cost::CostedTask;
 use std::alloc::{AllocError, Global};
 use std::sync::Arc;
 use strips_judge::Plan;
-use submitted_plan::SubmittedPlan;
 
 /// A bench is made.
 pub(crate) fn bench_row(alloc: Global) -> Seen {

@@ -9,12 +9,12 @@ use crate::benches::{emits, submits, submits_twice};
 use crate::seen::Seen;
 use crate::tasks::{discard, lamp, light};
 use intake_core::{Finding, Refusal};
+use intake_rules::SubmittedPlan;
 use judge_bench::{Bench, Owner, Ticket, WorkerSeat};
 use plan_cost::CostedTask;
 use std::alloc::{AllocError, Global};
 use std::sync::Arc;
 use strips_judge::Plan;
-use submitted_plan::SubmittedPlan;
 
 /// What the owner of a bench asks, once it took a job and judged it.
 pub(crate) fn owner_row(alloc: Global, makes_calls: bool) -> Seen {

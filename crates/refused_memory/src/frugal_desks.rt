@@ -7,11 +7,11 @@ use crate::desks::is_valid;
 use crate::seen::Seen;
 use crate::tasks::{discard, lamp, light};
 use intake_core::{Desk, Finding, Job, Refusal};
+use intake_rules::SubmittedPlan;
 use plan_cost::CostedTask;
 use std::alloc::{AllocError, Global};
 use std::sync::Arc;
 use strips_judge::Plan;
-use submitted_plan::SubmittedPlan;
 
 /// What is asked of a desk, once two findings of one job were made.
 pub(crate) fn desk_row(alloc: Global, makes_calls: bool) -> Seen {

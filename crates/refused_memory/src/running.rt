@@ -7,6 +7,7 @@ use crate::frugal::replayed;
 use crate::seen::{Seen, of_engine};
 use crate::tasks::{discard, lamp, light};
 use crate::texts::{BOTH, FLY, LAMP, LAMP_1, LIGHT, REPLIES, REPORT};
+use intake_rules::SubmittedPlan;
 use judge_bench::{Findings, Listed, Open, RunFault, Submission, run};
 use judge_engine::Seed;
 use judge_engine::bundle::Bundle;
@@ -16,7 +17,6 @@ use std::alloc::{AllocError, Global};
 use std::sync::{Arc, Wait};
 use std::thread::Threads;
 use strips_judge::Plan;
-use submitted_plan::SubmittedPlan;
 
 /// Two plans of one planner are judged by `workers` workers.
 pub(crate) fn run_row<R: AllocGlobal + Threads + Wait + Sync>(rt: &R, workers: u32) -> Seen

@@ -10,12 +10,11 @@ use crate::escapes::push_json_string;
 use crate::format::Format;
 use crate::render::push_failing_step;
 use crate::text::Text;
-use intake_rules::Finding;
+use intake_rules::{Finding, SubmittedPlan};
 use plan_cost::Cost;
 use std::alloc::AllocError;
 use strips_judge::{Verdict, Why};
 use strips_task::{Atom, GroundCond, GroundFormula, StepView, Task};
-use submitted_plan::SubmittedPlan;
 
 /// Adds the record of a run.
 pub(crate) fn push_run(text: &mut Text, task: &Task) -> Result<(), AllocError>

@@ -20,13 +20,12 @@ use crate::format::Format;
 use crate::json::push_failure_members;
 use crate::table::push_failure_fields;
 use crate::text::Text;
-use intake_rules::Finding;
+use intake_rules::{Finding, Form, SubmittedPlan};
 use pddl_words::RowWords;
 use plan_text::{FoundStep, find_step_at};
 use std::alloc::AllocError;
 use strips_judge::{Verdict, Why};
 use strips_task::{Atom, GroundCond, GroundFormula, OpenSteps, Plan, StepView, Task};
-use submitted_plan::{Form, SubmittedPlan};
 
 /// Room for what is around a row in a line: parentheses, a fault that names nothing, and the end of the line.
 const AROUND_ROW: usize = 64;

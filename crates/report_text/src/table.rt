@@ -9,12 +9,11 @@ use crate::escapes::push_field;
 use crate::format::Format;
 use crate::render::{push_argument, push_condition, push_conditions, push_failing_step, push_step};
 use crate::text::Text;
-use intake_rules::Finding;
+use intake_rules::{Finding, SubmittedPlan};
 use plan_cost::Cost;
 use std::alloc::AllocError;
 use strips_judge::{Verdict, Why};
 use strips_task::{GroundCond, StepView, Task};
-use submitted_plan::SubmittedPlan;
 
 /// Adds the names of the columns.
 pub(crate) fn push_table_head(text: &mut Text) -> Result<(), AllocError>

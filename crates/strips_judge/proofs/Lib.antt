@@ -9,8 +9,9 @@ pub mod Fits
 pub mod Growth
 pub mod Runs
 pub mod Searches
-pub mod RisingOrder
 pub mod StepLaws
 pub mod VerdictLaws
 pub mod NumberedSteps
 pub mod NameFaults
+pub mod UnmetConditions
+pub mod ReasonLaws

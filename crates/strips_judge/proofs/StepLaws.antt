@@ -56,14 +56,6 @@ module _ (state : State) (found before all : List GroundCond) (condition : Groun
       ∙ ap (λ b. first_occurrences cond_eq (filter (λ c. not (holds state c)) before ++ cond (not b) (condition ∷ []) [])) (sym h)
       ∙ sym split
 
-  -- one that is there changes nothing
-  pub missing-more_known : list_any (cond_eq condition) found ≡ true → found ≡ missing state all
-  missing-more_known known = by (holds state condition) refl
-    where
-      by : (b : Bool) → holds state condition ≡ b → found ≡ missing state all
-      by true h = missing-more_holds h
-      by false h = ap (λ b. cond b found (found ++ condition ∷ [])) (sym known) ∙ missing-more_fails h
-
 or_assoc : (a b c : Bool) → (a || (b || (c || false))) ≡ ((a || b) || (c || false))
 or_assoc true b c = refl
 or_assoc false b c = refl

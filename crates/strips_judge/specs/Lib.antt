@@ -5,9 +5,8 @@ pub mod State
 pub mod SingleCells
 pub mod AtomsFound
 pub mod Step
-pub mod Places
 pub mod Verdict
 pub mod Validity
 pub mod Laws
-pub mod RecentNames
 pub mod StepNumbers
+pub mod Reasons

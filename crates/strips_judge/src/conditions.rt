@@ -2,19 +2,16 @@
 //!
 //! Each atom is grounded into the same one, used again and again, and looked up from there. Only a condition that fails gets memory of its own,
 //! and that ends the plan.
-ghost use Rattle.std.specs.Prelude.{◌≡◌, length, map, true, All, IfOk, IsTrue, OnOk};
-ghost use Rattle.std.specs.List.{list_any};
+ghost use Rattle.std.specs.Prelude.{◌≡◌, length, map, All, IfOk, OnOk};
 ghost use Rattle.indexmap.specs.IndexSet.{insert_key};
 ghost use Rattle.strips_task.specs.Atom.{cond_eq};
 ghost use Rattle.strips_task.specs.Within.{IsFormulaWithin};
 ghost use Rattle.strips_judge.specs.Grounding.{ground_condition};
 ghost use Rattle.strips_judge.specs.NumberedState.{state_of};
-ghost use Rattle.strips_judge.specs.Places.{are_rising};
 ghost use Rattle.strips_judge.specs.State.{holds};
 ghost use Rattle.strips_judge.specs.Step.{missing};
 
 use crate::grounding::{ground_condition, object_of};
-use crate::rising::are_rising;
 use crate::state::NumberedState;
 use indexmap::IndexSet;
 use std::alloc::{AllocError, Global};
@@ -50,47 +47,10 @@ pub(crate) fn missing_ground(
 ) -> Result<CondList, AllocError>
     ensures { IfOk result (λ found. found ≡ missing (state_of state.now) conds.now) }
 {
-    if are_rising(conds) {
-        missing_rising(alloc, state, conds)
-    } else {
-        missing_in_any_order(alloc, state, conds)
-    }
-}
-
-/// The ground conditions that do not hold, in order, if they come in rising order and are therefore all different.
-fn missing_rising(
-    alloc: Global,
-    state: &NumberedState<'_>,
-    conds: &[GroundCond],
-) -> Result<CondList, AllocError>
-    requires { are_rising 0 conds.now ≡ true }
-    ensures { IfOk result (λ found. found ≡ missing (state_of state.now) conds.now) }
-{
-    let mut found = Vec::new(alloc);
-    for cond in conds {
-        if !holds_ground(state, cond) {
-            found.push(cond.copy(alloc)?)?;
-        }
-    }
-    found.shrink_to_fit();
-    Ok(CondList::from_vec(found))
-}
-
-/// The ground conditions that do not hold, in order, each only once, by a set of them. One that is the same as the last of them is not looked up.
-fn missing_in_any_order(
-    alloc: Global,
-    state: &NumberedState<'_>,
-    conds: &[GroundCond],
-) -> Result<CondList, AllocError>
-    ensures { IfOk result (λ found. found ≡ missing (state_of state.now) conds.now) }
-{
     let mut found = IndexSet::with_hasher(alloc, state.seed());
     for cond in conds {
-        let is_known = is_last(&found, cond);
-        if !is_known {
-            if !holds_ground(state, cond) {
-                note(&mut found, cond.copy(alloc)?)?;
-            }
+        if !holds_ground(state, cond) {
+            note(&mut found, cond.copy(alloc)?)?;
         }
     }
     listed(alloc, found)
@@ -124,17 +84,6 @@ fn holds_ground(state: &NumberedState<'_>, cond: &GroundCond) -> bool
         GroundFormula::Equal(left, right) => left == right,
     };
     is_true == cond.positive
-}
-
-/// Whether a condition is the last of a set.
-#[inline(always)]
-fn is_last(found: &IndexSet<GroundCond, Seed>, cond: &GroundCond) -> bool
-    ensures { IsTrue result → list_any (cond_eq cond.now) found.now.keys ≡ true }
-{
-    match found.last() {
-        Some(last) => *cond == *last,
-        None => false,
-    }
 }
 
 /// Adds a condition at the end, unless it is there. Takes one hash, however many there are.

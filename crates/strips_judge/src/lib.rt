@@ -10,7 +10,7 @@
 //! ```
 //!
 //! [`judge`] takes a [`Task`] and a [`Plan`] and gives a [`Verdict`]. `specs/Verdict.antt` defines the verdict of a plan, and the functions of
-//! [`laws`] tie it to validity in the words of PDDL.
+//! [`laws`] tie it to validity in the words of PDDL; those of [`reasons`] say that the reason in a verdict is right.
 //!
 //! To judge many plans of one task, keep a [`NumberedState`] for all of them. Take each step with [`take_step`], or with [`take_by_code`] if the
 //! step was taken before and its [`StepCode`] was kept.
@@ -28,10 +28,8 @@ mod judging;
 pub mod laws;
 mod name_faults;
 mod numbered_steps;
-mod recent_names;
-mod rising;
+pub mod reasons;
 mod single_cells;
-mod slot_count;
 mod state;
 mod step_names;
 mod unmet;

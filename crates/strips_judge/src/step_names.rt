@@ -5,48 +5,34 @@ ghost use Rattle.strips_task.specs.Names.{number_named};
 ghost use Rattle.strips_task.specs.Spelled.{IsSpelled, step_spelled};
 ghost use Rattle.strips_judge.specs.StepNumbers.{AreWithin, IsNumbered, IsNumberedFront, number_by};
 
-use crate::recent_names::RecentNames;
 use pddl_words::{RowWords, WordKind, word_kind};
 use std::alloc::{AllocError, Global};
 use std::marker::Model;
 use strips_task::{Task, WordList};
 
-/// Finds the numbers of the names of steps by their bytes, and keeps those that were used recently. Contracts see the task.
+/// Finds the numbers of the names of steps by their bytes. Contracts see the task.
 #[derive(Drop)]
 pub struct StepNames<'t> {
     task: &'t Task,
-    actions: RecentNames,
-    objects: RecentNames,
     /// Room for a name in lower case.
     word: WordList,
 }
 
 impl<'t> Model for StepNames<'t> {
-    ghost use Rattle.std.specs.Prelude.{All};
     ghost use Rattle.strips_task.specs.declared.tasks.TaskParts.{TaskParts};
-    ghost use Rattle.strips_task.specs.Names.{number_named};
-    ghost use Rattle.strips_judge.specs.RecentNames.{IsRecentName};
 
     ghost Value = { TaskParts };
 
     ghost view = { λ n. n.task.now };
-
-    ghost invariant = { λ n. All (IsRecentName (number_named n.task.now.actions)) n.actions
-        × All (IsRecentName (number_named n.task.now.objects)) n.objects };
 }
 
 impl<'t> StepNames<'t> {
-    /// The names of a task, none of which was looked up yet. Takes no memory.
-    ///
-    /// At most `most_recent` of the actions that were looked up, and as many of the objects, are found by one read of memory the next time. That
-    /// takes up to 32 bytes for each, once there are as many.
-    pub fn new(alloc: Global, task: &'t Task, most_recent: usize) -> StepNames<'t>
+    /// The names of a task. Takes no memory.
+    pub fn new(alloc: Global, task: &'t Task) -> StepNames<'t>
         ensures { result ≡ task.now }
     {
         StepNames {
             task,
-            actions: RecentNames::new(alloc, most_recent),
-            objects: RecentNames::new(alloc, most_recent),
             word: WordList::new(alloc),
         }
     }
@@ -54,8 +40,7 @@ impl<'t> StepNames<'t> {
     /// Finds the numbers of the names of a step, if the row spells one and each name is known: the action's, and then those of the objects. Returns
     /// whether it did. Otherwise the numbers are those of the words before the first that is no known name.
     ///
-    /// A name takes a hash and one read of memory if it was used recently, another one if it has at most 16 bytes, and otherwise one look-up in the
-    /// task's table. Takes memory for that once.
+    /// A name of at most 16 bytes takes a hash and two reads of memory, and any other a look-up in the task's table. Takes memory for that once.
     #[inline(always)]
     pub fn number(&mut self, row: &[u8], numbers: &mut Vec<u16>) -> Result<bool, AllocError>
         ensures task { self.new ≡ self.old }
@@ -96,40 +81,6 @@ impl<'t> StepNames<'t> {
         ensures named { IfOk result (λ found. IfSome found (λ number. (is_name word.now ≡ true) × (number_named self.old.actions (folded word.now) ≡ Some number))) }
         ensures unknown { IfOk result (λ found. IfNone found (is_name word.now ≡ true → number_named self.old.actions (folded word.now) ≡ None)) }
     {
-        if let Some(number) = self.actions.find(word) {
-            return Ok(Some(number));
-        }
-        let Some(number) = self.action_in_table(word)? else {
-            return Ok(None);
-        };
-        self.actions.keep(word, number)?;
-        Ok(Some(number))
-    }
-
-    /// The number of the object that a word names.
-    #[inline(always)]
-    fn object(&mut self, word: &[u8]) -> Result<Option<u16>, AllocError>
-        ensures task { self.new ≡ self.old }
-        ensures named { IfOk result (λ found. IfSome found (λ number. (is_name word.now ≡ true) × (number_named self.old.objects (folded word.now) ≡ Some number))) }
-        ensures unknown { IfOk result (λ found. IfNone found (is_name word.now ≡ true → number_named self.old.objects (folded word.now) ≡ None)) }
-    {
-        if let Some(number) = self.objects.find(word) {
-            return Ok(Some(number));
-        }
-        let Some(number) = self.object_in_table(word)? else {
-            return Ok(None);
-        };
-        self.objects.keep(word, number)?;
-        Ok(Some(number))
-    }
-
-    /// The number of the action that a word names, by the task's tables.
-    #[inline(always)]
-    fn action_in_table(&mut self, word: &[u8]) -> Result<Option<u16>, AllocError>
-        ensures task { self.new ≡ self.old }
-        ensures named { IfOk result (λ found. IfSome found (λ number. (is_name word.now ≡ true) × (number_named self.old.actions (folded word.now) ≡ Some number))) }
-        ensures unknown { IfOk result (λ found. IfNone found (is_name word.now ≡ true → number_named self.old.actions (folded word.now) ≡ None)) }
-    {
         match self.task.action_spelled(word) {
             Some(number) => Ok(Some(number)),
             None => self.action_folded(word),
@@ -151,9 +102,9 @@ impl<'t> StepNames<'t> {
         Ok(self.task.action_named(self.word.get(0)))
     }
 
-    /// The number of the object that a word names, by the task's tables.
+    /// The number of the object that a word names.
     #[inline(always)]
-    fn object_in_table(&mut self, word: &[u8]) -> Result<Option<u16>, AllocError>
+    fn object(&mut self, word: &[u8]) -> Result<Option<u16>, AllocError>
         ensures task { self.new ≡ self.old }
         ensures named { IfOk result (λ found. IfSome found (λ number. (is_name word.now ≡ true) × (number_named self.old.objects (folded word.now) ≡ Some number))) }
         ensures unknown { IfOk result (λ found. IfNone found (is_name word.now ≡ true → number_named self.old.objects (folded word.now) ≡ None)) }

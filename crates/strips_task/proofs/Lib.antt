@@ -1,5 +1,4 @@
 pub mod FirstOccurrences
-pub mod JoinedRanges
 pub mod Numbered
 pub mod AtomEquality
 pub mod AtomKeys

@@ -12,9 +12,9 @@ use Rattle.std.specs.Option.{option_map}
 use Rattle.indexmap.specs.IndexMap.{insert_entry}
 use Rattle.indexmap.proofs.MapLemmas.{absent_from_lookup, insert_entry-absent, some_index}
 use Rattle.pddl_words.specs.Words.{is_name, folded}
-use Rattle.joined_bytes.specs.declared.short_words.ShortWord.{ShortWord}
-use Rattle.joined_bytes.specs.ShortWords.{IsWord}
-use Rattle.joined_bytes.proofs.ShortWordLaws.{one_word}
+use Rattle.pddl_words.specs.declared.short_words.ShortWord.{ShortWord}
+use Rattle.pddl_words.specs.ShortWords.{IsWord}
+use Rattle.pddl_words.proofs.ShortWordLaws.{one_word}
 use Rattle.strips_task.specs.declared.short_names.Numbered.{Numbered}
 use Rattle.strips_task.specs.Names.{number_named, are_distinct, with_entry, IsStoredName}
 use Rattle.strips_task.specs.ShortNames.{IsNumbered, IsTable}

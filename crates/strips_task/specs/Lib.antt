@@ -10,7 +10,6 @@ pub mod FormulaEquality
 pub mod Names
 pub mod OpenPlan
 pub mod Parts
-pub mod Ends
 pub mod Plans
 pub mod PlanEquality
 pub mod StepView
@@ -20,6 +19,5 @@ pub mod TypeTable
 pub mod Types
 pub mod WellFormed
 pub mod Within
-pub mod Ranges
 pub mod ShortNames
 pub mod Spelled

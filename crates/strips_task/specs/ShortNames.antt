@@ -1,8 +1,8 @@
 -- Names of at most 16 bytes with the numbers of their entries.
 
 use Rattle.std.specs.Prelude.{◌≡◌, ℕ, IsTrue, List, All, Option, Some}
-use Rattle.joined_bytes.specs.declared.short_words.ShortWord.{ShortWord}
-use Rattle.joined_bytes.specs.ShortWords.{IsWord}
+use Rattle.pddl_words.specs.declared.short_words.ShortWord.{ShortWord}
+use Rattle.pddl_words.specs.ShortWords.{IsWord}
 use Rattle.strips_task.specs.declared.short_names.Numbered.{Numbered}
 use Rattle.std.specs.Map.{keys_of}
 use Rattle.strips_task.specs.Names.{IsStoredName, number_named, are_distinct}

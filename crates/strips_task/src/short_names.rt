@@ -11,10 +11,10 @@
 ghost use Rattle.std.specs.Prelude.{◌≡◌, ◌≢◌, ◌≤◌, ◌<◌, ◌+◌, ℕ, List, Option, Some, All, IfSome, length};
 ghost use Rattle.pddl_words.specs.Words.{folded};
 ghost use Rattle.strips_task.specs.Names.{IsStoredName};
-ghost use Rattle.joined_bytes.specs.ShortWords.{IsWord};
+ghost use Rattle.pddl_words.specs.ShortWords.{IsWord};
 ghost use Rattle.strips_task.specs.ShortNames.{IsNumbered, name_of};
 
-use joined_bytes::ShortWord;
+use pddl_words::ShortWord;
 use std::alloc::{AllocError, Global};
 use std::marker::Model;
 

@@ -9,7 +9,6 @@ ghost use Rattle.strips_task.specs.Steps.{step_of};
 ghost use Rattle.strips_task.specs.OpenPlan.{IsExtension};
 ghost use Rattle.strips_task.specs.StepView.{step_shown};
 
-use crate::ranges::StepRanges;
 use crate::{Name, Seq, StepView, WordList};
 use std::alloc::{AllocError, AllocFailed, Global};
 use std::marker::Model;
@@ -37,7 +36,7 @@ pub struct StepRange {
 #[derive(Debug, Drop)]
 pub struct StepList {
     words: WordList,
-    ranges: StepRanges,
+    ranges: Vec<StepRange>,
 }
 
 impl Model for StepList {
@@ -49,9 +48,9 @@ impl Model for StepList {
 
     ghost Value = { List StepText };
 
-    ghost view = { λ s. map (step_at s.words) s.ranges };
+    ghost view = { λ s. map (step_at s.words) s.ranges.items };
 
-    ghost invariant = { λ s. All (IsStepRange (length s.words)) s.ranges × (length s.ranges ≤ MOST_STEPS) };
+    ghost invariant = { λ s. All (IsStepRange (length s.words)) s.ranges.items × (length s.ranges.items ≤ MOST_STEPS) };
 }
 
 impl StepList {
@@ -61,7 +60,7 @@ impl StepList {
     {
         StepList {
             words: WordList::new(alloc),
-            ranges: StepRanges::new(alloc),
+            ranges: Vec::new(alloc),
         }
     }
 
@@ -79,6 +78,7 @@ impl StepList {
     }
 
     /// Adds the words of a step and their range. If memory runs out, some words may be left after those of all steps.
+    #[tactic(auto, using(crate::proofs::StepWords::steps_more, crate::proofs::StepWords::ranges_more, crate::proofs::StepWords::steps_extended))]
     fn append(&mut self, step: &StepText) -> Result<(), AllocError>
         requires { length self.old < MOST_STEPS }
         ensures ok { OnOk result (self.new ≡ self.old ++ step.now ∷ []) }
@@ -111,7 +111,7 @@ impl StepList {
         requires { index < length self.now }
         ensures { slice_get self.now index ≡ Some (step_shown result) }
     {
-        let range = self.ranges.get(index);
+        let range = self.ranges[index];
         StepView::new(&self.words, range.first, range.end)
     }
 }
@@ -132,7 +132,7 @@ fn push_words(words: &mut WordList, step: &StepText) -> Result<(), AllocError>
 #[derive(Debug, Drop)]
 pub struct OpenSteps {
     words: WordList,
-    ranges: StepRanges,
+    ranges: Vec<StepRange>,
     first: usize,
 }
 
@@ -145,9 +145,9 @@ impl Model for OpenSteps {
 
     ghost Value = { OpenPlan };
 
-    ghost view = { λ s. record { steps = map (step_at s.words) s.ranges; words = drop s.first s.words } };
+    ghost view = { λ s. record { steps = map (step_at s.words) s.ranges.items; words = drop s.first s.words } };
 
-    ghost invariant = { λ s. All (IsStepRange (length s.words)) s.ranges × (length s.ranges ≤ MOST_STEPS) × (s.first ≤ length s.words) };
+    ghost invariant = { λ s. All (IsStepRange (length s.words)) s.ranges.items × (length s.ranges.items ≤ MOST_STEPS) × (s.first ≤ length s.words) };
 }
 
 impl OpenSteps {
@@ -157,7 +157,7 @@ impl OpenSteps {
     {
         OpenSteps {
             words: WordList::new(alloc),
-            ranges: StepRanges::new(alloc),
+            ranges: Vec::new(alloc),
             first: 0,
         }
     }
@@ -209,7 +209,7 @@ impl OpenSteps {
         requires { index < length self.now.steps }
         ensures { slice_get self.now.steps index ≡ Some (step_shown result) }
     {
-        let StepRange { first, end } = self.ranges.get(index);
+        let StepRange { first, end } = self.ranges[index];
         StepView::new(&self.words, first, end)
     }
 

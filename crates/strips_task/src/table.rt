@@ -14,7 +14,7 @@ use crate::short_names::ShortNames;
 use crate::{Name, NameKey, Seed};
 use indexmap::IndexMap;
 use indexmap::map::Values;
-use joined_bytes::ShortWord;
+use pddl_words::ShortWord;
 use std::alloc::{AllocError, AllocFailed, Global};
 use std::marker::Model;
 

@@ -1,21 +1,20 @@
 //! Many words kept in one piece.
 //!
-//! Planners' files take most of the memory, so the words of a plan are kept in one buffer of bytes in lower case, each known by where it ends.
-ghost use Rattle.std.specs.Prelude.{◌≡◌, ◌+◌, ◌<◌, ℕ, List, [], ◌∷◌, ◌++◌, length, slice_get, OnOk, OnErr, Some, ◌≤◌, slice_index, ◌-◌, take, drop};
+//! The words of a plan are side by side in one buffer, in lower case. Each is known by where it ends.
+ghost use Rattle.std.specs.Prelude.{◌≡◌, ◌<◌, [], ◌∷◌, ◌++◌, length, slice_get, OnOk, OnErr, Some, slice_index};
 ghost use Rattle.pddl_words.specs.Words.{folded};
-ghost use Rattle.smallvec.specs.SmallVec.{HasRoomFor};
+ghost use Rattle.strips_task.specs.Parts.{parts_from, AreEnds};
 
-use crate::ends::Ends;
-use smallvec::SmallVec;
 use std::alloc::{AllocError, Global};
 use std::marker::Model;
 
 /// Words in lower case, in the order in which they were pushed. Contracts see the list of them.
 #[derive(Debug, Drop)]
 pub struct WordList {
-    /// The words side by side. Those of a short plan take no memory of their own.
-    bytes: SmallVec<u8, 24>,
-    ends: Ends,
+    /// The words side by side.
+    bytes: Vec<u8>,
+    /// Where each word ends among the bytes.
+    ends: Vec<usize>,
 }
 
 impl Model for WordList {
@@ -24,23 +23,25 @@ impl Model for WordList {
 
     ghost Value = { List (List ℕ) };
 
-    ghost view = { λ s. parts_from s.bytes.items 0 s.ends };
+    ghost view = { λ s. parts_from s.bytes.items 0 s.ends.items };
 
-    ghost invariant = { λ s. AreEnds 0 s.ends (length s.bytes.items) };
+    ghost invariant = { λ s. AreEnds 0 s.ends.items (length s.bytes.items) };
 }
 
 impl WordList {
     /// The empty list. Takes no memory.
+    #[tactic(auto, using(crate::proofs::PartLemmas::parts_none, crate::proofs::PartLemmas::ends_none))]
     pub fn new(alloc: Global) -> Self
         ensures { result ≡ [] }
     {
         WordList {
-            bytes: SmallVec::new(alloc),
-            ends: Ends::new(alloc),
+            bytes: Vec::new(alloc),
+            ends: Vec::new(alloc),
         }
     }
 
     /// Removes all words and keeps the room.
+    #[tactic(auto, using(crate::proofs::PartLemmas::parts_none, crate::proofs::PartLemmas::ends_none))]
     pub fn clear(&mut self)
         ensures { self.new ≡ [] }
     {
@@ -54,14 +55,15 @@ impl WordList {
         ensures ok { OnOk result (self.new ≡ self.old ++ folded word.now ∷ []) }
         ensures err { OnErr result (self.new ≡ self.old) }
     {
-        let start = self.bytes.as_slice().len();
-        self.bytes.reserve(word.len())?;
-        self.ends.push(start + word.len())?;
-        append_folded(&mut self.bytes, word);
+        self.ends.reserve(1)?;
+        append_folded(&mut self.bytes, word)?;
+        let end = self.bytes.as_slice().len();
+        self.ends.push(end)?;
         Ok(())
     }
 
     /// How many words the list holds.
+    #[tactic(auto, using(crate::proofs::PartLemmas::length_parts))]
     pub fn len(&self) -> usize
         ensures { result ≡ length self.now }
     {
@@ -69,53 +71,41 @@ impl WordList {
     }
 
     /// The word with an index, counted from 0.
+    #[tactic(auto, using(crate::proofs::PartLemmas::length_parts))]
     pub fn get(&self, index: usize) -> &[u8]
         requires { index < length self.now }
         ensures { slice_get self.now index ≡ Some result.now }
     {
-        let start = start_of(&self.ends, index);
-        part_of(self.bytes.as_slice(), start, self.ends.get(index))
+        part_at(&self.bytes, &self.ends, index)
     }
 }
 
-/// Adds a word's bytes in lower case to a buffer that has room for them. Hardly any word has upper case, and others are copied in one piece.
-#[tactic(auto, using(crate::proofs::FoldedWords::folded_already))]
-fn append_folded(bytes: &mut SmallVec<u8, 24>, word: &[u8])
-    requires { HasRoomFor bytes.old (length word.now) }
-    ensures { bytes.new.items ≡ bytes.old.items ++ folded word.now }
+/// Adds a word's bytes in lower case. If memory runs out, none is added.
+fn append_folded(bytes: &mut Vec<u8>, word: &[u8]) -> Result<(), AllocError>
+    ensures ok { OnOk result (bytes.new.items ≡ bytes.old.items ++ folded word.now) }
+    ensures err { OnErr result (bytes.new.items ≡ bytes.old.items) }
 {
-    if word.iter().any(|b| b.is_ascii_uppercase()) {
-        return append_byte_by_byte(bytes, word);
-    }
-    match bytes.extend_from_slice(word) {
-        Ok(()) => {}
-        Err(_) => unreachable!(),
-    }
-}
-
-/// Adds a word's bytes in lower case to a buffer that has room for them, one after the other.
-fn append_byte_by_byte(bytes: &mut SmallVec<u8, 24>, word: &[u8])
-    requires { HasRoomFor bytes.old (length word.now) }
-    ensures { bytes.new.items ≡ bytes.old.items ++ folded word.now }
-{
-    for byte in word {
-        bytes.push_reserved(byte.to_ascii_lowercase());
-    }
+    let start = bytes.len();
+    bytes.extend_from_slice(word)?;
+    bytes[start..].make_ascii_lowercase();
+    Ok(())
 }
 
 /// Where the word with an index starts: at the end of the one before it.
-fn start_of(ends: &Ends, index: usize) -> usize
+fn start_of(ends: &[usize], index: usize) -> usize
     requires { index < length ends.now }
     ensures { result ≡ slice_index (0 ∷ ends.now) index }
 {
-    if index == 0 { 0 } else { ends.get(index - 1) }
+    if index == 0 { 0 } else { ends[index - 1] }
 }
 
-/// The bytes from `start` up to but not including `end`.
-fn part_of(bytes: &[u8], start: usize, end: usize) -> &[u8]
-    requires in_order { start ≤ end }
-    requires within { end ≤ length bytes.now }
-    ensures { result.now ≡ take (end - start) (drop start bytes.now) }
+/// The bytes of the word with an index.
+#[tactic(auto, using(crate::proofs::PartLemmas::end_within, crate::proofs::PartLemmas::slice_get_parts))]
+fn part_at<'a>(bytes: &'a [u8], ends: &[usize], index: usize) -> &'a [u8]
+    requires in_order { AreEnds 0 ends.now (length bytes.now) }
+    requires within { index < length ends.now }
+    ensures { slice_get (parts_from bytes.now 0 ends.now) index ≡ Some result.now }
 {
-    &bytes[start..end]
+    let start = start_of(ends, index);
+    &bytes[start..ends[index]]
 }

@@ -26,8 +26,8 @@ use Rattle.plan_cost.specs.declared.assessments.Assessment.{Assessment}
 use Rattle.plan_cost.specs.declared.costs.CostedTask.{CostedTask}
 use Rattle.plan_text.specs.PlanReading.{plan_of}
 use Rattle.plan_text.specs.Walks.{Walk}
-use Rattle.step_memo.specs.Judging.{Judging, HasTaken, cost_by}
-use Rattle.step_memo.proofs.TakenLaws.{found_at_end}
+use Rattle.text_judge.specs.Judging.{Judging, HasTaken, cost_by}
+use Rattle.text_judge.proofs.TakenLaws.{found_at_end}
 use Rattle.text_judge.specs.declared.history.Watch.{Watch}
 use Rattle.text_judge.specs.declared.pass.Passed.{Passed}
 use Rattle.text_judge.specs.declared.pass.Passed.TheVariants.{All, Fails, Unreadable as Faulty}

@@ -16,7 +16,7 @@ use Rattle.plan_cost.specs.Assessments.{assessment, cost_beside}
 use Rattle.plan_text.specs.PlanReading.{plan_of}
 use Rattle.plan_text.specs.Walks.{Walk, GoesBehind, GoesOn}
 use Rattle.plan_text.specs.WalkFinds.{ComesNext}
-use Rattle.step_memo.specs.Judging.{Judging, HasTaken}
+use Rattle.text_judge.specs.Judging.{Judging, HasTaken}
 use Rattle.text_judge.specs.Passes.{AreTogether, FailsNext, FailsAt, unreadable}
 
 -- both go on by one step

@@ -11,7 +11,7 @@ use Rattle.strips_judge.specs.declared.verdict.Verdict.TheVariants as answer
 use Rattle.strips_judge.specs.declared.verdict.Why.{Why}
 use Rattle.plan_cost.specs.declared.costs.Cost.TheVariants.{NotCounted}
 use Rattle.plan_cost.specs.Assessments.{assessment}
-use Rattle.step_memo.specs.Judging.{Judging, HasTaken}
+use Rattle.text_judge.specs.Judging.{Judging, HasTaken}
 use Rattle.text_judge.specs.Passes.{FailsNext}
 
 -- the step of this action with these arguments

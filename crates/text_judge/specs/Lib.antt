@@ -1,3 +1,6 @@
 pub mod History
 pub mod Passes
 pub mod Watches
+pub mod Judging
+pub mod Known
+pub mod Learned

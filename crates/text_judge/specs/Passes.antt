@@ -11,7 +11,7 @@ use Rattle.plan_cost.specs.declared.costs.CostedTask.{CostedTask}
 use Rattle.plan_cost.specs.Assessments.{assessment}
 use Rattle.plan_text.specs.PlanReading.{plan_of}
 use Rattle.plan_text.specs.Walks.{Walk, HasPassed}
-use Rattle.step_memo.specs.Judging.{Judging, HasTaken}
+use Rattle.text_judge.specs.Judging.{Judging, HasTaken}
 use Rattle.text_judge.specs.declared.pass.Passed.{Passed}
 use Rattle.text_judge.specs.declared.pass.Passed.TheVariants.{All, Fails, Unreadable as Faulty}
 use Rattle.text_judge.specs.declared.pass.Tried.{Tried}

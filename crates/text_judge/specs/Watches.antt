@@ -8,7 +8,7 @@ use Rattle.strips_task.specs.declared.tasks.TaskParts.{TaskParts}
 use Rattle.strips_task.specs.declared.plans.Plan.TheVariants.{Steps, Unreadable}
 use Rattle.plan_text.specs.PlanReading.{plan_of}
 use Rattle.plan_text.specs.Walks.{Walk, HasPassed}
-use Rattle.step_memo.specs.Judging.{Judging, HasTaken}
+use Rattle.text_judge.specs.Judging.{Judging, HasTaken}
 use Rattle.text_judge.specs.declared.history.Watch.{Watch}
 use Rattle.text_judge.specs.declared.pass.Passed.{Passed}
 use Rattle.text_judge.specs.declared.pass.Passed.TheVariants.{All, Fails, Unreadable as Faulty}

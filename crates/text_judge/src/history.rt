@@ -5,15 +5,15 @@ ghost use Rattle.std.specs.Prelude.{◌≡◌, ◌<◌, [], List, None, Option, 
 ghost use Rattle.strips_task.specs.declared.atoms.Atom.{Atom};
 ghost use Rattle.strips_task.specs.declared.steps.StepText.{StepText};
 ghost use Rattle.strips_task.specs.declared.tasks.TaskParts.{TaskParts};
-ghost use Rattle.step_memo.specs.Judging.{HasTaken};
+ghost use Rattle.text_judge.specs.Judging.{HasTaken};
 ghost use Rattle.text_judge.specs.History.{AreLastChanges, state_after};
 ghost use Rattle.text_judge.specs.Passes.{with_next};
 ghost use Rattle.text_judge.specs.Watches.{AreWatched, EndsWatch, IsWatched, WatchTogether};
 
 use crate::pass::{Passed, Words, advance};
+use crate::step_judge::Judge;
 use plan_text::PlanSteps;
 use std::alloc::{AllocError, Global};
-use step_memo::Judge;
 use strips_task::Atom;
 
 /// What is kept of an atom that is watched: whether it is true, and which step changed that last, counted from 1.

@@ -7,18 +7,18 @@ ghost use Rattle.plan_cost.specs.Assessments.{assessment};
 ghost use Rattle.plan_cost.specs.CompactCosts.{IsCompact};
 ghost use Rattle.plan_text.specs.PlanReading.{plan_of};
 ghost use Rattle.plan_text.specs.Walks.{HasPassed};
-ghost use Rattle.step_memo.specs.Judging.{HasTaken};
+ghost use Rattle.text_judge.specs.Judging.{HasTaken};
 ghost use Rattle.text_judge.specs.History.{AreLastChanges, steps_taken};
 ghost use Rattle.text_judge.specs.Passes.{unreadable};
 ghost use Rattle.text_judge.specs.Watches.{AreWatched};
 
 use crate::history::{Watch, changes_of, watch_all, watch_steps};
 use crate::pass::{Passed, Words, fault_behind, pass};
+use crate::step_judge::Judge;
 use plan_cost::{Assessment, Cost, CostedTask};
 use plan_text::PlanSteps;
 use std::alloc::{AllocError, Global};
 use std::marker::Model;
-use step_memo::Judge;
 use strips_judge::Verdict;
 use strips_task::Atom;
 
@@ -67,7 +67,7 @@ impl<'t> TextJudge<'t> {
 
     /// Judges the plan of a text, and adds up what it costs if it is valid and the task counts costs.
     ///
-    /// One pass over the text. The judge takes memory for steps and atoms that it has not seen before, within the bounds of `step_memo`.
+    /// One pass over the text. The judge takes memory for steps and atoms that it has not seen before, within the bounds of `memo`.
     pub fn assess(&mut self, alloc: Global, text: &[u8]) -> Result<Assessment, AllocError>
         ensures answer { IfOk result (λ answer. answer ≡ assessment self.old (plan_of text.now)) }
         ensures compact { IfOk result (λ answer. IsCompact answer.cost) }

@@ -7,7 +7,7 @@
 //! ```
 //!
 //! A [`TextJudge`] takes each step of a text as it reads it. Most steps of a planner's plans are repeated, spelled the same, so the judge keeps
-//! what it learned of a step under the bytes between its parentheses (`step_memo`). A step that it knows is not read again, only tested and
+//! what it learned of a step under the bytes between its parentheses (`step_judge` and `memo`). A step that it knows is not read again, only tested and
 //! taken by the numbers of its atoms. Any other step is judged by its names, and learned.
 //!
 //! The names must stand with single spaces between them to be looked up so. A step with other blanks or with comments inside is read word by word, and
@@ -18,10 +18,16 @@
 //! No answer depends on what the judge remembers: it is the assessment of the plan of the text, whatever was judged before.
 #![tactic(auto)]
 
+mod amounts;
 mod history;
 mod judge;
 pub mod laws;
+mod memo;
 mod pass;
+mod room;
+mod step_judge;
+mod steps;
+mod usage;
 
 pub use judge::TextJudge;
-pub use step_memo::MOST_JUDGES;
+pub use room::MOST_JUDGES;

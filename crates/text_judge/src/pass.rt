@@ -10,16 +10,16 @@ ghost use Rattle.strips_task.specs.Steps.{step_of};
 ghost use Rattle.strips_task.specs.StepView.{step_shown};
 ghost use Rattle.plan_text.specs.PlanReading.{plan_of};
 ghost use Rattle.plan_text.specs.Walks.{HasPassed};
-ghost use Rattle.step_memo.specs.Judging.{HasTaken, Judging};
-ghost use Rattle.step_memo.specs.declared.judge.RowStep.TheVariants.{Faulty, Taken as RowTaken};
+ghost use Rattle.text_judge.specs.Judging.{HasTaken, Judging};
+ghost use Rattle.text_judge.specs.declared.step_judge.RowStep.TheVariants.{Faulty, Taken as RowTaken};
 ghost use Rattle.plan_text.specs.WalkFinds.{ComesNext, IsOnward};
 ghost use Rattle.text_judge.specs.declared.pass.Tried.TheVariants.{Taken};
 ghost use Rattle.text_judge.specs.Passes.{AfterTrial, AreTogether, EndsPass, FailsNext, GoOnOrEnd, ended};
 
+use crate::step_judge::{Judge, RowStep};
 use pddl_tokens::Group;
 use plan_text::{Onward, PlanSteps, StepWords, TextStep};
 use std::alloc::{AllocError, Global};
-use step_memo::{Judge, RowStep};
 use strips_judge::Why;
 use strips_task::{MOST_VARIABLES, OpenSteps, StepView};
 

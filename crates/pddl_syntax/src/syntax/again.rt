@@ -3,7 +3,7 @@
 ghost use Rattle.std.specs.Prelude.{◌≡◌, IsTrue, Some};
 ghost use Rattle.std.specs.Option.{option_copied};
 
-use joined_bytes::are_same;
+use pddl_words::are_same;
 
 /// Whether there is a text before, and it has these bytes. Takes a step for each eight bytes at most.
 #[inline(always)]

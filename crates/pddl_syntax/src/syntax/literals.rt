@@ -15,8 +15,8 @@ use crate::syntax::LiteralSyntax;
 use crate::syntax::formula::formula;
 use crate::syntax::known::literal;
 use crate::walk::{Item, Walk};
-use joined_bytes::are_same;
 use pddl_tokens::Group;
+use pddl_words::are_same;
 use std::alloc::Global;
 use std::marker::Model;
 

@@ -7,20 +7,24 @@ use Rattle.judge_engine.proofs.Submitted.{count_is}
 use Rattle.judge_engine.proofs.Standing.{last_sum, whole_report, some_file}
 use Rattle.judge_engine.proofs.engine.report_of.Goals as goal
 
-pub push_all-requires-clause-few : goal.push_all-requires-clause-few
-push_all-requires-clause-few g c κs within =
-    omega (arith, ap length c.requires.plans, length-map c.args.cuts.now (plan_of_cut c.args.bundles.now), count_is 0 c.args.bundles.now, c.requires.few)
+pub judge_together-requires-clause-few : goal.judge_together-requires-clause-few
+judge_together-requires-clause-few g c κs within =
+    omega (arith, ap length c.requires.plans, length-map c.args.cuts.now (plan_of_cut c.args.input.now.bundles.now), count_is 0 c.args.input.now.bundles.now, c.requires.few)
+
+pub push_plans-requires-clause-few : goal.push_plans-requires-clause-few
+push_plans-requires-clause-few g c =
+    omega (arith, ap length c.requires.plans, length-map c.args.cuts.now (plan_of_cut c.args.input.now.bundles.now), count_is 0 c.args.input.now.bundles.now, c.requires.few)
 
 pub returns-clause-report : goal.returns-clause-report
 returns-clause-report g c =
-    let format = c.args.format in
+    let format = c.args.input.now.format in
     let task = c.args.task.now in
-    let bundles = c.args.bundles.now in
+    let bundles = c.args.input.now.bundles.now in
     let head = c.in_ok-push_head.ensures ∙ ap (λ l. l ++ head_in format task.task) c.new-text.ensures in
     c.from_bytes-2.ensures
     ∙ c.into_bytes-2.ensures
     ∙ c.in_ok-push_sum.ensures
-    ∙ ap (λ l. c.push_all.new.text ++ l) (last_sum format task bundles c.in_ok-last.last)
+    ∙ ap (λ l. c.push_plans.new.text ++ l) (last_sum format task bundles c.in_ok-last.last)
     ∙ c.in_ok-last.ensures.text
     ∙ (λ j. head j ++ rest_text format task bundles (start_of 0) (c.requires.plans j))
     ∙ whole_report format task bundles (some_file bundles (sym c.is_empty.ensures ∙ c.if-is_empty.false))

@@ -1,6 +1,6 @@
 use Rattle.std.proofs.Common.{sym, subst, ◌∙◌, arith}
-use Rattle.joined_bytes.specs.declared.short_words.ShortWord.{ShortWord}
-use Rattle.joined_bytes.specs.ShortWords.{IsWord}
+use Rattle.pddl_words.specs.declared.short_words.ShortWord.{ShortWord}
+use Rattle.pddl_words.specs.ShortWords.{IsWord}
 use Rattle.strips_task.specs.declared.short_names.Numbered.{Numbered}
 use Rattle.strips_task.proofs.short_names.number_at.Goals as goal
 

@@ -1,6 +1,6 @@
 use Rattle.std.proofs.Common.{List, Option, drop, take}
 use Rattle.strips_task.specs.declared.steps.StepText.{StepText}
-use Rattle.step_memo.specs.Judging.{HasTaken}
+use Rattle.text_judge.specs.Judging.{HasTaken}
 use Rattle.text_judge.specs.Passes.{with_next}
 use Rattle.text_judge.specs.Watches.{AreWatched}
 use Rattle.text_judge.proofs.history.note.Given as goal

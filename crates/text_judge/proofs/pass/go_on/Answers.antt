@@ -2,8 +2,8 @@ use Rattle.std.proofs.Common.{◌≡◌, ◌≢◌, subst, sym, ◌∙◌}
 use Rattle.strips_task.specs.Spelled.{step_spelled}
 use Rattle.plan_cost.specs.declared.costs.CostedTask.{CostedTask}
 use Rattle.plan_text.specs.Walks.{Walk}
-use Rattle.step_memo.specs.declared.judge.RowStep.{RowStep}
-use Rattle.step_memo.specs.declared.judge.RowStep.TheVariants.{Faulty, Taken}
+use Rattle.text_judge.specs.declared.step_judge.RowStep.{RowStep}
+use Rattle.text_judge.specs.declared.step_judge.RowStep.TheVariants.{Faulty, Taken}
 use Rattle.text_judge.specs.Passes.{AreTogether, FailsNext}
 use Rattle.text_judge.proofs.Judged.{together_on, together_still}
 use Rattle.text_judge.proofs.pass.go_on.Goals as goal

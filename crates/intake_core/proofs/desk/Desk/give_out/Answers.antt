@@ -42,7 +42,7 @@ invariant_of-self c =
     let job : c.args.number < length (jobs_in c.self.inside.table.items) = next-within (intake_in c.self.inside.table.items c.self.inside.planners.items) _ _ c.self.invariant.0.numbered is.next in
     let idle : waits_at (stages_in c.self.inside.table.items) c.args.number ≡ false = ap waits (c.replace_stage.ensures.was ∙ ap Some c.in-Finished.is) in
     let link = link-at c.self.inside.table.items c.args.number c.index.result.now (omega (arith, job, length-jobs c.self.inside.table.items)) c.index.ensures in (
-      kept-as _ _ _ _ _ _ _ _ _ _ _ _ c.replace_stage.ensures.jobs c.replace_stage.ensures.stages c.replace_stage.ensures.links refl refl
+      kept-as _ _ _ _ _ _ _ _ _ _ _ c.replace_stage.ensures.jobs c.replace_stage.ensures.stages c.replace_stage.ensures.links refl
           (kept-planner _ _ _ _ _ _ _
           (kept-idle _ _ _ _ _ _ _ c.self.invariant.0 c.args.number Emitted job refl idle (λ other finding e same. absurd (cc)))
           c.args.planner _ within

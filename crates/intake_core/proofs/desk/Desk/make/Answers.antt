@@ -5,7 +5,7 @@ use Rattle.intake_core.proofs.desk.Desk.make.Goals as goal
 
 pub invariant_of-result : goal.invariant_of-result
 invariant_of-result c = (
-  kept-made _ _ c.args.planners _ _ _ c.requires.slots c.in_ok-with_capacity.ensures.items (c.in_ok-vec.ensures.items_if_clones_equal (λ y e. e)) c.in_ok-new.ensures,
+  kept-made _ _ c.args.planners _ _ c.requires.slots c.in_ok-with_capacity.ensures.items (c.in_ok-vec.ensures.items_if_clones_equal (λ y e. e)),
   c.in_ok-with_capacity.ensures.capacity,
 )
 

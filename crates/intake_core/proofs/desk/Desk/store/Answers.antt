@@ -21,7 +21,7 @@ invariant_of-self c =
     let right : IsRight c.self.inside.task.value c.args.finding = subst (λ desk. IsRight desk.task c.args.finding) (sym c.self.view_is) c.requires.right in
     let idle : waits_at (stages_in c.self.inside.table.items) c.args.job ≡ false =
     ap waits (stage-at (intake_in c.self.inside.table.items c.self.inside.planners.items) c.args.job (omega (arith, job.at.known, c.self.invariant.0.staged)) ∙ ap Some job.at.out) in (
-      kept-as _ _ _ _ _ _ _ _ _ _ _ _ c.set_stage.ensures.jobs c.set_stage.ensures.stages c.set_stage.ensures.links refl refl
+      kept-as _ _ _ _ _ _ _ _ _ _ _ c.set_stage.ensures.jobs c.set_stage.ensures.stages c.set_stage.ensures.links refl
           (kept-idle _ _ _ _ _ _ _ c.self.invariant.0 c.args.job (Finished c.args.finding) job.at.known refl idle
           (λ other finding at same. rest-of _ (jobs_in c.self.inside.table.items) c.args.job c.args.finding other finding job.same right at same)),
       omega (arith, c.set_stage.ensures.capacity, c.self.invariant.1),

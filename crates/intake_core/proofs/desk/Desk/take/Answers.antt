@@ -1,4 +1,4 @@
-use Rattle.std.proofs.Common.{◌<◌, false, ap, sym, ◌∙◌, refl, length, arith}
+use Rattle.std.proofs.Common.{◌<◌, ap, sym, ◌∙◌, refl, length, arith}
 use Rattle.intake_rules.specs.declared.stage.Stage.TheVariants.{Out}
 use Rattle.intake_rules.specs.Rules.{taken, take_job}
 use Rattle.intake_rules.specs.Intake.{with_stage, least_waiting}
@@ -13,27 +13,33 @@ use Rattle.intake_core.proofs.desk.Desk.take.Goals as goal
 pub returns-in_err-number-clause-reply : goal.returns-in_err-number-clause-reply
 returns-in_err-number-clause-reply c =
     ap take_reply c.from_residual.ensures
-    ∙ ap taken (sym c.in_err-number.was ∙ c.least.ensures ∙ least-same c.self.inside.waiting (stages_in c.self.inside.table.items) c.self.invariant.0.waiting_is)
+    ∙ ap taken (sym c.in_err-number.was ∙ least-same c.self.inside.waiting (stages_in c.self.inside.table.items) c.self.invariant.0.waiting_is c.least_waiting.result c.least_waiting.ensures)
     ∙ ap (λ desk. taken (least_waiting desk.intake)) c.self.view_is
+
+pub clear_bit-requires : goal.clear_bit-requires
+clear_bit-requires c =
+    let within : c.in_ok-number.number < length (stages_in c.self.inside.table.items) =
+    least-lt c.self.inside.waiting (stages_in c.self.inside.table.items) c.self.invariant.0.waiting_is c.least_waiting.result c.in_ok-number.number c.least_waiting.ensures c.in_ok-number.was in
+    omega (arith, within, c.self.invariant.0.staged, c.self.invariant.0.room, c.self.invariant.0.few)
 
 pub set_stage-requires : goal.set_stage-requires
 set_stage-requires c =
     let within : c.in_ok-number.number < length (stages_in c.self.inside.table.items) =
-    least-lt c.self.inside.waiting (stages_in c.self.inside.table.items) c.in_ok-number.number c.self.invariant.0.waiting_is (sym c.least.ensures ∙ c.in_ok-number.was) in
+    least-lt c.self.inside.waiting (stages_in c.self.inside.table.items) c.self.invariant.0.waiting_is c.least_waiting.result c.in_ok-number.number c.least_waiting.ensures c.in_ok-number.was in
     omega (arith, within, c.self.invariant.0.staged, length-jobs c.self.inside.table.items)
 
 pub invariant_of-self : goal.invariant_of-self
 invariant_of-self c =
     let within : c.in_ok-number.number < length (stages_in c.self.inside.table.items) =
-    least-lt c.self.inside.waiting (stages_in c.self.inside.table.items) c.in_ok-number.number c.self.invariant.0.waiting_is (sym c.least.ensures ∙ c.in_ok-number.was) in (
-      kept-as _ _ _ _ _ _ _ _ _ _ _ _ c.set_stage.ensures.jobs c.set_stage.ensures.stages c.set_stage.ensures.links refl c.remove.ensures
-          (kept-waiting _ _ _ _ _ _ _ c.self.invariant.0 c.in_ok-number.number Out false (omega (arith, within, c.self.invariant.0.staged)) refl (λ finding e. cc)),
+    least-lt c.self.inside.waiting (stages_in c.self.inside.table.items) c.self.invariant.0.waiting_is c.least_waiting.result c.in_ok-number.number c.least_waiting.ensures c.in_ok-number.was in (
+      kept-as _ _ _ _ _ _ _ _ _ _ _ c.set_stage.ensures.jobs c.set_stage.ensures.stages c.set_stage.ensures.links refl
+          (kept-waiting _ _ _ _ _ _ _ c.self.invariant.0 c.in_ok-number.number Out _ (omega (arith, within, c.self.invariant.0.staged)) c.clear_bit.ensures.changed (λ finding e. cc)),
       omega (arith, c.set_stage.ensures.capacity, c.self.invariant.1),
     )
 
 pub returns-clause-reply : goal.returns-clause-reply
 returns-clause-reply c =
-    ap taken (sym c.in_ok-number.was ∙ c.least.ensures ∙ least-same c.self.inside.waiting (stages_in c.self.inside.table.items) c.self.invariant.0.waiting_is)
+    ap taken (sym c.in_ok-number.was ∙ least-same c.self.inside.waiting (stages_in c.self.inside.table.items) c.self.invariant.0.waiting_is c.least_waiting.result c.least_waiting.ensures)
     ∙ ap (λ desk. taken (least_waiting desk.intake)) c.self.view_is
 
 pub returns-clause-state : goal.returns-clause-state

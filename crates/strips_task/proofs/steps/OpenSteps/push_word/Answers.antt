@@ -8,7 +8,7 @@ use Rattle.strips_task.proofs.steps.OpenSteps.push_word.Goals as goal
 pub returns-clause-ok : goal.returns-clause-ok
 returns-clause-ok c =
     let words = c.self.inside.words in
-    let ranges = c.self.inside.ranges in
+    let ranges = c.self.inside.ranges.items in
     let steps = ap (λ l. map (step_at l) ranges) c.in_ok-push_folded.ensures.ok ∙ steps_kept words (folded c.args.word.now ∷ []) ranges c.self.invariant.0
     ∙ ap (λ v. v.steps) c.self.view_is in
     let rest = ap (drop c.self.inside.first) c.in_ok-push_folded.ensures.ok ∙ drop-append-le c.self.inside.first words (folded c.args.word.now ∷ []) c.self.invariant.2

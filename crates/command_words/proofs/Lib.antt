@@ -1,3 +1,0 @@
-pub mod ValueSteps
-pub mod OperandSteps
-pub mod HelpSteps

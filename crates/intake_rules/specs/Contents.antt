@@ -1,0 +1,19 @@
+-- The plan that is meant by what is kept of it.
+
+use Rattle.std.specs.Arc.{arc_value}
+use Rattle.plan_text.specs.PlanReading.{plan_of}
+use Rattle.strips_task.specs.declared.plans.Plan.{Plan}
+use Rattle.intake_rules.specs.declared.plan.Form.{Form}
+use Rattle.intake_rules.specs.declared.plan.Form.TheVariants as shown
+use Rattle.intake_rules.specs.declared.plan.Kept.{Kept}
+use Rattle.intake_rules.specs.declared.plan.Kept.TheVariants as kept
+
+-- the plan that is kept: itself, or the plan of its text
+abbrev pub content : Kept → Plan
+content (kept.Read plan) = arc_value plan
+content (kept.Text text) = plan_of text
+
+-- the plan that is shown: itself, or the plan of its text
+abbrev pub content_shown : Form → Plan
+content_shown (shown.Read plan) = plan.now
+content_shown (shown.Text text) = plan_of text.now

@@ -1,4 +1,0 @@
-pub mod JoinedLaws
-pub mod SameBytes
-pub mod ShortWordLaws
-pub mod LowerCase

@@ -1,2 +1,0 @@
-pub mod JoinedBytes
-pub mod ShortWords

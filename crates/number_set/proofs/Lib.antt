@@ -1,3 +1,0 @@
-pub mod Summaries
-pub mod Views
-pub mod Writes

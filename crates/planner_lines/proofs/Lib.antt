@@ -1,5 +1,0 @@
-pub mod Ranks
-pub mod Finding
-pub mod Joining
-pub mod Keeping
-pub mod Views

@@ -1,3 +1,0 @@
-pub mod KnownLaws
-pub mod TakenLaws
-pub mod ManyArguments

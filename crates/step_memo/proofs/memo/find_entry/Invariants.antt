@@ -1,4 +1,0 @@
-use Rattle.step_memo.proofs.memo.find_entry.Given as goal
-
-abbrev pub invariant-loop : goal.invariant-loop
-invariant-loop l = Unit {0}

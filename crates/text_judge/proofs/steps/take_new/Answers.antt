@@ -1,0 +1,44 @@
+use Rattle.std.proofs.Common.{List, All, refl, subst, sym}
+use Rattle.strips_task.specs.Spelled.{step_spelled}
+use Rattle.strips_task.specs.declared.atoms.Atom.{Atom}
+use Rattle.strips_judge.specs.Codes.{Code, IsCode, code_shown}
+use Rattle.strips_judge.proofs.CodeLaws.{added_within}
+use Rattle.text_judge.specs.Known.{Known}
+use Rattle.text_judge.specs.Learned.{IsLearned}
+use Rattle.text_judge.proofs.TakenLaws.{learned_as, learned_grown, learned_more}
+use Rattle.text_judge.proofs.steps.take_new.Goals as goal
+
+pub take_by_code-requires : goal.take_by_code-requires
+take_by_code-requires c =
+    let step = step_spelled c.args.step.key.now in
+    let atoms = c.code_of_numbered.new.state.atoms in
+    added_within c.args.task.now.task atoms step (code_shown c.code-2.result)
+    (subst (λ (code : Code). IsCode c.args.task.now.task atoms step code) (sym c.code-2.ensures) (c.in_ok-code_of_numbered.ensures.code c.if-not-branch.false step c.requires.numbered))
+
+pub returns-in_default-clause-learned : goal.returns-in_default-clause-learned
+returns-in_default-clause-learned c = learned_grown c.args.task.now c.args.state.now c.take_numbered.new.state c.args.memo.now c.take_numbered.ensures.grows c.requires.learned
+
+pub returns-in_err-code_of_numbered-clause-learned : goal.returns-in_err-code_of_numbered-clause-learned
+returns-in_err-code_of_numbered-clause-learned c =
+    learned_grown c.args.task.now c.args.state.now c.code_of_numbered.new.state c.args.memo.now c.code_of_numbered.ensures.grows c.requires.learned
+
+pub returns-then-not-branch-clause-learned : goal.returns-then-not-branch-clause-learned
+returns-then-not-branch-clause-learned c =
+    learned_grown c.args.task.now c.args.state.now c.code_of_numbered.new.state c.args.memo.now c.code_of_numbered.ensures.grows c.requires.learned
+
+pub returns-in_err-add-clause-learned : goal.returns-in_err-add-clause-learned
+returns-in_err-add-clause-learned c =
+    subst (λ (memo : List Known). All (IsLearned c.args.task.now c.code_of_numbered.new.state.atoms) memo) (sym c.in_err-add.ensures.err)
+    (learned_grown c.args.task.now c.args.state.now c.code_of_numbered.new.state c.args.memo.now c.code_of_numbered.ensures.grows c.requires.learned)
+
+pub returns-clause-learned : goal.returns-clause-learned
+returns-clause-learned c =
+    let task = c.args.task.now in
+    let key = c.args.step.key.now in
+    let atoms = c.code_of_numbered.new.state.atoms in
+    let is = subst (λ (code : Code). IsCode task.task atoms (step_spelled key) code) (sym c.code.ensures) (c.in_ok-code_of_numbered.ensures.code c.if-not-branch.false (step_spelled key) c.requires.numbered) in
+    let one = learned_as task atoms key (step_spelled key) (code_shown c.code.result) c.args.step.amount c.in-Some.amount c.in-Some.amount c.requires.spelled refl is c.requires.amount c.in-Some.ensures refl in
+    subst (λ (l : List Atom). All (IsLearned task l) c.add.new.self) (sym c.take_by_code.ensures.atoms)
+    (learned_more task atoms c.args.memo.now c.add.new.self (record { key = key; code = code_shown c.code.result; amount = c.in-Some.amount }) c.in_ok-add.field-0
+    c.in_ok-add.ensures.added c.in_ok-add.ensures.not
+    (learned_grown task c.args.state.now c.code_of_numbered.new.state c.args.memo.now c.code_of_numbered.ensures.grows c.requires.learned) one)

@@ -1,0 +1,315 @@
+//! A judge of many plans of one task, which takes their steps one by one and keeps what it learns of them.
+ghost use Rattle.std.specs.Prelude.{◌≡◌, ◌≢◌, ◌+◌, ◌<◌, ◌∷◌, [], ◌++◌, ℕ, List, length, IsTrue, false, Some, IfOk, OnOk, IfSome, IfNone};
+ghost use Rattle.strips_task.specs.declared.plans.Plan.TheVariants.{Steps};
+ghost use Rattle.strips_task.specs.declared.steps.StepText.{StepText};
+ghost use Rattle.strips_task.specs.declared.steps.TheConstants.{MOST_STEPS};
+ghost use Rattle.strips_task.specs.Spelled.{IsSpelled, step_spelled};
+ghost use Rattle.strips_task.specs.StepView.{step_shown};
+ghost use Rattle.strips_judge.specs.NumberedState.{state_of};
+ghost use Rattle.strips_judge.specs.State.{is_in};
+ghost use Rattle.strips_judge.specs.Step.{fault};
+ghost use Rattle.strips_judge.specs.StepNumbers.{AreWithin, IsNumberedFront};
+ghost use Rattle.strips_judge.specs.declared.verdict.Verdict.TheVariants.{Fails};
+ghost use Rattle.strips_judge.specs.declared.verdict.Why.{Why};
+ghost use Rattle.plan_cost.specs.declared.costs.Cost.TheVariants.{NotCounted};
+ghost use Rattle.plan_cost.specs.Assessments.{assessment};
+ghost use Rattle.plan_cost.specs.CompactCosts.{IsCompact};
+ghost use Rattle.text_judge.specs.Judging.{HasTaken};
+ghost use Rattle.text_judge.specs.declared.step_judge.RowStep.TheVariants.{Faulty, Taken};
+
+use crate::amounts::{added, amount_of, cost_beside, initial_of, numbered_amount};
+use crate::memo::Memo;
+use crate::room::Room;
+use crate::steps::{NewStep, take_found, take_new};
+use crate::usage::Usage;
+use plan_cost::{Assessment, CostScratch, CostedTask};
+use std::alloc::{AllocError, Global};
+use std::marker::Model;
+use strips_judge::{
+    Atom, CodeBuffer, NumberedState, Scratch, StepNames, Why, fault_of_row, judge_goal, take_step,
+};
+use strips_task::{StepView, Task};
+
+/// How many atoms besides the initial ones may have numbers that are kept from one plan to the next, with all that was learned.
+pub(crate) const MOST_LATER: usize = 131_072;
+
+/// How many atoms besides the initial ones may have numbers while steps are still learned. A plan that brings up more of them repeats few of its
+/// steps.
+const LATER_TO_LEARN: usize = 32_768;
+
+/// What came of a row of bytes that may spell a step.
+#[derive(Debug, Drop)]
+pub(crate) enum RowStep {
+    /// It spells a step, which was taken.
+    Taken,
+    /// It was not taken. If it spells a step, this is wrong with it, whatever is true.
+    Faulty(Why),
+    /// It was not taken, though it may spell a step that is applicable.
+    NotTaken,
+}
+
+/// A judge of plans of one task. Contracts see the task and what is kept of the plan that is being judged.
+///
+/// [`begin`](Judge::begin) a plan, take its steps one by one, and [`finish`](Judge::finish) it. If a step is not applicable, or memory
+/// runs out, the plan is over, and another can begin.
+#[derive(Drop)]
+pub(crate) struct Judge<'t> {
+    task: &'t CostedTask,
+    room: Room,
+    state: NumberedState<'t>,
+    memo: Memo,
+    names: StepNames<'t>,
+    /// The numbers of the step that is being taken.
+    numbers: Vec<u16>,
+    code: CodeBuffer,
+    scratch: Scratch,
+    cost_scratch: CostScratch,
+    cost: Option<u128>,
+    count: usize,
+    usage: Usage,
+}
+
+impl<'t> Model for Judge<'t> {
+    ghost use Rattle.std.specs.Prelude.{◌≡◌};
+    ghost use Rattle.text_judge.specs.Judging.{Judging};
+    ghost use Rattle.text_judge.specs.Learned.{IsJudge};
+
+    ghost Value = { Judging };
+
+    ghost view = { λ j. record { task = j.task.now; state = j.state; cost = j.cost; count = j.count } };
+
+    ghost invariant = { λ j. IsJudge j.task.now j.state j.memo j.cost j.count × (j.names ≡ j.task.now.task) };
+}
+
+impl<'t> Judge<'t> {
+    /// A judge of a task that has seen no step, at the beginning of a plan. It is one of `judges` that share the room for known steps. Takes memory
+    /// for one bit for each initial atom.
+    pub(crate) fn new(
+        alloc: Global,
+        task: &'t CostedTask,
+        judges: u32,
+    ) -> Result<Judge<'t>, AllocError>
+        ensures task { IfOk result (λ judge. judge.task ≡ task.now) }
+        ensures begun { IfOk result (λ judge. HasTaken judge []) }
+    {
+        let initial = task.task.initial_atoms();
+        let room = Room::of_each(judges);
+        let objects = task.task.object_count();
+        let state = NumberedState::new(alloc, initial, objects, room.cells)?;
+        Ok(Judge {
+            task,
+            room,
+            state,
+            memo: Memo::new(alloc, initial.seed(), room),
+            names: StepNames::new(alloc, &task.task),
+            numbers: Vec::new(alloc),
+            code: CodeBuffer::new(alloc),
+            scratch: Scratch::new(alloc),
+            cost_scratch: CostScratch::new(alloc),
+            cost: Some(u128::from(initial_of(alloc, task))),
+            count: 0,
+            usage: Usage::new(),
+        })
+    }
+
+    /// Begins a plan: the initial atoms are true and no others. Takes a pass over the words of the state's bits.
+    ///
+    /// If more than [`MOST_LATER`] atoms besides the initial ones have numbers, it forgets all codes and these numbers, and takes memory for
+    /// another state.
+    pub(crate) fn begin(&mut self, alloc: Global) -> Result<(), AllocError>
+        ensures task { self.new.task ≡ self.old.task }
+        ensures begun { OnOk result (HasTaken self.new []) }
+    {
+        self.start_over(alloc)?;
+        self.usage.begin();
+        self.cost = Some(u128::from(initial_of(alloc, self.task)));
+        self.count = 0;
+        Ok(())
+    }
+
+    /// Makes the initial atoms true and no others.
+    fn start_over(&mut self, alloc: Global) -> Result<(), AllocError>
+        ensures task { self.new.task ≡ self.old.task }
+        ensures state { OnOk result (state_of self.new.state ≡ is_in self.new.task.task.init) }
+    {
+        if self.state.later_len() > MOST_LATER {
+            return self.forget(alloc);
+        }
+        self.state.reset();
+        Ok(())
+    }
+
+    /// Forgets all codes and numbers, and makes the initial atoms true.
+    fn forget(&mut self, alloc: Global) -> Result<(), AllocError>
+        ensures task { self.new.task ≡ self.old.task }
+        ensures state { OnOk result (state_of self.new.state ≡ is_in self.new.task.task.init) }
+    {
+        let initial = self.task.task.initial_atoms();
+        let objects = self.task.task.object_count();
+        let state = NumberedState::new(alloc, initial, objects, self.room.cells)?;
+        self.memo.clear();
+        self.state = state;
+        Ok(())
+    }
+
+    /// How many steps of the plan were taken.
+    pub(crate) fn steps(&self) -> usize
+        ensures steps { (steps : List StepText) → HasTaken self.now steps → result ≡ length steps }
+        ensures count { result ≡ self.now.count }
+    {
+        self.count
+    }
+
+    /// Takes the step that a key spells, if it is known and applicable, and otherwise changes nothing. Returns whether it did.
+    ///
+    /// Takes one hash of the key and no memory. The key may be any bytes: only a step that [`take_row`](Judge::take_row) learned under the same
+    /// bytes is known.
+    pub(crate) fn take_known(&mut self, key: &[u8]) -> bool
+        requires { self.old.count < MOST_STEPS }
+        ensures task { self.new.task ≡ self.old.task }
+        ensures spelled { IsTrue result → IsSpelled key.now }
+        ensures taken { IsTrue result → (steps : List StepText) → HasTaken self.old steps → HasTaken self.new (steps ++ step_spelled key.now ∷ []) }
+        ensures not { result ≡ false → (steps : List StepText) → HasTaken self.old steps → HasTaken self.new steps }
+        ensures count { result ≡ false → self.new.count ≡ self.old.count }
+    {
+        if !self.usage.asks() {
+            return false;
+        }
+        let found = take_found(self.task, &self.memo, &mut self.state, key);
+        self.usage.note(found.is_some());
+        let Some(amount) = found else {
+            return false;
+        };
+        self.cost = added(self.cost, Some(u128::from(amount)));
+        self.count += 1;
+        true
+    }
+
+    /// Takes the step that a row spells, if its names are known and it is applicable, and otherwise changes no atom. Returns whether it did, or what is
+    /// wrong with the names. Learns a step that has a code while there is room.
+    ///
+    /// Takes a few reads of memory for each name and for each atom, fewer for those that were looked up before, and memory for what is new. If memory runs
+    /// out, the plan is over.
+    pub(crate) fn take_row(&mut self, alloc: Global, row: &[u8]) -> Result<RowStep, AllocError>
+        requires { self.old.count < MOST_STEPS }
+        ensures task { self.new.task ≡ self.old.task }
+        ensures spelled { IfOk result (λ came. came ≡ Taken → IsSpelled row.now) }
+        ensures taken { IfOk result (λ came. came ≡ Taken → (steps : List StepText) → HasTaken self.old steps
+            → HasTaken self.new (steps ++ step_spelled row.now ∷ [])) }
+        ensures faulty { IfOk result (λ came. (why : Why) → came ≡ Faulty why → IsSpelled row.now → (steps rest : List StepText) → HasTaken self.old steps
+            → assessment self.old.task (Steps (steps ++ step_spelled row.now ∷ rest)) ≡ record { verdict = Fails (length steps + 1) why; cost = NotCounted }) }
+        ensures not { IfOk result (λ came. came ≢ Taken → (steps : List StepText) → HasTaken self.old steps → HasTaken self.new steps) }
+        ensures count { IfOk result (λ came. came ≢ Taken → self.new.count ≡ self.old.count) }
+    {
+        if !self.names.number(row, &mut self.numbers)? {
+            return Ok(not_taken(&self.task.task, row, self.numbers.as_slice()));
+        }
+        let may_learn = self.may_learn();
+        let numbers = self.numbers.as_slice();
+        let amount = numbered_amount(self.task, numbers, &mut self.cost_scratch)?;
+        let step = NewStep {
+            key: row,
+            numbers,
+            amount,
+            may_learn,
+        };
+        let is_taken = take_new(
+            alloc,
+            self.task,
+            step,
+            &mut self.state,
+            &mut self.memo,
+            &mut self.scratch,
+            &mut self.code,
+        )?;
+        if !is_taken {
+            return Ok(not_taken(&self.task.task, row, numbers));
+        }
+        self.cost = added(self.cost, amount);
+        self.count += 1;
+        Ok(RowStep::Taken)
+    }
+
+    /// Whether steps may be learned: only if known steps are being found, and not too many atoms have numbers.
+    fn may_learn(&self) -> bool {
+        self.usage.asks() && self.state.later_len() <= LATER_TO_LEARN
+    }
+
+    /// Takes a step if it is applicable, and otherwise returns why it is not.
+    ///
+    /// Takes one hash for each word and each atom of the step, and memory for what is new. If memory runs out, the plan is over.
+    pub(crate) fn take(
+        &mut self,
+        alloc: Global,
+        step: StepView<'_>,
+    ) -> Result<Option<Why>, AllocError>
+        requires { self.old.count < MOST_STEPS }
+        ensures task { self.new.task ≡ self.old.task }
+        ensures taken { IfOk result (λ why. IfNone why ((steps : List StepText) → HasTaken self.old steps
+            → HasTaken self.new (steps ++ step_shown step.entry ∷ []))) }
+        ensures fails { IfOk result (λ why. IfSome why (λ why. (steps rest : List StepText) → HasTaken self.old steps
+            → assessment self.old.task (Steps (steps ++ step_shown step.entry ∷ rest)) ≡ record { verdict = Fails (length steps + 1) why; cost = NotCounted })) }
+    {
+        let task = &self.task.task;
+        if let Some(why) = take_step(alloc, task, step, &mut self.state, &mut self.scratch)? {
+            return Ok(Some(why));
+        }
+        let amount = amount_of(self.task, step, &mut self.cost_scratch)?;
+        self.cost = added(self.cost, amount);
+        self.count += 1;
+        Ok(None)
+    }
+
+    /// Why a step of the action of this name, in lower case, is not applicable if it has more arguments than any action has parameters. Takes one
+    /// look-up of the name.
+    pub(crate) fn refusal_of_many(&self, action: &[u8]) -> Why
+        ensures { (args : List (List ℕ)) (steps rest : List StepText) → 32 < length args → HasTaken self.now steps
+            → assessment self.now.task (Steps (steps ++ record { action = action.now; args = args } ∷ rest)) ≡ record { verdict = Fails (length steps + 1) result; cost = NotCounted } }
+    {
+        fault_of_many(&self.task.task, action)
+    }
+
+    /// The assessment of the plan of the steps that were taken: whether the goal holds after them, and what they cost. Takes memory for the
+    /// conditions of the goal that do not hold.
+    pub(crate) fn finish(&self, alloc: Global) -> Result<Assessment, AllocError>
+        ensures answer { IfOk result (λ answer. (steps : List StepText) → HasTaken self.now steps → answer ≡ assessment self.now.task (Steps steps)) }
+        ensures compact { IfOk result (λ answer. IsCompact answer.cost) }
+    {
+        let verdict = judge_goal(alloc, &self.task.task, &self.state, self.count as u32)?;
+        let cost = cost_beside(&self.task.costs, &verdict, self.cost);
+        Ok(Assessment { verdict, cost })
+    }
+
+    /// Whether an atom is true after the steps that were taken. Takes one or two hashes.
+    pub(crate) fn holds(&self, atom: &Atom) -> bool
+        ensures { result ≡ state_of self.now.state atom.now }
+    {
+        self.state.contains(atom)
+    }
+}
+
+/// What came of a row that was not taken, by the numbers of its words before the first that names nothing.
+fn not_taken(task: &Task, row: &[u8], numbers: &[u16]) -> RowStep
+    requires { AreWithin task.now numbers.now }
+    ensures not { result ≢ Taken }
+    ensures faulty { (why : Why) → result ≡ Faulty why → IsNumberedFront task.now (step_spelled row.now) numbers.now → fault task.now (step_spelled row.now) ≡ Some why }
+{
+    match fault_of_row(task, row, numbers) {
+        Some(why) => RowStep::Faulty(why),
+        None => RowStep::NotTaken,
+    }
+}
+
+/// What is wrong with a step of the action of this name that has more arguments than any action has parameters.
+fn fault_of_many(task: &Task, action: &[u8]) -> Why
+    ensures { (args : List (List ℕ)) → 32 < length args → fault task.now (record { action = action.now; args = args }) ≡ Some result }
+{
+    match task.action_named(action) {
+        Some(number) => {
+            // The action has at most 32 parameters.
+            let _action = task.action(number);
+            Why::WrongCount
+        }
+        None => Why::UnknownAction,
+    }
+}

@@ -1,0 +1,95 @@
+//! Steps that are taken by what is known of them.
+ghost use Rattle.std.specs.Prelude.{◌≡◌, false, Some, None, All, IsTrue, IfOk, IfSome};
+ghost use Rattle.strips_task.specs.Spelled.{IsSpelled, step_spelled};
+ghost use Rattle.strips_judge.specs.NumberedState.{state_of};
+ghost use Rattle.strips_judge.specs.Step.{after, hindrance};
+ghost use Rattle.strips_judge.specs.StepNumbers.{AreWithin, IsNumbered};
+ghost use Rattle.text_judge.specs.Learned.{IsAmount, IsLearned, Takes};
+
+use crate::memo::Memo;
+use plan_cost::CostedTask;
+use std::alloc::{AllocError, Global};
+use strips_judge::{
+    CodeBuffer, NumberedState, Scratch, code_of_numbered, take_by_code, take_numbered,
+};
+
+/// Takes the step that a key spells, if it is known and applicable, and returns what it adds to the cost. Otherwise changes nothing. The task
+/// is only there for the contract.
+#[inline(always)]
+pub(crate) fn take_found(
+    _task: &CostedTask,
+    memo: &Memo,
+    state: &mut NumberedState<'_>,
+    key: &[u8],
+) -> Option<u64>
+    requires { All (IsLearned _task.now state.old.atoms) memo.now }
+    ensures spelled { IfSome result (λ amount. IsSpelled key.now) }
+    ensures taken { IfSome result (λ amount. Takes _task.now (state_of state.old) (state_of state.new) (step_spelled key.now) (Some amount)) }
+    ensures not { result ≡ None → state_of state.new ≡ state_of state.old }
+    ensures atoms { state.new.atoms ≡ state.old.atoms }
+    ensures initial { state.new.initial ≡ state.old.initial }
+{
+    let known = memo.find(key)?;
+    if take_by_code(state, known.code) {
+        Some(known.amount)
+    } else {
+        None
+    }
+}
+
+/// A step whose names were found.
+#[derive(Clone, Copy, Debug)]
+pub(crate) struct NewStep<'s> {
+    /// The bytes that spell it.
+    pub key: &'s [u8],
+    /// The numbers of its action and of its objects.
+    pub numbers: &'s [u16],
+    /// What it adds to the cost, if that is defined.
+    pub amount: Option<u128>,
+    /// Whether it may be learned.
+    pub may_learn: bool,
+}
+
+/// Takes a step if it is applicable, and otherwise changes no atom. Returns whether it did. Learns the step first, if it may be learned, is not
+/// known, and has a code and room. If memory runs out, some effects may have happened.
+#[inline(always)]
+pub(crate) fn take_new(
+    alloc: Global,
+    task: &CostedTask,
+    step: NewStep<'_>,
+    state: &mut NumberedState<'_>,
+    memo: &mut Memo,
+    scratch: &mut Scratch,
+    code: &mut CodeBuffer,
+) -> Result<bool, AllocError>
+    requires spelled { IsSpelled step.key.now }
+    requires numbered { IsNumbered task.now.task (step_spelled step.key.now) step.numbers.now }
+    requires within { AreWithin task.now.task step.numbers.now }
+    requires amount { IsAmount task.now.task task.now.costs (step_spelled step.key.now) step.amount }
+    requires learned { All (IsLearned task.now state.old.atoms) memo.old }
+    ensures learned { All (IsLearned task.now state.new.atoms) memo.new }
+    ensures initial { state.new.initial ≡ state.old.initial }
+    ensures taken { IfOk result (λ taken. IsTrue taken
+        → (hindrance task.now.task (state_of state.old) (step_spelled step.entry.key.now) ≡ None)
+        × (state_of state.new ≡ after task.now.task (state_of state.old) (step_spelled step.entry.key.now))) }
+    ensures not { IfOk result (λ taken. taken ≡ false → state_of state.new ≡ state_of state.old) }
+{
+    let Some(amount) = amount_to_learn(memo, step) else {
+        return take_numbered(alloc, &task.task, step.numbers, state, scratch);
+    };
+    if !code_of_numbered(alloc, &task.task, step.numbers, state, scratch, code)? {
+        return Ok(false);
+    }
+    memo.add(step.key, code.code(), amount)?;
+    Ok(take_by_code(state, code.code()))
+}
+
+/// What a step adds to the cost, if it is to be learned: it may be, it is not known, and the amount is defined and has at most 64 bits.
+fn amount_to_learn(memo: &Memo, step: NewStep<'_>) -> Option<u64>
+    ensures { IfSome result (λ amount. step.entry.amount ≡ Some amount) }
+{
+    if !step.may_learn || memo.find(step.key).is_some() {
+        return None;
+    }
+    u64::try_from(step.amount?).ok()
+}

@@ -1,2 +1,0 @@
-pub mod Unmet
-pub mod Reasons

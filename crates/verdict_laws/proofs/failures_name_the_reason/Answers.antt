@@ -1,5 +1,0 @@
-use Rattle.verdict_laws.proofs.Reasons as reasons
-use Rattle.verdict_laws.proofs.failures_name_the_reason.Goals as goal
-
-pub returns : goal.returns
-returns c = reasons.failures_name_the_reason c.args._task.now c.args._plan.now

@@ -1,5 +1,0 @@
-use Rattle.verdict_laws.proofs.Reasons as reasons
-use Rattle.verdict_laws.proofs.missed_goals_name_the_unmet.Goals as goal
-
-pub returns : goal.returns
-returns c = reasons.missed_goals_name_the_unmet c.args._task.now c.args._plan.now
