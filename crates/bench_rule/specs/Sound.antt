@@ -95,7 +95,7 @@ pub record OwnerIs (bench : Bench) (view : View) (book : Book) : Type 0 where
   pub role : view.role ≡ Owner
   pub knows : book_of view ≡ book
 
--- the rule: a bench on which all threads and slots agree
+-- the rule: what the seats know agrees with what is in the slots
 pub record Sound (setting : Setting) (bench : Bench) : Type 0 where
   pub book : Book
   pub owner : (view : View) × OwnerIs bench view book

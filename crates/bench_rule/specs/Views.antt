@@ -169,7 +169,7 @@ KeepsCarried before later = (emitted : Carried) → before.1 ≡ slots_of before
 
 -- the changes of a view, one for each kind of step
 
--- the owner has the first unused slot in its hands
+-- the owner has lifted the first unused slot, to put a job into it
 abbrev pub with_lifted : View → View
 with_lifted view = record view { lifted = true }
 
@@ -189,11 +189,11 @@ with_miss view slot = record view { misses = view.misses ++ slot ∷ [] }
 abbrev pub with_finished : View → ℕ → View
 with_finished view slot = record view { held = without_held slot view.held; finished = view.finished ++ slot ∷ [] }
 
--- the slot is no longer held
+-- the job of the slot was handed back: the slot is no longer held
 abbrev pub with_handed_back : View → ℕ → View
 with_handed_back view slot = record view { held = without_held slot view.held }
 
--- one more finding was emitted for the planner
+-- one more finding of the planner was emitted
 abbrev pub with_emission : View → ℕ → View
 with_emission view planner = record view { emitted = slice_set view.emitted planner (suc (slice_index view.emitted planner)) }
 

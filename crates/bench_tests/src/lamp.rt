@@ -50,9 +50,10 @@ pub(crate) fn steps_if_valid(verdict: &Verdict) -> Option<u32> {
     }
 }
 
-/// Whether a flag is raised before it was checked a hundred million times.
+/// Whether a flag is raised before it was checked two billion times, which takes a second or more: the thread that raises it may have to wait for a
+/// processor.
 pub(crate) fn is_raised_in_time(flag: &AtomicBool) -> bool {
-    for _ in 0..100_000_000u32 {
+    for _ in 0..2_000_000_000u32 {
         if flag.load(Ordering::SeqCst) {
             return true;
         }

@@ -2,7 +2,6 @@
 
 use Rattle.std.proofs.Common.{◌≡◌, ◌++◌, ℕ, List, [], ◌∷◌, length, map, take, drop, Option, Some, None, ap, sym, ◌∙◌, subst, refl, zero, suc, append_assoc, append-nil, arith}
 use Rattle.std.specs.Prelude.{slice_get, option_map, IfSome, Result, Ok, Err, OnOk, is_err, false}
-use Rattle.std.proofs.Math.Seq.{take-append_seam}
 use Rattle.plan_cost.specs.declared.costs.CostedTask.{CostedTask}
 use Rattle.intake_rules.specs.declared.reply.Reply.{Reply}
 use Rattle.intake_rules.specs.Findings.{IsRight, right_finding}
@@ -25,9 +24,6 @@ pub record RunsOn (task : CostedTask) (whole : List Reply) (desk : DeskState) (l
   pub task_is : desk.task ≡ task
   pub whole_is : whole ≡ replies ++ replies_of (replayed desk (map asked left))
 
-pub runs-begin : (task : CostedTask) (desk : DeskState) (steps : List Step) → desk.task ≡ task → RunsOn task (replies_of (replayed desk (map asked steps))) desk steps []
-runs-begin task desk steps same = record { task_is = same; whole_is = refl }
-
 pub runs-more : (task : CostedTask) (whole : List Reply) (desk new : DeskState) (step : Step) (left : List Step) (replies more : List Reply) (answer : Reply)
     → RunsOn task whole desk (step ∷ left) replies → new ≡ desk_after desk (event_of desk (asked step)) (desk_reply desk (event_of desk (asked step))) → answer ≡ desk_reply desk (event_of desk (asked step))
     → more ≡ replies ++ answer ∷ [] → RunsOn task whole new left more
@@ -46,10 +42,6 @@ runs-more task whole desk new step left replies more answer runs state reply pus
 pub runs-end : (task : CostedTask) (whole : List Reply) (desk : DeskState) (replies : List Reply) → RunsOn task whole desk [] replies → replies ≡ whole
 unfolding replayed
 runs-end task whole desk replies runs = sym (runs.whole_is ∙ append-nil replies)
-
-pub runs-part : (task : CostedTask) (whole : List Reply) (desk : DeskState) (left : List Step) (replies : List Reply) → RunsOn task whole desk left replies → replies ≡ take (length replies) whole
-runs-part task whole desk left replies runs =
-    sym (ap (take (length replies)) runs.whole_is ∙ take-append_seam replies (replies_of (replayed desk (map asked left))))
 
 -- a history that leaves a desk, with what the steps then make of it, is lawful and gives out the least jobs
 leaves-replayed : (planners : ℕ) (steps : List Asked) (history : History) (desk : DeskState) → Leaves planners history desk

@@ -5,7 +5,7 @@ use Rattle.std.specs.Prelude.{slice_get}
 use Rattle.std.proofs.Math.ListN.{length-set}
 use Rattle.std.proofs.lemmas.Bool.{cases_lt}
 use Rattle.std.proofs.lemmas.List.{get_or_append_left, get_or_push}
-use Rattle.std.proofs.lemmas.Option.{slice_get-get_or, slice_get_past, slice_get_within}
+use Rattle.std.proofs.lemmas.Option.{slice_get-get_or, slice_get_past}
 
 pub get-set_same : {X : Type 0} (xs : List X) (i : ℕ) (y : X) → i < length xs → slice_get (set xs i y) i ≡ Some y
 get-set_same xs i y within =
@@ -45,7 +45,3 @@ in-filter test (y ∷ ys) k x e = by (test y) refl k e (λ k e. in-filter test y
     by true f zero e rest = (zero, (e, let same : y ≡ x = cc in ap test (sym same) ∙ f))
     by true f (suc k) e rest = let found = rest k e in (suc found.0, found.1)
     by false f k e rest = let found = rest k e in (suc found.0, found.1)
-
--- the index of an element is within
-pub get-some : {X : Type 0} (xs : List X) (i : ℕ) (x d : X) → slice_get xs i ≡ Some x → get_or xs i d ≡ x
-get-some xs i x d e = let h : Some (get_or xs i d) ≡ Some x = sym (slice_get-get_or xs i d (slice_get_within xs i x e)) ∙ e in cc

@@ -16,7 +16,7 @@ pub data Asked : Type 0 where
   to_finish : ℕ → ℕ → Asked
   to_emit : ℕ → Asked
 
--- a step as the definitions see it
+-- a step without the owners of its plan
 abbrev pub asked : Step → Asked
 asked (step.Submit planner plan) = to_submit planner (arc_value plan)
 asked (step.Close planner) = to_close planner

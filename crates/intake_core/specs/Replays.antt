@@ -35,7 +35,7 @@ replies_of history = map (λ pair. pair.1) history
 abbrev pub history_of : CostedTask → ℕ → ℕ → List Asked → History
 history_of task planners slots steps = replayed (record { task = task; slots = slots; intake = empty_intake planners }) steps
 
--- what holds of every history of a desk
+-- what is true of every history of a desk
 pub record Headline (task : CostedTask) (planners slots : ℕ) (history : History) : Type 0 where
   -- each reply is the rules', and each take gives out the least job that waits
   pub lawful : IsLawful planners slots history

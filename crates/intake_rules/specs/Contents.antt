@@ -5,11 +5,11 @@ use Rattle.plan_text.specs.PlanReading.{plan_of}
 use Rattle.strips_task.specs.declared.plans.Plan.{Plan}
 use Rattle.intake_rules.specs.declared.plan.Form.{Form}
 use Rattle.intake_rules.specs.declared.plan.Form.TheVariants as shown
-use Rattle.intake_rules.specs.declared.plan.Kept.{Kept}
-use Rattle.intake_rules.specs.declared.plan.Kept.TheVariants as kept
+use Rattle.intake_rules.specs.declared.plan.KeptPlan.{KeptPlan}
+use Rattle.intake_rules.specs.declared.plan.KeptPlan.TheVariants as kept
 
 -- the plan that is kept: itself, or the plan of its text
-abbrev pub content : Kept → Plan
+abbrev pub content : KeptPlan → Plan
 content (kept.Read plan) = arc_value plan
 content (kept.Text text) = plan_of text
 

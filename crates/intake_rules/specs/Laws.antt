@@ -83,7 +83,7 @@ pub record AnswersStrange (before : History) (job : ℕ) (finding : Finding) (an
   pub not_out : job < length (jobs before) → is_finished job before ≡ false → is_out job before ≡ false → answer ≡ reply.Refused refusal.NotOut
   pub other_plan : is_out job before ≡ true → slice_get (jobs before) job ≢ Some finding.job → answer ≡ reply.Refused refusal.OtherPlan
 
--- a strange finding gets that answer, and a finish without a finding is refused as `UnknownJob`
+-- each strange finding is answered so, and a finish without a finding is refused as `UnknownJob`
 abbrev pub RefusedStrange : History → Type 0
 RefusedStrange history = (index job : ℕ) (found : Option Finding) (answer : Reply) → slice_get history index ≡ Some (finish job found, answer)
     → MatchOption found (answer ≡ reply.Refused refusal.UnknownJob) (λ finding. AnswersStrange (take index history) job finding answer)

@@ -14,12 +14,12 @@ use strips_task::Plan;
 /// A plan that was handed in. Contracts see its content, however it is kept.
 #[derive(Debug, Drop)]
 pub struct SubmittedPlan {
-    kept: Kept,
+    kept: KeptPlan,
 }
 
 /// What is kept of a plan.
 #[derive(Debug, Drop)]
-enum Kept {
+enum KeptPlan {
     /// The plan, which may have other owners as well.
     Read(Arc<Plan>),
     /// Its text, which was not read.
@@ -52,7 +52,7 @@ impl SubmittedPlan {
         ensures { result ≡ arc_value plan }
     {
         SubmittedPlan {
-            kept: Kept::Read(plan),
+            kept: KeptPlan::Read(plan),
         }
     }
 
@@ -61,7 +61,7 @@ impl SubmittedPlan {
         ensures { result ≡ plan_of text }
     {
         SubmittedPlan {
-            kept: Kept::Text(text),
+            kept: KeptPlan::Text(text),
         }
     }
 
@@ -70,8 +70,8 @@ impl SubmittedPlan {
         ensures { content_shown result ≡ self.now }
     {
         match &self.kept {
-            Kept::Read(plan) => Form::Read(plan),
-            Kept::Text(text) => Form::Text(text.as_slice()),
+            KeptPlan::Read(plan) => Form::Read(plan),
+            KeptPlan::Text(text) => Form::Text(text.as_slice()),
         }
     }
 
@@ -92,8 +92,8 @@ impl SubmittedPlan {
         ensures { IfOk result (λ plan. plan ≡ self.now) }
     {
         match &self.kept {
-            Kept::Read(plan) => Ok(SubmittedPlan::from_plan(Arc::try_clone(plan)?)),
-            Kept::Text(text) => Ok(SubmittedPlan::from_text(text.try_clone()?)),
+            KeptPlan::Read(plan) => Ok(SubmittedPlan::from_plan(Arc::try_clone(plan)?)),
+            KeptPlan::Text(text) => Ok(SubmittedPlan::from_text(text.try_clone()?)),
         }
     }
 }

@@ -4,10 +4,9 @@ use Rattle.std.proofs.Common.{◌≡◌, ◌≢◌, ℕ, ◌+◌, ◌<◌, zero,
 use Rattle.std.specs.Prelude.{replicate, cond}
 use Rattle.std.proofs.lemmas.Bool.{eq-eqb, ne_eqb}
 use Rattle.std.proofs.lemmas.List.Elements.{filter-append}
-use Rattle.std.proofs.lemmas.List.FromFn.{get_or-map-range_with_len}
 use Rattle.std.specs.List.{range_with_len}
 use Rattle.intake_rules.specs.declared.finding.Finding.{Finding}
-use Rattle.judge_bench.specs.Findings.{of_planner, by_planner, nothing_kept, kept}
+use Rattle.judge_bench.specs.Findings.{of_planner, by_planner, nothing_kept}
 
 -- where there is no finding, no planner has one
 no_rows : (first planners : ℕ) → map (of_planner []) (range_with_len first planners) ≡ replicate planners []
@@ -55,10 +54,3 @@ module _ (findings : List Finding) (finding : Finding) where
   rows first (suc planners) (suc index) at within =
       let apart : planner ≢ first = λ e. omega arith in
       (λ i. another_row first apart i ∷ rows (first + 1) planners index (omega arith) (omega arith) i)
-
-  pub one_more_kept : (planners : ℕ) → planner < planners → kept (by_planner planners findings) finding ≡ by_planner planners more
-  one_more_kept planners within =
-      let at : 0 + planner ≡ planner = omega arith in
-      ap (λ l. slice_set (by_planner planners findings) planner (l ++ finding ∷ []))
-      (get_or-map-range_with_len (of_planner findings) 0 planners planner planner [] within at)
-      ∙ sym (rows 0 planners planner at within)

@@ -1,7 +1,7 @@
 -- A planner's next job, by the count of its jobs before a slot and by the list of its jobs.
 
 use Rattle.std.proofs.Common.{◌≡◌, ◌<◌, ◌≤◌, ℕ, zero, suc, ◌+◌, Bool, true, false, cond, List, [], ◌∷◌, length, slice_get, slice_index, Some, refl, sym, ap, ◌∙◌, subst, arith}
-use Rattle.std.specs.Prelude.{None, if◌then◌else◌, slice_index_or}
+use Rattle.std.specs.Prelude.{None, if◌then◌else◌}
 use Rattle.std.specs.List.{filter}
 use Rattle.std.proofs.lemmas.Option.{slice_get_past}
 use Rattle.std.proofs.lemmas.Bool.{lt-ltb}
@@ -9,7 +9,7 @@ use Rattle.intake_rules.specs.declared.refusal.Refusal.TheVariants.{NoPlanner, N
 use Rattle.intake_rules.specs.declared.reply.Reply.TheVariants.{Refused}
 use Rattle.intake_rules.specs.Intake.{has_planner, is_of, jobs_of, next_job}
 use Rattle.intake_rules.specs.Jobs.{AcceptedPlan}
-use Rattle.intake_rules.specs.Rules.{emit_reply, emit_reply_of, nothing_left}
+use Rattle.intake_rules.specs.Rules.{emit_reply, emit_reply_of}
 use Rattle.bench_rule.specs.declared.views.View.{View}
 use Rattle.bench_rule.specs.Views.{IsNext, one_if, planners_of, rank}
 use Rattle.bench_rule.proofs.Ranks.{job_by_rank}
@@ -44,13 +44,6 @@ pub next_by_count : (view : View) (slot planner : ℕ) → Numbered view.jobs �
     → (job : AcceptedPlan) × IsNext view slot job × (job.planner ≡ planner) × (job.number ≡ slot)
 next_by_count view slot planner numbered there counted inside = let (job, at, his) = job_there view.jobs slot planner there in
     (job, record { job_of_slot = at; next = subst (λ p. rank view.jobs p slot ≡ slice_index view.emitted p) (sym his) counted; planner_within = subst (λ p. p < length view.emitted) (sym his) inside }, his, numbered slot job at)
-
--- what an emit answers for a planner that has no next job
-pub nothing_left_reply : (view : View) (planner : ℕ) (closed : Bool) → planner < length view.closed → next_job (accepted_intake view) planner ≡ None → slice_index_or view.closed planner false ≡ closed
-    → emit_reply (accepted_intake view) planner ≡ Refused (nothing_left closed)
-nothing_left_reply view planner closed inside none is = let known : has_planner (accepted_intake view) planner ≡ true = lt-ltb planner (length view.closed) inside in
-    ap (λ b. if b then emit_reply_of (accepted_intake view) planner (next_job (accepted_intake view) planner) else Refused NoPlanner) known
-    ∙ (ap (emit_reply_of (accepted_intake view) planner) none ∙ ap (λ b. Refused (nothing_left b)) is)
 
 -- and for one whose next job is not known to be finished
 pub not_ready_reply : (view : View) (planner slot : ℕ) (job : AcceptedPlan) → planner < length view.closed → next_job (accepted_intake view) planner ≡ Some job → job.number ≡ slot

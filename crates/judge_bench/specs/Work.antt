@@ -23,7 +23,7 @@ EndsFor MayHold slots idle missed later (Some OutOfMemory) = ⊤
 EndsFor MayHold slots idle missed later (Some (Held job)) = MayHold job
 EndsFor MayHold slots idle missed later (Some Idle) = HasPasses slots idle missed
 
--- a seat that worked: it holds what it held before, knows more slots to be finished, has more misses, and ended for a reason
+-- what is true of a seat after its work: it holds the same slots as before, it may have finished and missed more, and there is a reason why it ended
 pub record Worked (MayHold : ℕ → Type 0) (slots idle : ℕ) (before later : View) (refused : Option WorkFault) : Type 0 where
   pub held : later.held ≡ before.held
   pub finished : (more : List ℕ) × (later.finished ≡ before.finished ++ more)

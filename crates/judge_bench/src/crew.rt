@@ -40,28 +40,53 @@ impl<G: Gate> Promise<Ended> for WorksAt<G> {
 /// The workers that were started and not joined.
 pub(crate) type Crew<G> = Vec<PromisedHandle<Ended, WorksAt<G>>>;
 
-/// Starts `workers` workers. If a thread can't be started, its seat is lost, and `crew` has those that were started before.
+/// What the threads of a run share.
+pub(crate) struct Shared<'s, G> {
+    pub(crate) alloc: Global,
+    pub(crate) bench: &'s Bench,
+    pub(crate) task: &'s CostedTask,
+    pub(crate) gate: &'s G,
+    /// How many planners there are.
+    pub(crate) planners: u32,
+    /// How many workers are threads of their own.
+    pub(crate) threads: u32,
+}
+
+impl<G> Drop for Shared<'_, G> {
+    fn drop(self) {
+        let Self {
+            alloc: _,
+            bench: _,
+            task: _,
+            gate: _,
+            planners: _,
+            threads: _,
+        } = self;
+    }
+}
+
+/// Starts all workers that are threads of their own. If a thread can't be started, its seat is lost, and `crew` has those that were started before.
 pub(crate) fn start_all<'s, E, G: Gate + Sync>(
     scope: &Scope<'s, E>,
-    alloc: Global,
+    shared: &Shared<'s, G>,
     crew: &mut Crew<G>,
-    bench: &'s Bench,
     owner: &mut Owner,
-    task: &'s CostedTask,
-    workers: u32,
-    gate: &'s G,
 ) -> Result<(), NoThread>
-    requires seat { SitsAt bench.now owner.old }
-    requires task { bench.now.setting.task.value ≡ task.now }
-    requires few { owner.old.view.seats_out + workers ≤ 1024 }
-    requires crew { (crew.old.items ≡ []) × (vec_len crew.old ≡ 0) × (workers ≤ vec_capacity crew.old) }
-    ensures seat { SitsAt bench.now owner.new }
-    ensures crew { AllWorkAt bench.now gate.now crew.new.items }
-    ensures count { OnOk result (length crew.new.items ≡ workers) }
-    ensures view { OnOk result (owner.new.view ≡ with_all_out owner.old.view workers) }
+    requires seat { SitsAt shared.now.bench.now owner.old }
+    requires task { shared.now.bench.now.setting.task.value ≡ shared.now.task.now }
+    requires few { owner.old.view.seats_out + shared.now.threads ≤ 1024 }
+    requires crew { (crew.old.items ≡ []) × (vec_len crew.old ≡ 0) × (shared.now.threads ≤ vec_capacity crew.old) }
+    ensures seat { SitsAt shared.now.bench.now owner.new }
+    ensures crew { AllWorkAt shared.now.bench.now shared.now.gate.now crew.new.items }
+    ensures count { OnOk result (length crew.new.items ≡ shared.now.threads) }
+    ensures view { OnOk result (owner.new.view ≡ with_all_out owner.old.view shared.now.threads) }
 {
-    let judges = workers + 1;
-    for number in 0..workers {
+    let alloc = shared.alloc;
+    let bench = shared.bench;
+    let task = shared.task;
+    let gate = shared.gate;
+    let judges = shared.threads + 1;
+    for number in 0..shared.threads {
         let mut seat = owner.seat(bench);
         seat.begin_apart(bench, number + 1, judges);
         let promise = WorksAt {
@@ -98,23 +123,28 @@ fn whole_work<G: Gate>(
 /// The owner's thread works as the others do, as one of `judges`, with a seat of its own, until it finds no job that waits and the bench is shut.
 /// Returns the job for which it ended, if the gate held one.
 pub(crate) fn take_part<G: Gate>(
-    alloc: Global,
-    bench: &Bench,
+    shared: &Shared<'_, G>,
     owner: &mut Owner,
-    task: &CostedTask,
-    gate: &G,
     judges: u32,
 ) -> Option<u32>
-    requires seat { SitsAt bench.now owner.old }
+    requires seat { SitsAt shared.now.bench.now owner.old }
     requires few { owner.old.view.seats_out < 1024 }
-    requires task { bench.now.setting.task.value ≡ task.now }
-    ensures seat { SitsAt bench.now owner.new }
+    requires task { shared.now.bench.now.setting.task.value ≡ shared.now.task.now }
+    ensures seat { SitsAt shared.now.bench.now owner.new }
     ensures view { (more : List ℕ) × (owner.new.view ≡ with_more_finished owner.old.view more) }
-    ensures held { IfSome result (G.may_hold gate.now) }
+    ensures held { IfSome result (G.may_hold shared.now.gate.now) }
 {
+    let bench = shared.bench;
     let mut seat = owner.seat(bench);
     seat.begin_apart(bench, 0, judges);
-    let Ended { seat, refused } = whole_work(alloc, bench, seat, task, gate, judges);
+    let Ended { seat, refused } = whole_work(
+        shared.alloc,
+        bench,
+        seat,
+        shared.task,
+        shared.gate,
+        judges,
+    );
     owner.hand_in(bench, seat);
     first_held(None, refused)
 }
@@ -122,22 +152,21 @@ pub(crate) fn take_part<G: Gate>(
 /// Waits for all workers and hands their seats in. Returns the job of the first of them that ended because its job was held.
 pub(crate) fn join_all<R: Threads, G: Gate>(
     rt: &R,
+    shared: &Shared<'_, G>,
     crew: Crew<G>,
-    bench: &Bench,
     owner: &mut Owner,
-    gate: &G,
 ) -> Option<u32>
-    requires seat { SitsAt bench.now owner.old }
-    requires crew { AllWorkAt bench.now gate.now crew.items }
-    ensures seat { SitsAt bench.now owner.new }
+    requires seat { SitsAt shared.now.bench.now owner.old }
+    requires crew { AllWorkAt shared.now.bench.now shared.now.gate.now crew.items }
+    ensures seat { SitsAt shared.now.bench.now owner.new }
     ensures view { (more : List ℕ) × (owner.new.view ≡ with_all_joined owner.old.view (length crew.items) more) }
-    ensures held { IfSome result (G.may_hold gate.now) }
+    ensures held { IfSome result (G.may_hold shared.now.gate.now) }
 {
     let mut held = None;
     for child in crew {
         let Ended { seat, refused } = child.join(rt);
         held = first_held(held, refused);
-        owner.hand_in(bench, seat);
+        owner.hand_in(shared.bench, seat);
     }
     held
 }

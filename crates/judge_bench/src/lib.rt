@@ -24,11 +24,11 @@
 #![tactic(auto)]
 
 mod bench;
+mod collector;
 mod crew;
 mod findings;
 mod gate;
 mod intake;
-mod keeper;
 mod owner;
 mod running;
 mod submission;

@@ -9,8 +9,8 @@ ghost use Rattle.judge_bench.specs.Seats.{SitsAt};
 ghost use Rattle.judge_bench.specs.Workers.{AllWorkAt};
 ghost use Rattle.judge_bench.specs.declared.running.RunFault.TheVariants.{Held};
 
-use crate::crew::{Crew, NoThread, join_all, start_all, take_part};
-use crate::keeper::Keeper;
+use crate::collector::Collector;
+use crate::crew::{Crew, NoThread, Shared, join_all, start_all, take_part};
 use crate::{Bench, Findings, Gate, Intake};
 use plan_cost::CostedTask;
 use std::alloc::{AllocError, Global};
@@ -83,148 +83,111 @@ pub fn run<R: Threads + Wait + Sync, I: Intake, G: Gate + Sync>(
     let findings = Findings::new(alloc, planners)?;
     let threads = workers - 1;
     let crew = Crew::with_capacity(alloc, threads as usize)?;
-    let keeper = Keeper { owner, findings };
-    run_at(
-        rt, alloc, &bench, keeper, crew, task, planners, intake, threads, gate,
-    )
+    let collector = Collector { owner, findings };
+    let shared = Shared {
+        alloc,
+        bench: &bench,
+        task,
+        gate,
+        planners,
+        threads,
+    };
+    run_at(rt, &shared, collector, crew, intake)
 }
 
 /// A run at a bench that was made for it.
 fn run_at<R: Threads + Wait + Sync, I: Intake, G: Gate + Sync>(
     rt: &R,
-    alloc: Global,
-    bench: &Bench,
-    keeper: Keeper,
+    shared: &Shared<'_, G>,
+    collector: Collector,
     crew: Crew<G>,
-    task: &CostedTask,
-    planners: u32,
     intake: &mut I,
-    threads: u32,
-    gate: &G,
 ) -> Result<Findings, RunFault>
-    requires ready { IsReady bench.now task.now planners keeper.owner keeper.findings }
-    requires crew { (crew.items ≡ []) × (vec_len crew ≡ 0) × (threads ≤ vec_capacity crew) × (threads ≤ 32) }
-    requires plans { MayRun bench.now.setting.slots planners (I.to_come intake.old) }
-    ensures { FoundOrHeld task.now planners (I.to_come intake.old) (G.may_hold gate.now) result }
+    requires ready { IsReady shared.now.bench.now shared.now.task.now shared.now.planners collector.owner collector.findings }
+    requires crew { (crew.items ≡ []) × (vec_len crew ≡ 0) × (shared.now.threads ≤ vec_capacity crew) × (shared.now.threads ≤ 32) }
+    requires plans { MayRun shared.now.bench.now.setting.slots shared.now.planners (I.to_come intake.old) }
+    ensures { FoundOrHeld shared.now.task.now shared.now.planners (I.to_come intake.old) (G.may_hold shared.now.gate.now) result }
 {
     thread::scope(
         thread::scope_env(),
         rt,
         |scope| -> Result<Findings, RunFault>
-            requires { IsReady bench.now task.now planners keeper.owner keeper.findings × (crew.items ≡ []) × (vec_len crew ≡ 0) × (threads ≤ vec_capacity crew) × (threads ≤ 32) × MayRun bench.now.setting.slots planners (I.to_come intake.now) }
-            ensures { FoundOrHeld task.entry.now planners (I.to_come intake.entry.now) (G.may_hold gate.entry.now) result }
-        {
-            conduct(
-                scope, rt, alloc, bench, keeper, crew, task, planners, intake, threads, gate,
-            )
-        },
+            requires { IsReady shared.now.bench.now shared.now.task.now shared.now.planners collector.owner collector.findings × (crew.items ≡ []) × (vec_len crew ≡ 0) × (shared.now.threads ≤ vec_capacity crew) × (shared.now.threads ≤ 32) × MayRun shared.now.bench.now.setting.slots shared.now.planners (I.to_come intake.now) }
+            ensures { FoundOrHeld shared.entry.now.task.now shared.entry.now.planners (I.to_come intake.entry.now) (G.may_hold shared.entry.now.gate.now) result }
+        { run_in_scope(scope, rt, shared, collector, crew, intake) },
     )
 }
 
 /// The owner's part of a run.
-fn conduct<'s, E, R: Threads, I: Intake, G: Gate + Sync>(
+fn run_in_scope<'s, E, R: Threads, I: Intake, G: Gate + Sync>(
     scope: &Scope<'s, E>,
     rt: &R,
-    alloc: Global,
-    bench: &'s Bench,
-    mut keeper: Keeper,
+    shared: &Shared<'s, G>,
+    mut collector: Collector,
     mut crew: Crew<G>,
-    task: &'s CostedTask,
-    planners: u32,
     intake: &mut I,
-    threads: u32,
-    gate: &'s G,
 ) -> Result<Findings, RunFault>
-    requires ready { IsReady bench.now task.now planners keeper.owner keeper.findings }
-    requires crew { (crew.items ≡ []) × (vec_len crew ≡ 0) × (threads ≤ vec_capacity crew) × (threads ≤ 32) }
-    requires plans { MayRun bench.now.setting.slots planners (I.to_come intake.old) }
-    ensures { FoundOrHeld task.now planners (I.to_come intake.old) (G.may_hold gate.now) result }
+    requires ready { IsReady shared.now.bench.now shared.now.task.now shared.now.planners collector.owner collector.findings }
+    requires crew { (crew.items ≡ []) × (vec_len crew ≡ 0) × (shared.now.threads ≤ vec_capacity crew) × (shared.now.threads ≤ 32) }
+    requires plans { MayRun shared.now.bench.now.setting.slots shared.now.planners (I.to_come intake.old) }
+    ensures { FoundOrHeld shared.now.task.now shared.now.planners (I.to_come intake.old) (G.may_hold shared.now.gate.now) result }
 {
-    match attend(
-        scope,
-        alloc,
-        bench,
-        &mut keeper,
-        &mut crew,
-        task,
-        planners,
-        intake,
-        threads,
-        gate,
-    ) {
-        Ok(()) => see_through(rt, alloc, bench, keeper, crew, task, planners, gate),
+    match start_and_submit(scope, shared, &mut collector, &mut crew, intake) {
+        Ok(()) => drain(rt, shared, collector, crew),
         Err(fault) => {
-            keeper.owner.shut(bench);
-            let _held = join_all(rt, crew, bench, &mut keeper.owner, gate);
+            collector.owner.shut(shared.bench);
+            let _held = join_all(rt, shared, crew, &mut collector.owner);
             Err(fault)
         }
     }
 }
 
 /// The rest of a run once all plans are accepted: the owner's thread takes part, waits for the other threads, and judges what is left.
-fn see_through<R: Threads, G: Gate + Sync>(
+fn drain<R: Threads, G: Gate + Sync>(
     rt: &R,
-    alloc: Global,
-    bench: &Bench,
-    mut keeper: Keeper,
+    shared: &Shared<'_, G>,
+    mut collector: Collector,
     crew: Crew<G>,
-    task: &CostedTask,
-    planners: u32,
-    gate: &G,
 ) -> Result<Findings, RunFault>
-    requires seat { SitsAt bench.now keeper.owner }
-    requires setting { (bench.now.setting.task.value ≡ task.now) × (bench.now.setting.planners ≡ planners) }
-    requires crew { AllWorkAt bench.now gate.now crew.items × (length crew.items ≤ 32) }
-    requires out { (keeper.owner.view.seats_out ≡ length crew.items) × (keeper.owner.view.held ≡ []) }
-    requires jobs { Numbered keeper.owner.view.jobs }
-    requires kept { KeptFindings task.now planners keeper.owner.view keeper.findings }
-    ensures findings { IfOk result (λ findings. findings ≡ by_planner planners (map (right_finding task.now) keeper.owner.view.jobs)) }
-    ensures held { IfErr result (λ fault. (job : ℕ) → fault ≡ Held job → G.may_hold gate.now job) }
+    requires seat { SitsAt shared.now.bench.now collector.owner }
+    requires setting { (shared.now.bench.now.setting.task.value ≡ shared.now.task.now) × (shared.now.bench.now.setting.planners ≡ shared.now.planners) }
+    requires crew { AllWorkAt shared.now.bench.now shared.now.gate.now crew.items × (length crew.items ≤ 32) }
+    requires out { (collector.owner.view.seats_out ≡ length crew.items) × (collector.owner.view.held ≡ []) }
+    requires jobs { Numbered collector.owner.view.jobs }
+    requires kept { KeptFindings shared.now.task.now shared.now.planners collector.owner.view collector.findings }
+    ensures findings { IfOk result (λ findings. findings ≡ by_planner shared.now.planners (map (right_finding shared.now.task.now) collector.owner.view.jobs)) }
+    ensures held { IfErr result (λ fault. (job : ℕ) → fault ≡ Held job → G.may_hold shared.now.gate.now job) }
 {
-    keeper.owner.shut(bench);
+    collector.owner.shut(shared.bench);
     let judges = crew.len() as u32 + 1;
-    let own = take_part(alloc, bench, &mut keeper.owner, task, gate, judges);
-    let others = join_all(rt, crew, bench, &mut keeper.owner, gate);
+    let own = take_part(shared, &mut collector.owner, judges);
+    let others = join_all(rt, shared, crew, &mut collector.owner);
     match others.or(own) {
         Some(job) => Err(RunFault::Held(job)),
-        None => Ok(keeper.finish(alloc, bench, task, planners)?),
+        None => Ok(collector.finish(shared.alloc, shared.bench, shared.task, shared.planners)?),
     }
 }
 
 /// Starts the workers that are threads of their own, accepts all plans, and closes all planners.
-fn attend<'s, E, I: Intake, G: Gate + Sync>(
+fn start_and_submit<'s, E, I: Intake, G: Gate + Sync>(
     scope: &Scope<'s, E>,
-    alloc: Global,
-    bench: &'s Bench,
-    keeper: &mut Keeper,
+    shared: &Shared<'s, G>,
+    collector: &mut Collector,
     crew: &mut Crew<G>,
-    task: &'s CostedTask,
-    planners: u32,
     intake: &mut I,
-    threads: u32,
-    gate: &'s G,
 ) -> Result<(), RunFault>
-    requires ready { IsReady bench.now task.now planners keeper.old.owner keeper.old.findings }
-    requires crew { (crew.old.items ≡ []) × (vec_len crew.old ≡ 0) × (threads ≤ vec_capacity crew.old) × (threads ≤ 32) }
-    requires plans { MayRun bench.now.setting.slots planners (I.to_come intake.old) }
-    ensures seat { SitsAt bench.now keeper.new.owner }
-    ensures crew { AllWorkAt bench.now gate.now crew.new.items }
-    ensures count { OnOk result (length crew.new.items ≡ threads) }
-    ensures accepted { OnOk result (AllAccepted (I.to_come intake.old) (length crew.new.items) keeper.new.owner.view) }
-    ensures kept { OnOk result (KeptFindings task.now planners keeper.new.owner.view keeper.new.findings) }
+    requires ready { IsReady shared.now.bench.now shared.now.task.now shared.now.planners collector.old.owner collector.old.findings }
+    requires crew { (crew.old.items ≡ []) × (vec_len crew.old ≡ 0) × (shared.now.threads ≤ vec_capacity crew.old) × (shared.now.threads ≤ 32) }
+    requires plans { MayRun shared.now.bench.now.setting.slots shared.now.planners (I.to_come intake.old) }
+    ensures seat { SitsAt shared.now.bench.now collector.new.owner }
+    ensures crew { AllWorkAt shared.now.bench.now shared.now.gate.now crew.new.items }
+    ensures count { OnOk result (length crew.new.items ≡ shared.now.threads) }
+    ensures accepted { OnOk result (AllAccepted (I.to_come intake.old) (length crew.new.items) collector.new.owner.view) }
+    ensures kept { OnOk result (KeptFindings shared.now.task.now shared.now.planners collector.new.owner.view collector.new.findings) }
     ensures held { IfErr result (λ fault. (job : ℕ) → fault ≢ Held job) }
 {
-    start_all(
-        scope,
-        alloc,
-        crew,
-        bench,
-        &mut keeper.owner,
-        task,
-        threads,
-        gate,
-    )?;
-    keeper.accept_all(bench, intake)?;
-    keeper.close_all(bench, planners);
+    start_all(scope, shared, crew, &mut collector.owner)?;
+    collector.accept_all(shared.bench, intake)?;
+    collector.close_all(shared.bench, shared.planners);
     Ok(())
 }

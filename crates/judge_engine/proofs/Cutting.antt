@@ -2,12 +2,11 @@
 
 use Rattle.std.proofs.Common.{◌≡◌, ℕ, zero, suc, ◌+◌, ◌<◌, List, [], ◌∷◌, ◌++◌, Option, length, map, take, get_or, ap, sym, ◌∙◌, arith, append_assoc, append-nil}
 use Rattle.std.specs.Prelude.{slice_range}
-use Rattle.std.proofs.lemmas.List.{get_or_default, take_more, length-append, length-map, length-take, map-append}
+use Rattle.std.proofs.lemmas.List.{get_or_default, take_more, length-append, length-map, length-take}
 use Rattle.judge_bench.specs.Submissions.{SubmissionParts}
 use Rattle.plan_text.specs.Bundle.{parts, parts_from, parts_behind}
 use Rattle.judge_engine.specs.Bundle.{BundleValue}
-use Rattle.judge_engine.specs.Plans.{bytes_of, plan_of_cut, plan_of_part, plans_of_cuts, plans_of_file, plans_of_files}
-use Rattle.judge_engine.specs.declared.plans.Cut.{Cut}
+use Rattle.judge_engine.specs.Plans.{bytes_of, plan_of_part, plans_of_file, plans_of_files}
 
 -- the plans of the parts from an index on
 abbrev pub plans_from : ℕ → List ℕ → ℕ → List SubmissionParts
@@ -24,26 +23,6 @@ pub plans_are : (bundles : List BundleValue) (i : ℕ) (bundle : BundleValue) �
     → map (plan_of_part i) (parts (bytes_of bundles i)) ≡ plans_of_file i bundle
 unfolding plans_of_file
 plans_are bundles i bundle lt is = ap (λ (bytes : List ℕ). map (plan_of_part i) (parts bytes)) (bytes_are bundles i bundle lt is)
-
--- one part more
-part_more : (planner : ℕ) (bytes : List ℕ) (start end : ℕ) (next : Option ℕ) (plans more : List SubmissionParts)
-    → parts_from bytes start ≡ slice_range bytes start end ∷ parts_behind bytes next
-    → more ≡ plans ++ plan_of_part planner (slice_range bytes start end) ∷ []
-    → more ++ map (plan_of_part planner) (parts_behind bytes next) ≡ plans ++ plans_from planner bytes start
-part_more planner bytes start end next plans more first pushed =
-    ap (λ l. l ++ map (plan_of_part planner) (parts_behind bytes next)) pushed
-    ∙ append_assoc plans (plan_of_part planner (slice_range bytes start end) ∷ []) (map (plan_of_part planner) (parts_behind bytes next))
-    ∙ ap (λ l. plans ++ map (plan_of_part planner) l) (sym first)
-
--- one range more
-pub cut_more : (bundles : List BundleValue) (cut : Cut) (next : Option ℕ) (cuts more : List Cut)
-    → parts_from (bytes_of bundles cut.planner) cut.start ≡ slice_range (bytes_of bundles cut.planner) cut.start cut.end ∷ parts_behind (bytes_of bundles cut.planner) next
-    → more ≡ cuts ++ cut ∷ []
-    → plans_of_cuts bundles more ++ map (plan_of_part cut.planner) (parts_behind (bytes_of bundles cut.planner) next)
-    ≡ plans_of_cuts bundles cuts ++ plans_from cut.planner (bytes_of bundles cut.planner) cut.start
-cut_more bundles cut next cuts more first pushed =
-    part_more cut.planner (bytes_of bundles cut.planner) cut.start cut.end next (plans_of_cuts bundles cuts) (plans_of_cuts bundles more) first
-    (ap (plans_of_cuts bundles) pushed ∙ map-append (plan_of_cut bundles) cuts (cut ∷ []))
 
 -- there is one part more at least
 pub parts_past : (planner : ℕ) (bytes : List ℕ) (start end : ℕ) (next : Option ℕ) (old plans : List SubmissionParts)

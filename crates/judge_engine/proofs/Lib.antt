@@ -9,7 +9,7 @@ pub mod TextFaults
 pub mod TooLarge
 pub mod Writing
 pub mod Tallies
-pub mod Standing
+pub mod ReportPosition
 pub mod PlanCounts
 pub mod Files
 pub mod Texts

@@ -26,8 +26,3 @@ count_all bundles i h = ap plan_count (take_all i bundles h)
 pub count_none : (bundles : List BundleValue) → plan_count (take 0 bundles) ≡ 0
 unfolding plan_count
 count_none bundles = refl
-
--- and so does each
-pub count_each : (bundles : List BundleValue) (i : ℕ) (bundle : BundleValue) → i < length bundles → bundle ≡ get_or bundles i bundle
-    → length (parts bundle.bytes) ≤ plan_count bundles
-count_each bundles i bundle lt is = omega (arith, count_more bundles i bundle lt is, count_front bundles (i + 1))

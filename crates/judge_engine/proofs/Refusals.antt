@@ -15,9 +15,7 @@ use Rattle.judge_engine.specs.declared.fault.JudgeFault.TheVariants.{TooLarge, T
 use Rattle.judge_engine.specs.Bundle.{BundleValue}
 use Rattle.explanations.specs.AllValid.{task_in}
 use Rattle.judge_engine.specs.Answer.{too_large, plan_count, most_planners, most_plans}
-use Rattle.judge_bench.specs.declared.running.RunFault.{RunFault}
-use Rattle.judge_bench.specs.declared.running.RunFault.TheVariants as run
-use Rattle.judge_engine.specs.Refusal.{IsOfTexts, ReadingCallsFor, TextsCallForIn, IsFaultOf, refusal_of_run}
+use Rattle.judge_engine.specs.Refusal.{IsOfTexts, ReadingCallsFor, TextsCallForIn, IsFaultOf}
 use Rattle.judge_engine.proofs.TextFaults.{text_fault_kind}
 
 -- a refusal that is not for memory is of a fault that is not either
@@ -128,15 +126,3 @@ pub plans_no_size : {P : Type 0} (fault : JudgeFault) → (IsOfTexts fault → (
 plans_no_size fault told n is =
     let plans = told (subst IsOfTexts (sym is) tt) in
     let clash : TooManyPlans ≡ TooLarge n = sym plans.0 ∙ is in cc
-
--- a fault of the run does not lie in the texts
-pub run_not_in_texts : (fault : RunFault) → IsOfTexts (refusal_of_run fault) → ⊥
-run_not_in_texts run.OutOfMemory h = h
-run_not_in_texts run.NoThread h = h
-run_not_in_texts (run.Held job) h = h
-
--- and where it is that a job is held, it is so for that job
-pub held_in_run : (fault : RunFault) (job : ℕ) → refusal_of_run fault ≡ Held job → fault ≡ run.Held job
-held_in_run run.OutOfMemory job is = let clash : OutOfMemory ≡ Held job = is in cc
-held_in_run run.NoThread job is = let clash : NoThread ≡ Held job = is in cc
-held_in_run (run.Held other) job is = let both : Held other ≡ Held job = is in let same : other ≡ job = cc in ap (λ (n : ℕ). run.Held n) same

@@ -17,7 +17,7 @@ abbrev pub format_named : List ℕ → Option Format
 format_named name =
     if bytes_eq name (codes "lines") then Some Lines else if bytes_eq name (codes "tsv") then Some Table else if bytes_eq name (codes "json") then Some Json else None
 
--- the words of a command line, the first of which is the program's name, ask what is wrong, which is written also if something is
+-- whether the command is `explain` or `validate`, which write their answer even if something is wrong; the first word is the program's name
 abbrev pub asks_what_is_wrong : List (List ℕ) → Bool
 asks_what_is_wrong words = has_command (codes "explain") words || has_command (codes "validate") words
 

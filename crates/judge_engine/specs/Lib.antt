@@ -11,5 +11,5 @@ pub mod Requests
 pub mod Run
 pub mod Status
 pub mod Tally
-pub mod Standing
+pub mod ReportPosition
 pub mod CommandLine

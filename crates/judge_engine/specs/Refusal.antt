@@ -70,6 +70,6 @@ TextsCallForIn dialect domain problem bundles OutOfMemory = ⊥
 TextsCallForIn dialect domain problem bundles NoThread = ⊥
 TextsCallForIn dialect domain problem bundles (Held job) = ⊥
 
--- the refusal that the texts call for in the default dialect
+-- whether a fault is the right one for these texts, in the default dialect
 abbrev pub TextsCallFor : List ℕ → List ℕ → List BundleValue → JudgeFault → Type 0
 TextsCallFor domain problem bundles fault = TextsCallForIn Strips domain problem bundles fault

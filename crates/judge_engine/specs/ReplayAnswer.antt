@@ -71,6 +71,6 @@ ReplayCallsForIn dialect domain problem steps OutOfMemory = ⊥
 ReplayCallsForIn dialect domain problem steps NoThread = ⊥
 ReplayCallsForIn dialect domain problem steps (Held job) = ⊥
 
--- the refusal that the texts call for in the default dialect
+-- whether a fault is the right one for these texts, in the default dialect
 abbrev pub ReplayCallsFor : List ℕ → List ℕ → List ℕ → JudgeFault → Type 0
 ReplayCallsFor domain problem steps fault = ReplayCallsForIn Strips domain problem steps fault

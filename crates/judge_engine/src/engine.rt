@@ -2,7 +2,7 @@
 //!
 //! [`judge_bytes`] reads the domain and the problem, cuts the planners' files into plans, has these read and judged on several threads, and
 //! makes the whole report. Its contract says that the report is the stated function of the bytes that came in, for any number of threads.
-ghost use Rattle.std.specs.Prelude.{◌≡◌, ◌≢◌, ◌↔◌, ◌<◌, ◌≤◌, ◌++◌, [], ℕ, length, map, IfOk, IfErr, Some, None, Err};
+ghost use Rattle.std.specs.Prelude.{◌≡◌, ◌≢◌, ◌↔◌, ◌<◌, ◌≤◌, ℕ, length, map, IfOk, IfErr, Some, None, Err};
 ghost use Rattle.pddl_syntax.specs.declared.fault.ReadFault as read_fault;
 ghost use Rattle.pddl_syntax.specs.Trees.{text_fault};
 ghost use Rattle.explanations.specs.AllValid.{task_in};
@@ -10,7 +10,6 @@ ghost use Rattle.judge_bench.specs.Findings.{findings_of};
 ghost use Rattle.judge_engine.specs.Answer.{answer, answer_as, planner_of, too_large, plan_count, most_planners, most_plans};
 ghost use Rattle.judge_engine.specs.Plans.{AreCutsOf, handed_in, plans_of_cuts, plans_of_files};
 ghost use Rattle.judge_engine.specs.Refusal.{IsOfTexts, ReadingCallsFor, TextsCallFor, TextsCallForIn};
-ghost use Rattle.judge_engine.specs.Standing.{start_of, rest_text};
 ghost use Rattle.report_text.specs.Format.{report};
 ghost use Rattle.judge_engine.specs.declared.fault.Input.{Input};
 ghost use Rattle.judge_engine.specs.declared.fault.JudgeFault.TheVariants.{OutOfMemory, TooLarge, TooManyPlanners, TooManyPlans, Domain, Held};
@@ -18,7 +17,7 @@ ghost use Rattle.judge_engine.specs.declared.fault.JudgeFault.TheVariants.{OutOf
 use crate::bundle::Bundle;
 use crate::fault::{Input, JudgeFault};
 use crate::inlet::FILE_LIMIT;
-use crate::planner::{push_plans, push_sum};
+use crate::planner::{push_planner_line, push_plans};
 use crate::plans::{Cut, CutPlans, cut_plans};
 use crate::report::Report;
 use judge_bench::{Findings, Gate, run};
@@ -233,7 +232,7 @@ fn report_of<R: Threads + Wait + Sync, G: Gate + Sync>(
     }
     let findings = judge_together(rt, alloc, input, task, cuts, gate)?;
     let last = push_plans(&mut text, format, task, bundles, cuts, &findings)?;
-    push_sum(&mut text, format, task, bundles, last)?;
+    push_planner_line(&mut text, format, task, bundles, last)?;
     Ok(Report::from_bytes(text.into_bytes()))
 }
 

@@ -4,7 +4,7 @@ ghost use Rattle.judge_engine.specs.Status.{status_of};
 
 use judge_bench::RunFault;
 use pddl_reader::ReadFault;
-use std::alloc::{AllocError, AllocFailed};
+use std::alloc::AllocError;
 pub use steps_text::{StepsFault, StepsFaultKind};
 
 /// An input of a run or of a replay. Inputs are read in this order. A run has no steps, and a replay has no plans.

@@ -4,7 +4,7 @@ ghost use Rattle.judge_bench.specs.Findings.{findings_of};
 ghost use Rattle.report_text.specs.Report.{as_judged, defined_cost, least_cost, steps_if_valid};
 ghost use Rattle.judge_engine.specs.Plans.{AreCutsOf, handed_in, plans_of_cuts};
 ghost use Rattle.judge_engine.specs.Tally.{lesser, tally_over, tally_with};
-ghost use Rattle.judge_engine.specs.Standing.{IsStanding, start_of, next_text, standing_with, sum_text, rest_text, turn_text, turned};
+ghost use Rattle.judge_engine.specs.ReportPosition.{IsPosition, start_of, next_text, position_with, sum_text, rest_text, turn_text, turned};
 
 use crate::bundle::Bundle;
 use crate::plans::Cut;
@@ -30,19 +30,19 @@ pub(crate) struct Tally {
 
 /// How far a report is: at which planner, and the sum of those of its plans that are in the report.
 #[derive(Clone, Copy, Debug)]
-pub(crate) struct Standing {
+pub(crate) struct ReportPosition {
     /// The planner, counted from 0.
     pub(crate) planner: u32,
     /// The sum of its plans so far.
     pub(crate) tally: Tally,
 }
 
-impl Standing {
+impl ReportPosition {
     /// Before the first plan of a planner.
-    pub(crate) fn start_of(planner: u32) -> Standing
+    pub(crate) fn start_of(planner: u32) -> ReportPosition
         ensures { result ≡ start_of planner }
     {
-        Standing {
+        ReportPosition {
             planner,
             tally: Tally {
                 plans: 0,
@@ -63,7 +63,7 @@ pub(crate) fn push_plans(
     bundles: &[Bundle],
     cuts: &[Cut],
     findings: &Findings,
-) -> Result<Standing, AllocError>
+) -> Result<ReportPosition, AllocError>
     requires some { 0 < length bundles.now }
     requires within { AreCutsOf bundles.now cuts.now }
     requires few { length cuts.now ≤ 65536 }
@@ -72,12 +72,12 @@ pub(crate) fn push_plans(
         ≡ text.old ++ rest_text format task.now bundles.now (start_of 0) (plans_of_cuts bundles.now cuts.now)) }
     ensures known { IfOk result (λ last. last.planner < length bundles.now) }
 {
-    let mut standing = Standing::start_of(0);
+    let mut position = ReportPosition::start_of(0);
     for (index, cut) in cuts.iter().enumerate() {
         let finding = findings.get(0, index);
-        standing = push_next(text, format, task, bundles, cut.planner, finding, standing)?;
+        position = push_next(text, format, task, bundles, cut.planner, finding, position)?;
     }
-    Ok(standing)
+    Ok(position)
 }
 
 /// Adds the next plan of a report, a plan of this planner.
@@ -88,25 +88,25 @@ pub(crate) fn push_next(
     bundles: &[Bundle],
     planner: u32,
     finding: &Finding,
-    standing: Standing,
-) -> Result<Standing, AllocError>
+    position: ReportPosition,
+) -> Result<ReportPosition, AllocError>
     requires planner { planner < length bundles.now }
-    requires standing { IsStanding (length bundles.now) 65535 standing }
-    ensures text { OnOk result (text.new ≡ text.old ++ next_text format task.now bundles.now standing planner (as_judged finding.now)) }
-    ensures standing { IfOk result (λ next. next ≡ standing_with standing planner (as_judged finding.now)) }
+    requires position { IsPosition (length bundles.now) 65535 position }
+    ensures text { OnOk result (text.new ≡ text.old ++ next_text format task.now bundles.now position planner (as_judged finding.now)) }
+    ensures position { IfOk result (λ next. next ≡ position_with position planner (as_judged finding.now)) }
 {
-    let standing = turn(text, format, task, bundles, planner, standing)?;
+    let position = turn(text, format, task, bundles, planner, position)?;
     push_plan_in(
         text,
         format,
         &task.task,
         bundles[planner as usize].name(),
-        standing.tally.plans + 1,
+        position.tally.plans + 1,
         finding,
     )?;
-    Ok(Standing {
+    Ok(ReportPosition {
         planner,
-        tally: counted(standing.tally, finding),
+        tally: counted(position.tally, finding),
     })
 }
 
@@ -117,32 +117,32 @@ fn turn(
     task: &CostedTask,
     bundles: &[Bundle],
     planner: u32,
-    standing: Standing,
-) -> Result<Standing, AllocError>
-    requires { standing.planner < length bundles.now }
-    ensures text { OnOk result (text.new ≡ text.old ++ turn_text format task.now bundles.now standing planner) }
-    ensures standing { IfOk result (λ next. next ≡ turned standing planner) }
+    position: ReportPosition,
+) -> Result<ReportPosition, AllocError>
+    requires { position.planner < length bundles.now }
+    ensures text { OnOk result (text.new ≡ text.old ++ turn_text format task.now bundles.now position planner) }
+    ensures position { IfOk result (λ next. next ≡ turned position planner) }
 {
-    if planner == standing.planner {
-        return Ok(standing);
+    if planner == position.planner {
+        return Ok(position);
     }
-    push_sum(text, format, task, bundles, standing)?;
-    let next = Standing::start_of(planner);
+    push_planner_line(text, format, task, bundles, position)?;
+    let next = ReportPosition::start_of(planner);
     Ok(next)
 }
 
 /// Adds the sum of a planner.
-pub(crate) fn push_sum(
+pub(crate) fn push_planner_line(
     text: &mut Text,
     format: Format,
     task: &CostedTask,
     bundles: &[Bundle],
-    standing: Standing,
+    position: ReportPosition,
 ) -> Result<(), AllocError>
-    requires { standing.planner < length bundles.now }
-    ensures { OnOk result (text.new ≡ text.old ++ sum_text format task.now bundles.now standing) }
+    requires { position.planner < length bundles.now }
+    ensures { OnOk result (text.new ≡ text.old ++ sum_text format task.now bundles.now position) }
 {
-    let Standing { planner, tally } = standing;
+    let ReportPosition { planner, tally } = position;
     push_summary_in(
         text,
         format,

@@ -12,9 +12,9 @@
 //! An option and its value are two words, as `--domain FILE`, or one, as `--domain=FILE`. After the word `--` there are no options. Which command lines are
 //! accepted is decided by `clap`, which also writes help and errors.
 
-ghost use Rattle.std.specs.Prelude.{◌≡◌, ℕ, false, true, map, option_map, ◌++◌, IfOk, OnOk, length};
+ghost use Rattle.std.specs.Prelude.{◌≡◌, false, true, map, option_map, ◌++◌, IfOk, OnOk};
 ghost use Rattle.std.specs.String.{string_bytes};
-ghost use Rattle.judge_engine.specs.CommandLine.{arguments, asks_for_help, first_word, ends_at_first_t, has_command, is_help, is_option, is_short_help, is_tolerance, joined_value, operands, operands_from, takes_a_value, value_of};
+ghost use Rattle.judge_engine.specs.CommandLine.{arguments, asks_for_help, first_word, ends_at_first_t, has_command, is_help, is_option, is_short_help, is_tolerance, joined_value, operands, takes_a_value, value_of};
 
 use std::alloc::{AllocError, Global};
 

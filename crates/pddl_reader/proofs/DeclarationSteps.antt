@@ -109,11 +109,6 @@ may_declare_new most table name h = by (number_named table name) h
     by None h = refl
     by (Some n) h = cc
 
--- and there is room for it
-pub may_declare_room : {V : Type 0} (most : ℕ) (table : List (List ℕ × V)) (name : List ℕ) → may_declare most table name ≡ true → length table < most
-unfolding may_declare
-may_declare_room most table name h = ltb-true (length table) most (and_parts (is_none (number_named table name)) (nat_lt (length table) most) h).1
-
 -- the table has room for the name
 pub may_declare_length : {V : Type 0} (most : ℕ) (table : List (List ℕ × V)) (name : List ℕ) (value : V) → may_declare most table name ≡ true →
     length (table ++ (name, value) ∷ []) ≤ most

@@ -1,7 +1,7 @@
 -- What the initial literals of a problem give, one equation for each case.
 
-use Rattle.std.proofs.Common.{◌≡◌, ℕ, ◌+◌, ◌++◌, Bool, true, false, List, [], ◌∷◌, Option, Some, None, Result, Ok, Err, length, map, refl, ap, sym, ◌∙◌, append_assoc}
-use Rattle.std.proofs.lemmas.List.{append-nil, length-append, length-map}
+use Rattle.std.proofs.Common.{◌≡◌, ℕ, ◌+◌, ◌++◌, Bool, true, false, List, [], ◌∷◌, Option, Some, None, Result, Ok, Err, map, refl, ap, sym, ◌∙◌, append_assoc}
+use Rattle.std.proofs.lemmas.List.{append-nil}
 use Rattle.std.specs.Option.{option_and_then}
 use Rattle.strips_task.specs.declared.atoms.Atom.{Atom}
 use Rattle.plan_cost.specs.declared.values.Given.TheVariants.{First, Again, Another}
@@ -128,11 +128,3 @@ pub through_atoms : (v : Vocabulary) (initial : InitialState) (literals others :
     through (with_initial v) (given_atoms initial (initial.atoms ++ atoms)) others ≡ through (with_initial v) initial literals
 through_atoms v initial literals others atoms begin =
     through_forms v initial begin.forms atoms others begin.stand_for ∙ ap (through (with_initial v) initial) (sym begin.first)
-
--- and there are as many literals fewer
-pub atoms_fewer : (known : Known) (literals others : List LiteralForm) (atoms : List Atom) → BeginWithAtoms known literals atoms others →
-    length literals ≡ length atoms + length others
-atoms_fewer known literals others atoms begin =
-    ap length begin.first ∙ length-append (map (atom_literal true) begin.forms) others
-    ∙ ap (λ n. n + length others) (length-map begin.forms (atom_literal true) ∙ sym (length-map begin.forms (ground_of known))
-    ∙ ap length begin.stand_for ∙ length-map atoms (λ (a : Atom). Some a))

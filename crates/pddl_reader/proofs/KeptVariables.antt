@@ -8,8 +8,6 @@ use Rattle.std.specs.List.{list_all}
 use Rattle.std.specs.Option.{option_and_then, option_map}
 use Rattle.strips_task.specs.WellFormed.{are_alternatives, are_variables}
 use Rattle.pddl_reader.specs.declared.resolution.variables.ActionParameters.{ActionParameters}
-use Rattle.pddl_syntax.specs.Forms.{word_forms}
-use Rattle.pddl_syntax.specs.declared.walk.Word.{Word}
 use Rattle.pddl_reader.specs.Objects.{type_number}
 use Rattle.pddl_syntax.specs.Optional.{guard, through}
 use Rattle.pddl_reader.specs.Resolved.{parameters_form}
@@ -17,7 +15,9 @@ use Rattle.pddl_syntax.specs.Syntax.{VariableGroup}
 use Rattle.pddl_reader.specs.Variables.{alternative_behind, alternative_named, alternatives_of, argument_types_with, with_group_types, argument_types_of, Parameters, parameter_number, parameter_named, parameters_with, group_named, no_parameters, parameters_of}
 use Rattle.pddl_reader.proofs.KeptObjects.{type_number-within}
 use Rattle.pddl_syntax.proofs.Guards.{guard_held}
+use Rattle.pddl_reader.proofs.TableSteps.{words_counted}
 use Rattle.pddl_reader.proofs.Through.{through_keeps}
+use Rattle.pddl_reader.proofs.VariableMeaning.{none_some}
 
 -- numbers of types, no more than the limit
 record AreTypes (count : ℕ) (numbers : List ℕ) : Type 0 where
@@ -117,9 +117,6 @@ parameter_counted names word more h =
     let grown : length (names ++ word ∷ []) ≡ length names + 1 = rw length-append refl in
     rw (← held.1) (grown, omega arith)
 
-none_some : {A : Type 0} (x : A) → None ≡ Some x → ⊥
-none_some x h = cc
-
 parameters_counted : (names words more : List (List ℕ)) → length names ≤ 32 → through parameter_named names words ≡ Some more →
     (length more ≡ length names + length words) × (length more ≤ 32)
 unfolding through
@@ -179,10 +176,6 @@ parameters_kept parents types groups p is h =
 pub parameters_paired : (parents : List ℕ) (types : List (List ℕ)) (groups : List VariableGroup) (p : Parameters) → length types ≡ length parents →
     parameters_of types groups ≡ Some p → length p.types ≡ length p.names
 parameters_paired parents types groups p is h = (all_kept parents types groups p is h).paired
-
-words_counted : (ws : List Word) → length (word_forms ws) ≡ length ws
-unfolding word_forms
-words_counted ws = length-map ws (λ (w : Word). w.text.now)
 
 group_few : (types : List (List ℕ)) (p : Parameters) (group : VariableGroup) (more : Parameters) → length p.names ≤ 32 → group_named types p group ≡ Some more →
     length more.names ≤ 32

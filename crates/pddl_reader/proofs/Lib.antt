@@ -21,7 +21,6 @@ pub mod KnownTerms
 pub mod DeclarationSteps
 pub mod FunctionSteps
 pub mod ActionMeaning
-pub mod AgainSteps
 pub mod WellFormedDomains
 pub mod WellFormedTasks
 pub mod DomainMeaning

@@ -6,10 +6,7 @@ use Rattle.std.specs.List.{position_from, slice_get}
 use Rattle.std.specs.Map.{keys_of, values_of}
 use Rattle.std.specs.Str.{bytes_eq}
 use Rattle.strips_task.specs.Names.{number_named}
-use Rattle.strips_task.proofs.NamedEntries.{named_last}
-use Rattle.strips_task.proofs.Numbered.{at_end}
 use Rattle.pddl_reader.specs.Tables.{value_at, value_named}
-use Rattle.pddl_reader.proofs.TableSteps.{value_numbered}
 
 -- an index that is found is one of the list
 pub position-within : {A : Type 0} (test : A → Bool) (xs : List A) (i n : ℕ) → position_from test i xs ≡ Some n → n < i + length xs
@@ -42,7 +39,3 @@ unnamed_value {V} table name h = by (number_named table name) refl h
         let le : length (values_of table) ≤ n = no_item (values_of table) n k in
         omega arith
         )
-
--- a new name has the value that was added with it
-pub value_last : {V : Type 0} (table : List (List ℕ × V)) (name : List ℕ) (value : V) → number_named table name ≡ None → value_named (table ++ (name, value) ∷ []) name ≡ Some value
-value_last table name value new = value_numbered (table ++ (name, value) ∷ []) name name (length table) value (named_last table name value new) (at_end table (name, value))

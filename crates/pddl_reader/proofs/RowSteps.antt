@@ -1,6 +1,6 @@
 -- Rows of names: the numbers of one word more, and the atoms that rows stand for.
 
-use Rattle.std.proofs.Common.{◌≡◌, ◌↔◌, ℕ, suc, Bool, IsTrue, true, false, List, [], ◌∷◌, ◌++◌, Some, length, map, refl, ap, sym, ◌∙◌, append_assoc, arith}
+use Rattle.std.proofs.Common.{◌≡◌, ℕ, suc, true, false, List, [], ◌∷◌, ◌++◌, Some, length, map, refl, ap, sym, ◌∙◌, append_assoc, arith}
 use Rattle.std.proofs.lemmas.Bool.{eq-eqb}
 use Rattle.std.proofs.lemmas.List.{map-append}
 use Rattle.std.specs.List.{list_all, slice_get, zip}
@@ -19,12 +19,6 @@ use Rattle.pddl_syntax.specs.Syntax.{AtomForm, LiteralForm, atom_literal}
 use Rattle.pddl_reader.specs.Declarations.{Known, fitted_all, fitted_arguments, fitting_object, ground_by, ground_of, object_number, predicate_number, predicate_taking, takes_terms}
 use Rattle.pddl_reader.specs.Rows.{BeginWithAtoms, row_number, row_numbers}
 use Rattle.pddl_reader.proofs.TermSteps.{object_fit}
-
--- what holds exactly when there are no numbers tells whether there is none yet
-pub exactly_none_yet : (numbers : List ℕ) (test : Bool) → (IsTrue test ↔ (numbers ≡ [])) → test ≡ none_yet numbers
-exactly_none_yet [] test exactly = exactly.1 refl
-exactly_none_yet (number ∷ numbers) true exactly = let none : number ∷ numbers ≡ [] = exactly.0 refl in cc
-exactly_none_yet (number ∷ numbers) false exactly = refl
 
 module _ (known : Known) where
   -- one word more has one number more
@@ -96,10 +90,6 @@ module _ (known : Known) where
       ground_of known (atom_spelled row) ≡ Some (record { pred = pred; args = objects })
   unfolding atom_spelled
   row_ground row pred objects argument_types = words_ground (words_of row) pred objects argument_types
-
-  -- no atom stands before the literals themselves
-  pub no_atoms : (literals : List LiteralForm) → BeginWithAtoms known literals [] literals
-  no_atoms literals = record { forms = []; first = refl; stand_for = refl }
 
   -- one atom
   pub one_atom : (literals others : List LiteralForm) (form : AtomForm) (atom : Atom) → literals ≡ atom_literal true form ∷ others →

@@ -43,7 +43,8 @@ may_if most table name h lt = rw (lt-ltb (length table) most lt) (by (number_nam
 
 pub ruleset may_steps = (may_not_again, may_not_more, may_if)
 
-words_counted : (ws : List Word) → length (word_forms ws) ≡ length ws
+-- words and their texts are as many
+pub words_counted : (ws : List Word) → length (word_forms ws) ≡ length ws
 unfolding word_forms
 words_counted ws = length-map ws (λ (w : Word). w.text.now)
 

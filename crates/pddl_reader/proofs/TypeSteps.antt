@@ -1,15 +1,12 @@
 -- Types declared and ordered, one equation for each case.
 
-use Rattle.std.proofs.Common.{◌≡◌, ℕ, ◌+◌, ◌<◌, ◌≤◌, ◌++◌, Bool, true, false, ◌||◌, nat_lt, is_some, List, [], ◌∷◌, length, map, drop, Option, Some, None, IfSome, if◌then◌else◌, refl, ap, sym, subst, ◌∙◌, arith, length-append, append_assoc, add-one, suc, zero}
+use Rattle.std.proofs.Common.{◌≡◌, ℕ, ◌+◌, ◌<◌, ◌≤◌, ◌++◌, Bool, true, false, ◌||◌, nat_lt, is_some, List, [], ◌∷◌, length, map, drop, Option, Some, None, if◌then◌else◌, refl, ◌∙◌, arith, length-append, append_assoc, add-one, suc, zero}
 use Rattle.std.proofs.lemmas.List.{drop_all, append-nil}
 use Rattle.std.proofs.lemmas.Bool.{le-ltb, lt-ltb, ltb-true}
-use Rattle.std.proofs.lemmas.Slice.Eq.{bytes_eq-Decides}
 use Rattle.std.specs.List.{slice_get, list_any}
 use Rattle.std.specs.Str.{bytes_eq}
 use Rattle.pddl_words.specs.Words.{folded}
-use Rattle.pddl_words.specs.Kinds.{is_same_word}
 use Rattle.strips_task.specs.Names.{number_named}
-use Rattle.strips_task.proofs.NamedEntries.{named_last}
 use Rattle.pddl_syntax.specs.declared.syntax.NameGroup as groups
 use Rattle.pddl_syntax.specs.declared.walk.NameWord.{NameWord}
 use Rattle.pddl_reader.specs.declared.resolution.types.KnownTypes.{KnownTypes}
@@ -21,9 +18,7 @@ use Rattle.pddl_syntax.specs.Optional.{guard, through}
 use Rattle.pddl_syntax.specs.Syntax.{NameGroup}
 use Rattle.pddl_reader.specs.TypeOrder.{TypeNames, TypeParents, numbered, under, counts_as_parent, declared_under, tables_of, type_declared, parent_numbered, group_declared, object_alone, types_declared, parent_name, parent_number, parents_of, is_tree, ordered, types_of}
 use Rattle.pddl_reader.specs.TypeCycles.{is_under_itself, numbers_cycle, names_cycle, declares_cycle}
-use Rattle.pddl_reader.specs.Tables.{value_named}
 use Rattle.pddl_reader.proofs.Items.{item_steps}
-use Rattle.pddl_reader.proofs.NamedValues.{unnamed_value, value_last}
 use Rattle.pddl_reader.proofs.TableSteps.{value_unnamed, value_numbered}
 use Rattle.pddl_syntax.proofs.Guards.{guard_held}
 use Rattle.pddl_reader.proofs.Through.{through_keeps}
@@ -72,22 +67,7 @@ pub under_new : (dialect : Dialect) (parents : TypeParents) (name parent : List 
 unfolding declared_under under
 under_new dialect parents name parent counts h = rw (counts, value_unnamed parents name h) refl
 
-pub found_under : (parents : TypeParents) (word parent key known : List ℕ) (number : ℕ) → number_named parents (folded word) ≡ Some number →
-    slice_get parents number ≡ Some (key, known) → folded known ≡ known → is_same_word known parent ≡ true → value_named parents (folded word) ≡ Some (folded parent)
-found_under parents word parent key known number h e lower same =
-    value_numbered parents (folded word) key number known h e ∙ ap Some (sym lower ∙ (bytes_eq-Decides (folded known) (folded parent)).0 same)
-
--- a type that is under this parent already stays there, whether the declaration counts or not
-pub under_same : (dialect : Dialect) (parents : TypeParents) (name parent : List ℕ) → value_named parents name ≡ Some parent →
-    declared_under dialect parents name parent ≡ Some parents
-unfolding declared_under under guard
-under_same dialect parents name parent h = rw (h, (bytes_eq-Decides parent parent).1 refl) (by (counts_as_parent dialect parent))
-  where
-    by : (counts : Bool) → (if counts then Some parents else Some parents) ≡ Some parents
-    by true = refl
-    by false = refl
-
-pub ruleset under_steps = (under_same, under_idle, under_again, under_otherwise, under_new)
+pub ruleset under_steps = (under_idle, under_again, under_otherwise, under_new)
 
 pub type_unordered : (dialect : Dialect) (parent : List ℕ) (tables : TypeTables) (word : List ℕ) → declared_under dialect tables.parents (folded word) (folded parent) ≡ None →
     type_declared dialect parent tables word ≡ None
@@ -107,55 +87,6 @@ pub type_both : (dialect : Dialect) (parent : List ℕ) (tables : TypeTables) (w
     type_declared dialect parent tables word ≡ Some (record { names = names; parents = parents })
 unfolding type_declared tables_of
 type_both dialect parent tables word names parents h e = rw (h, e) refl
-
--- a type that was numbered keeps its number when it is numbered again
-numbered_stays : (names new : TypeNames) (name : List ℕ) → numbered names name ≡ Some new → numbered new name ≡ Some new
-unfolding numbered
-numbered_stays names new name h = by (number_named names name) refl
-  where
-    by : (found : Option ℕ) → number_named names name ≡ found → numbered new name ≡ Some new
-    by (Some number) is =
-        let known : numbered names name ≡ Some names = number_again names name (ap is_some is) in
-        let same : names ≡ new = cc in
-        subst (λ (ns : TypeNames). numbered ns name ≡ Some ns) same known
-    by None is =
-        let fits : guard (nat_lt (length names) 1025) (Some (names ++ (name, tt) ∷ [])) ≡ Some new = rw is at h in
-        let there : names ++ (name, tt) ∷ [] ≡ new = (guard_held _ _ _ fits).1 in
-        number_again new name (ap is_some (ap (λ (ns : TypeNames). number_named ns name) (sym there) ∙ named_last names name tt is))
-
--- a type that was declared under a parent stays there when it is declared again
-under_stays : (dialect : Dialect) (parents new : TypeParents) (name parent : List ℕ) → declared_under dialect parents name parent ≡ Some new → declared_under dialect new name parent ≡ Some new
-unfolding declared_under under
-under_stays dialect parents new name parent h = by (counts_as_parent dialect parent) (value_named parents name) refl refl
-  where
-    stays : parents ≡ new → declared_under dialect new name parent ≡ Some new
-    stays same = subst (λ (ps : TypeParents). declared_under dialect ps name parent ≡ Some ps) same (h ∙ ap Some (sym same))
-
-    unchanged : (known : List ℕ) → guard (bytes_eq known parent) (Some parents) ≡ Some new → parents ≡ new
-    unchanged known e = (guard_held _ _ _ e).1
-
-    by : (counts : Bool) (found : Option (List ℕ)) → counts_as_parent dialect parent ≡ counts → value_named parents name ≡ found → declared_under dialect new name parent ≡ Some new
-    by false found idle is =
-        let same : declared_under dialect parents name parent ≡ Some parents = under_idle dialect parents name parent idle in
-        stays cc
-    by true (Some known) counts is = stays (unchanged known (rw (counts, is) at h))
-    by true None counts is =
-        let added : declared_under dialect parents name parent ≡ Some (parents ++ (name, parent) ∷ []) = under_new dialect parents name parent counts (unnamed_value parents name is) in
-        let there : parents ++ (name, parent) ∷ [] ≡ new = cc in
-        under_same dialect new name parent (ap (λ (ps : TypeParents). value_named ps name) (sym there) ∙ value_last parents name parent (unnamed_value parents name is))
-
--- declaring a type once more changes nothing
-pub type_stays : (dialect : Dialect) (parent : List ℕ) (tables new : TypeTables) (word : List ℕ) → type_declared dialect parent tables word ≡ Some new → type_declared dialect parent new word ≡ Some new
-type_stays dialect parent tables new word h = by (numbered tables.names (folded word)) (declared_under dialect tables.parents (folded word) (folded parent)) refl refl
-  where
-    by : (names : Option TypeNames) (parents : Option TypeParents) → numbered tables.names (folded word) ≡ names → declared_under dialect tables.parents (folded word) (folded parent) ≡ parents → type_declared dialect parent new word ≡ Some new
-    by None parents is e = absurd (let none : type_declared dialect parent tables word ≡ None = type_unnumbered dialect parent tables word is in cc)
-    by (Some names) None is e = absurd (let none : type_declared dialect parent tables word ≡ None = type_unordered dialect parent tables word e in cc)
-    by (Some names) (Some parents) is e =
-        let both : type_declared dialect parent tables word ≡ Some (record { names = names; parents = parents }) = type_both dialect parent tables word names parents is e in
-        let same : record { names = names; parents = parents } ≡ new = cc in
-        subst (λ (t : TypeTables). type_declared dialect parent t word ≡ Some t) same
-        (type_both dialect parent (record { names = names; parents = parents }) word names parents (numbered_stays tables.names names (folded word) is) (under_stays dialect tables.parents parents (folded word) (folded parent) e))
 
 pub ruleset type_steps = (type_unordered, type_unnumbered, type_both)
 
@@ -319,12 +250,7 @@ pub no_word : (test : List ℕ → Bool) → list_any test (name_forms []) ≡ f
 unfolding name_forms
 no_word test = refl
 
--- what is known of the word before holds of a word that is the same
-pub same_as_before : (names : TypeNames) (parents word : List ℕ) (before : Option (List ℕ)) → IfSome before (λ w. names_cycle names parents w ≡ false) → before ≡ Some word →
-    names_cycle names parents word ≡ false
-same_as_before names parents word before known same = subst (λ b. IfSome b (λ w. names_cycle names parents w ≡ false)) same known
-
-pub ruleset cycle_word_steps = (item_steps, any_word, no_word, same_as_before)
+pub ruleset cycle_word_steps = (item_steps, any_word, no_word)
 
 pub group_idle : (dialect : Dialect) (names : TypeNames) (parents : List ℕ) (g : groups.NameGroup) → counts_as_parent dialect (folded g.kind.text.now) ≡ false →
     declares_cycle dialect names parents (name_group_form g) ≡ false

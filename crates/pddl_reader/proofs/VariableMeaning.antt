@@ -17,6 +17,7 @@ use Rattle.std.proofs.lemmas.List.{drop_all}
 use Rattle.pddl_reader.proofs.Items.{word_at, word_item_steps}
 use Rattle.pddl_reader.proofs.ObjectSteps.{named_steps}
 use Rattle.pddl_syntax.proofs.Guards.{guard_held}
+use Rattle.pddl_reader.proofs.TableSteps.{words_counted}
 use Rattle.pddl_reader.proofs.Through.{through_behind, through_item, through_end, through_steps}
 use Rattle.pddl_syntax.proofs.WordSteps.{no_words, word_forms-push}
 
@@ -61,14 +62,10 @@ variable_at argument_types (w ∷ ws) i types lt =
 
 pub ruleset variable_steps = (drop_all, variable_at, none_typed)
 
-word_forms-length : (ws : List Word) → length (word_forms ws) ≡ length ws
-unfolding word_forms
-word_forms-length ws = length-map ws (λ (w : Word). w.text.now)
-
 pub group_crowded : (types argument_types : List (List ℕ)) (g : groups.VariableGroup) → nat_le (length argument_types + length g.variables.items) 32 ≡ false →
     with_group_types types argument_types (variable_group_form g) ≡ None
 unfolding with_group_types guard
-group_crowded types argument_types g h = rw (word_forms-length g.variables.items, h) refl
+group_crowded types argument_types g h = rw (words_counted g.variables.items, h) refl
 
 pub group_untyped : (types argument_types : List (List ℕ)) (g : groups.VariableGroup) → alternatives_of types (name_forms g.kinds.items) ≡ None →
     with_group_types types argument_types (variable_group_form g) ≡ None
@@ -79,7 +76,7 @@ pub group_typed : (types argument_types : List (List ℕ)) (g : groups.VariableG
     alternatives_of types (name_forms g.kinds.items) ≡ Some numbers →
     with_group_types types argument_types (variable_group_form g) ≡ Some (argument_types_with argument_types (word_forms g.variables.items) numbers)
 unfolding with_group_types guard
-group_typed types argument_types g numbers h e = rw (word_forms-length g.variables.items, h, e) refl
+group_typed types argument_types g numbers h e = rw (words_counted g.variables.items, h, e) refl
 
 pub ruleset group_steps = (group_crowded, group_untyped, group_typed)
 
@@ -97,7 +94,7 @@ unfolding argument_types_of
 argument_types_start types groups = refl
 
 -- where a group has argument types there is room for them
-none_some : {A : Type 0} (x : A) → None ≡ Some x → ⊥
+pub none_some : {A : Type 0} (x : A) → None ≡ Some x → ⊥
 none_some x h = cc
 
 room_kept : (types argument_types : List (List ℕ)) (group : VariableGroup) (more : List (List ℕ)) → with_group_types types argument_types group ≡ Some more → length more ≤ 32
@@ -139,7 +136,7 @@ pub ruleset position_steps = (word_item_steps, position_found, position_further,
 
 pub parameters_many : (names : List Word) (word : List ℕ) → 32 ≤ length names → parameter_named (word_forms names) word ≡ None
 unfolding parameter_named guard
-parameters_many names word le = rw (word_forms-length names, le-ltb (length names) 32 le) refl
+parameters_many names word le = rw (words_counted names, le-ltb (length names) 32 le) refl
 
 pub parameter_again : (names : List Word) (word : List ℕ) → is_some (parameter_number (word_forms names) word) ≡ true → parameter_named (word_forms names) word ≡ None
 unfolding parameter_named guard
@@ -153,7 +150,7 @@ parameter_again names word h = by (nat_lt (length (word_forms names)) 32) (param
 pub parameter_new : (names : List Word) (word : List ℕ) → length names < 32 → is_some (parameter_number (word_forms names) word) ≡ false →
     parameter_named (word_forms names) word ≡ Some (word_forms names ++ word ∷ [])
 unfolding parameter_named guard
-parameter_new names word lt h = rw (word_forms-length names, lt-ltb (length names) 32 lt) (by (parameter_number (word_forms names) word) h)
+parameter_new names word lt h = rw (words_counted names, lt-ltb (length names) 32 lt) (by (parameter_number (word_forms names) word) h)
   where
     by : (found : Option ℕ) → is_some found ≡ false → guard (is_none found) (Some (word_forms names ++ word ∷ [])) ≡ Some (word_forms names ++ word ∷ [])
     by None e = refl

@@ -8,7 +8,6 @@ pub mod Declarations
 pub mod Functions
 pub mod Resolved
 pub mod Rows
-pub mod Again
 pub mod Domain
 pub mod DomainTables
 pub mod Problem

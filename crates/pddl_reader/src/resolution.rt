@@ -5,7 +5,6 @@
 //! one before it is not looked up again.
 
 pub(crate) mod actions;
-pub(crate) mod again;
 pub(crate) mod atoms;
 pub(crate) mod domain;
 pub(crate) mod functions;

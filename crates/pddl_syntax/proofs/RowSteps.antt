@@ -13,6 +13,7 @@ use Rattle.pddl_tokens.specs.declared.spans.TokenKind.TheVariants.{Left, Right, 
 use Rattle.pddl_tokens.specs.declared.scan.Group.{Group}
 use Rattle.pddl_tokens.specs.Tokens.{Piece, token, span}
 use Rattle.pddl_tokens.specs.Groups.{IsPlain, word_pieces, group_pieces}
+use Rattle.pddl_tokens.proofs.NamesArePlain.{names_are_plain}
 use Rattle.pddl_tokens.proofs.PlainRows.{row_has_words}
 use Rattle.pddl_syntax.specs.declared.dialect.Dialect.{Dialect}
 use Rattle.pddl_syntax.specs.declared.heads.Context.{Context}
@@ -31,7 +32,7 @@ use Rattle.pddl_syntax.specs.Syntax.{LiteralForm, alone, atom_literal, atom_of, 
 use Rattle.pddl_syntax.specs.Presence.{are_conjuncts, are_initial, are_words, is_formula, is_init_item, is_literal, is_negated, is_negated_in}
 use Rattle.pddl_syntax.specs.Remaining.{literals_in, remaining}
 use Rattle.pddl_syntax.specs.Trees.{Trees, word, list, begins_with_list}
-use Rattle.pddl_syntax.proofs.AtomRows.{name_is_term}
+use Rattle.pddl_syntax.proofs.AtomRows.{first_of_atom_row, name_is_term, names_are_atom_row}
 use Rattle.pddl_syntax.proofs.FormulaSteps.{conjuncts_first, formula_literal, literal_atom, negated_alone, negated_in_atom, negated_more, words_end, words_word}
 use Rattle.pddl_syntax.proofs.LevelSteps.{some_behind_token}
 use Rattle.pddl_syntax.proofs.ProblemSteps.{init_item_word, initial_first}
@@ -244,18 +245,6 @@ pub row_first : (scope : Scope) (row : List ℕ) (old new : Levels) → heads_at
 row_first scope row old new heads passes some =
     next_one _ (remaining scope 1 old) _ some (row_left scope row old new heads passes some)
 
--- the same two of a depth that is known to be 1, and of a row that has the bytes of another
-pub row_leaves : (scope : Scope) (depth : ℕ) (row : List ℕ) (old new : Levels) → depth ≡ 1 → heads_atom row ≡ true → PassesRow row old new → IsSome (remaining scope depth old) → IsSome (remaining scope depth new)
-row_leaves scope depth row old new one heads passes some =
-    let there : IsSome (remaining scope 1 old) = subst (λ (d : ℕ). IsSome (remaining scope d old)) one some in
-    rw one (row_goes_on scope row old new heads passes there)
-
-pub row_again : (scope : Scope) (depth : ℕ) (row other : List ℕ) (old new : Levels) → depth ≡ 1 → row ≡ other → heads_atom row ≡ true → PassesRow row old new → IsSome (remaining scope depth old) →
-    unwrap_or (remaining scope depth old) [] ≡ atom_literal true (atom_spelled other) ∷ unwrap_or (remaining scope depth new) []
-row_again scope depth row other old new one same heads passes some =
-    let there : IsSome (remaining scope 1 old) = subst (λ (d : ℕ). IsSome (remaining scope d old)) one some in
-    rw (one, ← same) (row_first scope row old new heads passes there)
-
 -- a row of names is an initial atom in every dialect, and a formula, or negated in one, wherever there may be one
 pub passes_atom : (row : List ℕ) (old new : Levels) → heads_atom row ≡ true → AreNames row → PassesRow row old new → PassesAtom old new
 passes_atom row old new heads names passes = record {
@@ -266,6 +255,13 @@ passes_atom row old new heads names passes = record {
   negated = λ scope. row_is_negated scope row heads names;
   below = passes.1;
 }
+
+-- where the first of them is found to head an atom
+pub names_passed : (row : List ℕ) (old new : Levels) (heads : Bool) → PassesRow row old new → list_all is_name (spaced.words_of row) ≡ true →
+    (is_name (atom_spelled row).predicate ≡ true → heads ≡ heads_atom row) → heads ≡ true → PassesAtom old new
+names_passed row old new heads passes names is found = passes_atom row old new (sym (is (first_of_atom_row row (names_are_atom_row row names))) ∙ found) names passes
+
+pub ruleset row_steps = (names_passed, names_are_plain)
 
 pub atom_passed : (dialect : Dialect) (old new : Levels) → PassesAtom old new → are_initial dialect old.top ≡ are_initial dialect new.top
 atom_passed dialect old new passes = ap (are_initial dialect) passes.first ∙ initial_first dialect passes.inside new.top (passes.atom dialect)

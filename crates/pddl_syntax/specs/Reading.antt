@@ -1,4 +1,4 @@
--- What a reader's answer says about the trees that it walks over.
+-- What the result of a reader says about the trees that it walks over.
 
 use Rattle.std.specs.Prelude.{ℕ, Bool, true, false, ◌≡◌, ◌≢◌, List, [], ◌∷◌, Option, Some, None, is_some, Result, Ok, Err}
 use Rattle.pddl_syntax.specs.declared.fault.FaultKind.TheVariants.{OutOfMemory}
@@ -16,108 +16,108 @@ use Rattle.pddl_syntax.specs.TypesAhead.{typing, typing_of}
 use Rattle.pddl_syntax.specs.Levels.{Levels}
 use Rattle.pddl_syntax.specs.Walking.{behind}
 
--- a fault is running out of memory, which has no span, or it means that the fact holds
+-- the fault is that memory ran out, and then it has no span, or the fact holds
 abbrev pub Refuses : ReadFault → Type 0 → Type 0
 Refuses e fact = (e.kind ≡ OutOfMemory → e ≡ out_of_memory) × (e.kind ≢ OutOfMemory → fact)
 
--- the rest of the list that the walk is in is read, with its `)`
+-- reads the rest of the list that the walk is in, up to and with its `)`
 abbrev pub ReadsList : {X Y : Type 0} → (X → Y) → Result X ReadFault → (Trees → Option Y) → Levels → Levels → Type 0
 ReadsList view (Ok x) read old new = (read old.top ≡ Some (view x)) × (new ≡ behind old.below)
 ReadsList view (Err e) read old new = Refuses e (read old.top ≡ None)
 
--- the rest of the list that the walk is in passes the test, and the walk leaves it
+-- tests the rest of the list that the walk is in, and leaves the list
 abbrev pub PassesList : Result (Unit {0}) ReadFault → (Trees → Bool) → Levels → Levels → Type 0
 PassesList (Ok _) test old new = (test old.top ≡ true) × (new ≡ behind old.below)
 PassesList (Err e) test old new = Refuses e (test old.top ≡ false)
 
--- as `ReadsList`, where what is read is known to be there: it is read again, unless memory runs out
+-- as `ReadsList`, for what is known to be there: the only fault is that memory ran out
 abbrev pub ReadsAgain : {X Y : Type 0} → (X → Y) → Result X ReadFault → (Trees → Option Y) → Levels → Levels → Type 0
 ReadsAgain view (Ok x) read old new = (read old.top ≡ Some (view x)) × (new ≡ behind old.below)
 ReadsAgain view (Err e) read old new = e ≡ out_of_memory
 
--- as `ReadsList`, where what is read is known to be there and takes no memory
+-- as `ReadsAgain`, for what takes no memory
 abbrev pub Rereads : {Y : Type 0} → Y → (Trees → Option Y) → Levels → Levels → Type 0
 Rereads x read old new = (read old.top ≡ Some x) × (new ≡ behind old.below)
 
--- as `ReadsList`, but what is read is put into `after`
+-- as `ReadsList`, with the value in `after`
 abbrev pub ReadsInto : {Y : Type 0} → Result (Unit {0}) ReadFault → (Trees → Option Y) → Levels → Levels → Y → Type 0
 ReadsInto (Ok _) read old new after = (read old.top ≡ Some after) × (new ≡ behind old.below)
 ReadsInto (Err e) read old new after = Refuses e (read old.top ≡ None)
 
--- something at the front is read, and the walk is after it
+-- steps over something at the front
 abbrev pub ReadsFront : Result (Unit {0}) ReadFault → (Trees → Option Trees) → Levels → Levels → Type 0
 ReadsFront (Ok _) read old new = (read old.top ≡ Some new.top) × (new.below ≡ old.below)
 ReadsFront (Err e) read old new = Refuses e (read old.top ≡ None)
 
--- the walk enters the list at the front
+-- enters the list at the front
 abbrev pub Enters : Result (Unit {0}) ReadFault → (Trees → Option Trees) → Levels → Levels → Type 0
 Enters (Ok _) read old new = (old.top ≡ list new.top (behind new.below).top) × (old.below ≡ (behind new.below).below)
 Enters (Err e) read old new = Refuses e (read old.top ≡ None)
 
--- the walk steps over the name at the front
+-- steps over the name at the front, if there is one
 abbrev pub TakesName : Result NameWord ReadFault → Levels → Levels → Type 0
 TakesName (Ok name) old new = (old.top ≡ word name.text.now new.top) × (is_name name.text.now ≡ true) × (new.below ≡ old.below)
 TakesName (Err e) old new = Refuses e (leading_name old.top ≡ None)
 
--- the walk steps over the word at the front
+-- steps over the word at the front
 abbrev pub Passes : Word → Levels → Levels → Type 0
 Passes w old new = (old.top ≡ word w.text.now new.top) × (new.below ≡ old.below)
 
--- the walk steps over the name at the front
+-- steps over the name at the front
 abbrev pub PassesName : NameWord → Levels → Levels → Type 0
 PassesName name old new = (old.top ≡ word name.text.now new.top) × (new.below ≡ old.below)
 
--- the walk steps over the word at the front, which passes the test
+-- steps over the word at the front, if it passes the test
 abbrev pub TakesWord : Result Word ReadFault → (List ℕ → Bool) → Levels → Levels → Type 0
 TakesWord (Ok w) test old new = (old.top ≡ word w.text.now new.top) × (test w.text.now ≡ true) × (new.below ≡ old.below)
 TakesWord (Err e) test old new = Refuses e (leading_word test old.top ≡ None)
 
--- the walk steps over the types at the front
+-- steps over the types at the front
 abbrev pub TakesTypes : Result (SmallVec NameWord) ReadFault → Levels → Levels → Type 0
 TakesTypes (Ok types) old new = (typing_of old.top ≡ Some (typing new.top (name_forms types.items))) × (new.below ≡ old.below)
 TakesTypes (Err e) old new = Refuses e (typing_of old.top ≡ None)
 
--- the type `object` alone, or memory ran out
+-- gives the type `object` alone, or memory ran out
 abbrev pub GivesObject : Result (SmallVec NameWord) ReadFault → Type 0
 GivesObject (Ok types) = name_forms types.items ≡ object_word ∷ []
 GivesObject (Err e) = e ≡ out_of_memory
 
--- the name is read, or memory ran out
+-- gives the name, or memory ran out
 abbrev pub ReadsName : Result (List ℕ) ReadFault → List ℕ → Type 0
 ReadsName (Ok name) expected = name ≡ expected
 ReadsName (Err e) expected = e ≡ out_of_memory
 
--- the test passes, or it is refused
+-- allows what passes the test
 abbrev pub Allows : Result (Unit {0}) ReadFault → Bool → Type 0
 Allows (Ok _) test = test ≡ true
 Allows (Err e) test = Refuses e (test ≡ false)
 
--- what is defined is given
+-- gives the value, if there is one
 abbrev pub Gives : {X Y : Type 0} → (X → Y) → Result X ReadFault → Option Y → Type 0
 Gives view (Ok x) defined = defined ≡ Some (view x)
 Gives view (Err e) defined = Refuses e (defined ≡ None)
 
--- what is known to be there is given, or memory ran out
+-- gives the value, which is known to be there, or memory ran out
 abbrev pub GivesAgain : {X Y : Type 0} → (X → Y) → Result X ReadFault → Y → Type 0
 GivesAgain view (Ok x) known = view x ≡ known
 GivesAgain view (Err e) known = e ≡ out_of_memory
 
--- as `Gives`, where what is defined is put into `after`
+-- as `Gives`, with the value in `after`
 abbrev pub Puts : {Y : Type 0} → Result (Unit {0}) ReadFault → Option Y → Y → Type 0
 Puts (Ok _) defined after = defined ≡ Some after
 Puts (Err e) defined after = Refuses e (defined ≡ None)
 
--- what is defined, or that there is nothing, is answered, or memory ran out
+-- gives the value or that there is none, or memory ran out
 abbrev pub GivesOption : {X : Type 0} → Result (Option X) ReadFault → Option X → Type 0
 GivesOption (Ok x) defined = defined ≡ x
 GivesOption (Err e) defined = e ≡ out_of_memory
 
--- one that passes a test is found, if there is one, or memory ran out
+-- finds an item that passes the test, if there is one, or memory ran out
 abbrev pub FindsAny : {X : Type 0} → Result (Option X) ReadFault → Bool → Type 0
 FindsAny (Ok found) test = is_some found ≡ test
 FindsAny (Err e) test = e ≡ out_of_memory
 
--- the test is answered, or memory ran out
+-- gives the result of the test, or memory ran out
 abbrev pub GivesTest : Result Bool ReadFault → Bool → Type 0
 GivesTest (Ok answer) test = answer ≡ test
 GivesTest (Err e) test = e ≡ out_of_memory

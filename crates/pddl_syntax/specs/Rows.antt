@@ -55,11 +55,6 @@ are_terms words = list_all (is_term context.Precondition) words
 unfoldable pub is_atom_row : List ℕ → Bool
 is_atom_row row = is_name (atom_spelled row).predicate && are_terms (atom_spelled row).terms
 
--- the words of a row are names, and the first is not reserved
-pub record SpellsAtom (row : List ℕ) : Type 0 where
-  pub names : AreNames row
-  pub heads : heads_atom row ≡ true
-
 -- words one after the other
 unfoldable pub word_trees : List (List ℕ) → Trees
 word_trees [] = none

@@ -4,14 +4,14 @@ ghost use Rattle.std.specs.Prelude.{◌≡◌, true, false};
 ghost use Rattle.pddl_words.specs.Words.{is_name};
 ghost use Rattle.pddl_syntax.specs.Keywords.{is_change, is_connective, is_quantifier, is_comparison, is_other_reserved};
 ghost use Rattle.pddl_syntax.specs.Levels.{here};
-ghost use Rattle.pddl_syntax.specs.Rows.{are_terms, atom_spelled, heads_atom, is_atom_row};
+ghost use Rattle.pddl_syntax.specs.Rows.{atom_spelled, heads_atom};
 ghost use Rattle.pddl_syntax.specs.Trees.{begins_with_list};
 ghost use Rattle.pddl_syntax.specs.Heads.{is_and, is_dash, is_either, is_keyword, is_term, is_variable, equals_head, has_changes, has_functions, formula_head, literal_head, name_head, reserved_head, domain_section, action_part, problem_section};
 
 use crate::dialect::Dialect;
 use crate::walk::Walk;
 use pddl_tokens::{WordKind, same_folded, word_kind};
-use pddl_words::{RowWords, first_word_len};
+use pddl_words::first_word_len;
 
 /// What a word heads where a formula, an effect, an initial atom, a function or the declaration of a predicate or a function is due.
 #[derive(Clone, Copy, Debug)]
@@ -421,28 +421,4 @@ pub(crate) fn heads_atom(row: &[u8]) -> bool
         FormulaHead::Reserved => false,
         FormulaHead::Other => false,
     }
-}
-
-/// Whether the first word of a row is a name, and each other one a name or a variable.
-#[tactic(auto, unfolding(crate::specs::Rows::is_atom_row, crate::specs::Rows::atom_spelled), using(pddl_tokens::proofs::PlainRows::row_has_words))]
-pub(crate) fn is_atom_row(row: &[u8]) -> bool
-    ensures { result ≡ is_atom_row row.now }
-{
-    let mut words = RowWords::new(row);
-    let Some(predicate) = words.next() else {
-        return false;
-    };
-    is_name(predicate) && are_terms(words)
-}
-
-/// Whether each word is a name or a variable.
-fn are_terms(mut words: RowWords<'_>) -> bool
-    ensures { result ≡ are_terms words.entry }
-{
-    'words: while let Some(word) = words.next() {
-        if !is_term(Context::Precondition, word) {
-            return false;
-        }
-    }
-    true
 }

@@ -23,7 +23,6 @@ mod walk;
 pub use dialect::Dialect;
 pub use fault::{FaultKind, ReadFault};
 pub use heads::is_variable;
-pub use syntax::again::{Attempts, is_written_as};
 pub use syntax::domain::domain_text;
 pub use syntax::literals::{AtomRow, Literals};
 pub use syntax::problem::problem_text;

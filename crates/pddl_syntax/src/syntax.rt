@@ -5,7 +5,6 @@
 //! layer refuses deeper ones, and the recursion goes as deep.
 
 pub(crate) mod action;
-pub(crate) mod again;
 pub(crate) mod domain;
 pub(crate) mod formula;
 pub(crate) mod known;

@@ -29,10 +29,6 @@ pub semicolon_is : (b : ℕ) → class_of b ≡ c.Semicolon → b ≡ 59
 unfolding class_of
 semicolon_is b is = grind arith
 
-pub word_no_semicolon : (b : ℕ) → class_of b ≡ c.WordByte → b ≢ 59
-unfolding class_of
-word_no_semicolon b is = grind arith
-
 pub bad_no_blank : (b : ℕ) → class_of b ≡ c.Bad → is_blank b ≡ false
 unfolding class_of
 bad_no_blank b is = grind arith
@@ -40,10 +36,6 @@ bad_no_blank b is = grind arith
 pub bad_not_visible : (b : ℕ) → class_of b ≡ c.Bad → 33 ≤ b → b ≤ 126 → ⊥
 unfolding class_of
 bad_not_visible b is low high = grind arith
-
-pub comment_no_line_end : (b : ℕ) → is_line_end_class (class_of b) ≡ false → b ≢ 10
-unfolding class_of
-comment_no_line_end b is = grind arith
 
 pub word_byte_no_semicolon : (b : ℕ) → is_word_class (class_of b) ≡ true → b ≢ 59
 unfolding class_of

@@ -8,8 +8,6 @@ pub mod PlainRows
 pub mod NamesArePlain
 pub mod Counts
 mod Masks
-mod FirstRight
 mod NameLanes
 mod NamePairs
-mod Spaces
 mod CommentRuns

@@ -1,6 +1,6 @@
 -- The pieces of a plain row in parentheses.
 
-use Rattle.std.proofs.Common.{◌≡◌, ◌≢◌, ℕ, zero, suc, add-zero, ◌+◌, ◌<◌, ◌≤◌, true, false, List, [], ◌∷◌, ◌++◌, length, take, drop, get_or, refl, sym, ap, ◌∙◌, arith, append_assoc, length-append, subst, drop-drop}
+use Rattle.std.proofs.Common.{◌≡◌, ◌≢◌, ℕ, ◌+◌, ◌<◌, true, false, List, [], ◌∷◌, ◌++◌, length, take, drop, get_or, refl, sym, ap, ◌∙◌, arith, append_assoc, length-append, subst, drop-drop}
 use Rattle.std.specs.Prelude.{All, IsTrue}
 use Rattle.std.specs.List.{list_all, prefix_len, join_with_byte}
 use Rattle.std.proofs.Math.Seq.{take-append_seam}
@@ -149,13 +149,3 @@ group_at text inside at size lt left same within right plain =
     ∙ group_first at row rest plain
     ∙ ap (λ (n : ℕ). group_pieces at row ++ pieces_from between (at + 1 + n + 1) rest) long
     ∙ ap (λ (bytes : List ℕ). group_pieces at row ++ pieces_from between (at + 1 + size + 1) bytes) behind_it
-
--- no piece begins with a space, nor with more of them
-pub behind_spaces : (text : List ℕ) (at n : ℕ) → at + n ≤ length text → ((k : ℕ) → at ≤ k → k < at + n → get_or text k 0 ≡ 32) → pieces_at text at ≡ pieces_at text (at + n)
-behind_spaces text at zero within spaces = ap (pieces_at text) (sym (add-zero at))
-behind_spaces text at (suc n) within spaces =
-    let space : get_or text (at + n) 0 ≡ 32 = spaces (at + n) (omega arith) (omega arith) in
-    let next : at + n + 1 ≡ at + suc n = omega arith in
-    behind_spaces text at n (omega arith) (λ k low high. spaces k low (omega arith))
-    ∙ behind_blank text (at + n) (omega arith) (ap (λ (b : ℕ). is_blank_class (class_of b)) space ∙ ap is_blank_class space_class)
-    ∙ ap (pieces_at text) next

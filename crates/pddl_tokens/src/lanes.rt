@@ -1,72 +1,18 @@
-//! Looks at many bytes of a text at once, as vectors.
+//! Whether a list is names, looked at 32 bytes at a time.
 
 ghost use Rattle.std.specs.Prelude.{◌≡◌, ℕ, ◌+◌, ◌<◌, ◌≤◌, true, false, length, slice_index};
 ghost use Rattle.std.specs.Simd.Lanes.{mask_l, zip2};
 ghost use Rattle.std.specs.List.{list_all};
-ghost use Rattle.memchr.specs.Find.{IsFirst, IsFirstByte, Passes, is_byte};
 ghost use Rattle.pddl_words.specs.SpacedWords.{words_of};
 ghost use Rattle.pddl_words.specs.Words.{is_name};
 ghost use Rattle.pddl_tokens.specs.Groups.{BeginsWithList};
 ghost use Rattle.pddl_tokens.specs.Pairs.{goes_on, stops};
 
-use memchr::memchr;
 use pddl_words::are_names;
 use std::simd::prelude::*;
 
 /// How many bytes one vector has.
 const LANES: usize = 32;
-
-/// The offset of the first `)`. Most lists are short, so the first bytes are looked at here, before a search is called.
-#[inline(always)]
-pub(crate) fn right_from(bytes: &[u8]) -> Option<usize>
-    ensures { IsFirstByte (is_byte 41) bytes.now result }
-{
-    if bytes.len() >= LANES {
-        if let Some(near) = right_in(bytes, 0) {
-            return Some(near);
-        }
-    }
-    if bytes.len() >= 2 * LANES {
-        if let Some(far) = right_in(bytes, LANES) {
-            return Some(far);
-        }
-    }
-    memchr(b')', bytes)
-}
-
-/// The offset of the first `)` among the 32 bytes from `at` on.
-#[inline(always)]
-fn right_in(bytes: &[u8], at: usize) -> Option<usize>
-    requires { at + 32 ≤ length bytes.now }
-    ensures { IsFirst (Passes (is_byte 41) bytes.now) at (at + 32) result }
-{
-    let found = u8x32::from_slice(&bytes[at..])
-        .simd_eq(u8x32::splat(b')'))
-        .to_bitmask();
-    if found == 0 {
-        return None;
-    }
-    Some(at + found.trailing_zeros() as usize)
-}
-
-/// How many spaces there are from `at` on, as far as 8 bytes tell. Where fewer are left, none are counted.
-#[inline(always)]
-pub(crate) fn spaces_from(text: &[u8], at: usize) -> usize
-    requires { at ≤ length text.now }
-    ensures spaces { (k : ℕ) → at ≤ k → k < at + result → slice_index text.now k ≡ 32 }
-    ensures within { at + result ≤ length text.now }
-{
-    if text.len() - at < 8 {
-        return 0;
-    }
-    let others = u8x8::from_slice(&text[at..])
-        .simd_ne(u8x8::splat(b' '))
-        .to_bitmask();
-    if others == 0 {
-        return 8;
-    }
-    others.trailing_zeros() as usize
-}
 
 /// Whether the key of a list is names, with a single space between each two.
 ///

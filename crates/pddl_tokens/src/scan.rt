@@ -8,7 +8,7 @@ ghost use Rattle.pddl_tokens.specs.Front.{IsFront, pieces_at};
 ghost use Rattle.pddl_tokens.specs.Groups.{BeginsWithList};
 
 use crate::bytes::{ByteClass, class_of, is_blank, is_word_byte};
-use crate::lanes::{are_names_in, right_from, spaces_from};
+use crate::lanes::are_names_in;
 use crate::spans::{BadByte, Span, Token, TokenKind, TooLong};
 use memchr::memchr;
 use std::marker::Model;
@@ -166,7 +166,7 @@ impl<'a> Cursor<'a> {
             return None;
         }
         let inside = &text[open + 1..];
-        let size = right_from(inside)?;
+        let size = memchr(b')', inside)?;
         Some(Group {
             start: open as u32,
             key: &inside[..size],
@@ -179,7 +179,7 @@ impl<'a> Cursor<'a> {
     }
 }
 
-/// The offset of the first byte from `at` on that is no blank, or the end. Lines are often indented, so spaces are skipped some at a time.
+/// The offset of the first byte from `at` on that is no blank, or the end.
 fn skip_blanks(text: &[u8], mut at: usize) -> usize
     requires { at ≤ length text.now }
     ensures same { pieces_at text.now result ≡ pieces_at text.now at }
@@ -190,7 +190,6 @@ fn skip_blanks(text: &[u8], mut at: usize) -> usize
             return at;
         }
         at += 1;
-        at += spaces_from(text, at);
     }
     at
 }

@@ -9,7 +9,7 @@ abbrev pub cost_of_halves : ℕ → ℕ → Cost
 cost_of_halves high low =
     if high == 2 ^ 64 - 1 then NotCounted else if high == 2 ^ 64 - 2 then Undefined else Billionths (high * 2 ^ 64 + low)
 
--- a cost that two halves can hold
+-- a cost that fits in two halves
 abbrev pub IsCompact : Cost → Type 0
 IsCompact NotCounted = ⊤
 IsCompact Undefined = ⊤

@@ -11,16 +11,16 @@ use Rattle.plan_cost.specs.declared.values.Given.TheVariants.{First, Again, Anot
 abbrev pub value_of : List (Atom × ℕ) → Atom → Option ℕ
 value_of values function = lookup (atom_eq function) values
 
--- what is reported when a value is given to a function that had this one before, if any
+-- what is reported when a function is given a value, by the value that it had before, if any
 abbrev pub given_over : Option ℕ → ℕ → Given
 given_over None value = First
 given_over (Some earlier) value = if earlier == value then Again else Another
 
--- the values with one for this function, which had this one before, if any: an earlier value stays
+-- the values after a function is given one, by the value that it had before, if any: an earlier value stays
 abbrev pub with_value_over : Option ℕ → List (Atom × ℕ) → Atom → ℕ → List (Atom × ℕ)
 with_value_over None values function value = values ++ (function, value) ∷ []
 with_value_over (Some earlier) values function value = values
 
--- the values with one for this function, unless it has one
+-- the values after a function is given one: the first value of each function stays
 abbrev pub with_value : List (Atom × ℕ) → Atom → ℕ → List (Atom × ℕ)
 with_value values function value = with_value_over (value_of values function) values function value

@@ -13,5 +13,4 @@ mod PlanLaws
 mod OnlyPlan
 mod WholeSteps
 mod WalkSteps
-mod WrittenRows
 mod Comparisons

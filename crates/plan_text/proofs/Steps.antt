@@ -1,8 +1,7 @@
 -- Single steps of the reader.
 
-use Rattle.std.proofs.Common.{◌≡◌, ℕ, ◌<◌, ◌≤◌, ◌^◌, Bool, true, false, List, [], ◌∷◌, ◌++◌, length, take, drop, nat_eq, Option, Some, None, refl, sym, ap, ◌∙◌, subst, arith, length-append}
-use Rattle.std.specs.Prelude.{cond, nat_lt, Result, Ok, Err, IfOk}
-use Rattle.std.specs.declared.alloc.AllocError.{AllocError}
+use Rattle.std.proofs.Common.{◌≡◌, ℕ, ◌<◌, ◌≤◌, ◌^◌, Bool, true, false, List, [], ◌∷◌, ◌++◌, length, take, drop, nat_eq, Option, Some, None, refl, sym, ap, ◌∙◌, subst}
+use Rattle.std.specs.Prelude.{cond, nat_lt}
 use Rattle.std.specs.Cmp.Lexicographic.{pointwise}
 use Rattle.std.proofs.Math.Bool.{and-true}
 use Rattle.std.proofs.lemmas.Bool.{lt-ltb, le-ltb, and_parts}
@@ -13,7 +12,6 @@ use Rattle.pddl_tokens.specs.declared.spans.TokenKind.TheVariants.{Right}
 use Rattle.pddl_tokens.specs.Tokens.{Piece, token, bad, pieces}
 use Rattle.strips_task.specs.declared.plans.Plan.TheVariants.{Unreadable}
 use Rattle.strips_task.specs.OpenPlan.{OpenPlan}
-use Rattle.strips_task.specs.Steps.{step_of}
 use Rattle.plan_text.specs.declared.want.Want.{Want}
 use Rattle.plan_text.specs.declared.want.Want.TheVariants.{Step, Number, Opening, Action, Argument}
 use Rattle.plan_text.specs.declared.want.Expected.{Expected}
@@ -53,26 +51,6 @@ plan_short text short = sym (ap (λ (t : Bool). cond t (plan_from text nothing_r
 pub read_by : (want : Want) (expected : Expected) (plan new : OpenPlan) (s : Symbol) (next : Option Expected) → expected.want ≡ want → LeadsTo next new (by_want want (reading expected plan) s) → ReadsOn next expected plan s new
 unfolding read_on
 read_by want expected plan new s next is leads = subst (λ (w : Want). LeadsTo next new (by_want w (reading expected plan) s)) (sym is) leads
-
--- a word where a name may come
-name_wanted : (want : Want) (r : Reading) (text : List ℕ) → takes_name want ≡ true → by_want want r (word text) ≡ named r text
-name_wanted Step r text takes = absurd cc
-name_wanted Number r text takes = absurd cc
-name_wanted Opening r text takes = absurd cc
-name_wanted Action r text takes = refl
-name_wanted Argument r text takes = refl
-
-pub reads_name : (r : Result (Option Expected) AllocError) (expected : Expected) (plan new : OpenPlan) (text : List ℕ) → takes_name expected.want ≡ true → IfOk r (λ next. LeadsTo next new (named (reading expected plan) text)) → IfOk r (λ next. ReadsOn next expected plan (word text) new)
-reads_name (Ok next) expected plan new text takes leads =
-    read_by expected.want expected plan new (word text) next refl (subst (LeadsTo next new) (sym (name_wanted expected.want (reading expected plan) text takes)) leads)
-reads_name (Err e) expected plan new text takes leads = tt
-
-pub room_for_name : (want : Want) (plan : OpenPlan) → takes_name want ≡ true → IsReady want plan → length plan.steps < MOST_STEPS
-room_for_name Step plan takes ready = absurd cc
-room_for_name Number plan takes ready = absurd cc
-room_for_name Opening plan takes ready = absurd cc
-room_for_name Action plan takes ready = ready.1
-room_for_name Argument plan takes ready = ready.1
 
 -- a word behind a stamp
 no_word : (want : Want) (r : Reading) (text : List ℕ) → takes_name want ≡ false → (want ≡ Step → ⊥) → (want ≡ Number → ⊥) → by_want want r (word text) ≡ None
@@ -136,28 +114,11 @@ pub right_outside : (expected : Expected) (count : ℕ) (kind : TokenKind) (text
 right_outside expected count kind text is outside =
     subst (λ (k : TokenKind). ReadsBetween None expected count (symbol_of k text)) (sym is) (λ plan counted ready. right_refused expected plan (not_inside expected.want outside))
 
--- a `)` behind a name
-pub closed_reads : (expected next : Expected) (old new : OpenPlan) → expected.want ≡ Argument → next ≡ record { want = Number; least_stamp = expected.least_stamp } → new ≡ record { steps = old.steps ++ step_of old.words ∷ []; words = [] } → ReadsOn (Some next) expected old right new
-closed_reads expected next old new is same closes =
-    read_by Argument expected old new right (Some next) is (
-    subst (λ (n : Expected). LeadsTo (Some n) new (by_want Argument (reading expected old) right)) (sym same)
-    (subst (λ (p : OpenPlan). LeadsTo (Some (record { want = Number; least_stamp = expected.least_stamp })) p (by_want Argument (reading expected old) right)) (sym closes) (refl, refl))
-    )
-
--- a name inside a step
-pub name_reads : (expected next : Expected) (old new : OpenPlan) (text : List ℕ) → length old.steps < MOST_STEPS → is_name text ≡ true → next ≡ record { want = Argument; least_stamp = expected.least_stamp } → new ≡ record { steps = old.steps; words = old.words ++ folded text ∷ [] } → LeadsTo (Some next) new (named (reading expected old) text)
-name_reads expected next old new text few name same pushed =
-    subst (λ (n : Expected). LeadsTo (Some n) new (named (reading expected old) text)) (sym same)
-    (subst (λ (p : OpenPlan). LeadsTo (Some (record { want = Argument; least_stamp = expected.least_stamp })) p (named (reading expected old) text)) (sym pushed) (
-      ap (λ (t : Bool). cond t (Some (record { want = Argument; least = expected.least_stamp; steps = old.steps; words = old.words ++ folded text ∷ [] })) None) name,
-      (omega (arith, length-append old.words (folded text ∷ [])), few),
-    ))
-
+-- a word inside a step that is no name
 pub unnamed_refused : (r : Reading) (text : List ℕ) → is_name text ≡ false → named r text ≡ None
 unnamed_refused r text is = ap (λ (t : Bool). cond t (Some (record { want = Argument; least = r.least; steps = r.steps; words = r.words ++ folded text ∷ [] })) None) is
 
 -- a word behind a step that begins with `[`, and one that does not
-
 begun_none : (t : Bool) → ◌≡◌ {A = Option Reading} (cond t None None) None
 begun_none true = refl
 begun_none false = refl

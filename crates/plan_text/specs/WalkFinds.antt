@@ -46,7 +46,7 @@ pub record IsStepFound (old new : Walk) (words : List (List ℕ)) (key : Option 
   pub behind : GoesBehind old new (step_of (map folded words))
   pub spelled : IfSome key (λ row. IsSpelled row × (step_spelled row ≡ step_of (map folded words)))
 
--- what was found; at the end of the text and at a fault the walk stays where it is
+-- what a walk finds next: a step, which it passes, or the end of the text or a fault, where it stays
 abbrev pub IsFound : TextStep → Walk → Walk → Type 0
 IsFound (t.Step words key) old new = IsStepFound old new words (option_copied key)
 IsFound t.End old new = (new ≡ old) × ((steps : List StepText) → HasPassed old steps → plan_of old.text ≡ Steps steps)

@@ -63,8 +63,3 @@ words_before (bad at ∷ pieces) = []
 words_before (token Left span bytes ∷ pieces) = []
 words_before (token Right span bytes ∷ pieces) = []
 words_before (token Word span bytes ∷ pieces) = bytes ∷ words_before pieces
-
--- how many bytes words take in a row, with a space behind each
-abbrev pub row_size : List (List ℕ) → ℕ
-row_size [] = 0
-row_size (word ∷ words) = length word + 1 + row_size words

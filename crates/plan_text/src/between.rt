@@ -1,7 +1,6 @@
 //! What is between two steps: the bracketed number of the first, the stamp of the second, and the `(` that opens it.
 //!
-//! None of this needs the words of a step, so a reader that keeps the steps and one that only counts them share it. Contracts speak of any
-//! plan with the given number of steps.
+//! None of this needs the words of a step. Contracts speak of any plan with the given number of steps.
 
 ghost use Rattle.std.specs.Prelude.{◌≡◌, ◌<◌, false, length, Some, []};
 ghost use Rattle.strips_task.specs.OpenPlan.{OpenPlan};
@@ -36,7 +35,7 @@ pub(crate) fn read_between(
 
 /// Reads a `(` after `steps` steps; `None` if it may not come here.
 #[inline(always)]
-pub(crate) fn read_left(steps: usize, expected: Expected) -> Option<Expected>
+fn read_left(steps: usize, expected: Expected) -> Option<Expected>
     ensures { ReadsBetween result expected steps left }
 {
     match expected.want {

@@ -1,8 +1,6 @@
 //! A walk over the steps of a plan text, none of which is kept.
 
-ghost use Rattle.std.specs.Prelude.{◌≡◌, ◌+◌, ◌<◌, ◌≤◌, ◌^◌, [], ◌∷◌, ◌++◌, length, map, nat_le, take, ℕ, List, false, true, IsTrue, MatchOption, IfSome, IfOk};
-ghost use Rattle.std.specs.List.{list_all};
-ghost use Rattle.pddl_words.specs.SpacedWords.{words_of};
+ghost use Rattle.std.specs.Prelude.{◌≡◌, ◌+◌, ◌<◌, ◌≤◌, ◌^◌, [], ◌∷◌, ◌++◌, length, map, ℕ, List, false, IsTrue, MatchOption, IfSome, IfOk};
 ghost use Rattle.pddl_words.specs.Words.{is_name, folded};
 ghost use Rattle.pddl_tokens.specs.declared.spans.Span.{Span};
 ghost use Rattle.pddl_tokens.specs.declared.spans.TokenKind.TheVariants.{Left};
@@ -12,7 +10,7 @@ ghost use Rattle.strips_task.specs.declared.plans.Plan.TheVariants.{Unreadable};
 ghost use Rattle.strips_task.specs.Spelled.{IsSpelled, step_spelled};
 ghost use Rattle.strips_task.specs.Steps.{step_of};
 ghost use Rattle.plan_text.specs.PlanReading.{plan_of};
-ghost use Rattle.plan_text.specs.Walks.{HasPassed, GoesBehind, GoesOn, RestsAt, row_size, words_before};
+ghost use Rattle.plan_text.specs.Walks.{HasPassed, GoesBehind, GoesOn, RestsAt, words_before};
 ghost use Rattle.plan_text.specs.declared.walk.TextStep.TheVariants.{End};
 ghost use Rattle.plan_text.specs.WalkFinds.{ComesNext, IsBetweenSteps, IsFound, IsOnward, IsOpened, IsOpening, IsInside, IsEnding, ended};
 ghost use Rattle.strips_task.specs.declared.steps.TheConstants.{MOST_STEPS};
@@ -133,59 +131,20 @@ impl<'a> StepWords<'a> {
         requires some { 0 < length self.now }
         ensures { IfOk result (λ _. step.new ≡ record { steps = step_of (map folded self.now) ∷ []; words = [] }) }
     {
-        push_words(self.fork(), step)?;
-        step.close_step()?;
+        self.push_step(step)
+    }
+
+    /// Reads the words into a new step of a plan, in lower case, and closes it. The only error is running out of memory.
+    pub(crate) fn push_step(&self, plan: &mut OpenSteps) -> Result<(), AllocError>
+        requires closed { plan.old.words ≡ [] }
+        requires some { 0 < length self.now }
+        requires room { length plan.old.steps < MOST_STEPS }
+        ensures { IfOk result (λ _. plan.new ≡ record { steps = plan.old.steps ++ step_of (map folded self.now) ∷ []; words = [] }) }
+    {
+        push_words(self.fork(), plan)?;
+        plan.close_step()?;
         Ok(())
     }
-
-    /// Reads the first words, at most `most` of them, into an empty step, as `push_to` reads all. The only error is running out of memory.
-    pub fn push_front_to(&self, most: usize, step: &mut OpenSteps) -> Result<(), AllocError>
-        requires fresh { step.old ≡ record { steps = []; words = [] } }
-        requires some { 0 < length self.now }
-        requires one { 0 < most }
-        ensures { IfOk result (λ _. step.new ≡ record { steps = step_of (map folded (take most self.now)) ∷ []; words = [] }) }
-    {
-        push_front(self.fork(), most, step)?;
-        step.close_step()?;
-        Ok(())
-    }
-
-    /// Writes the words as they are in the text into a row, with a space between each two, if that has at most `most` bytes. Returns whether it did;
-    /// if not, the bytes of the row mean nothing. The only error is running out of memory.
-    pub fn write_row(&self, most: usize, row: &mut Vec<u8>) -> Result<bool, AllocError>
-        requires some { 0 < length self.now }
-        requires names { list_all is_name self.now ≡ true }
-        ensures fits { IfOk result (λ fits. fits ≡ nat_le (row_size self.now) (most + 1)) }
-        ensures row { IfOk result (λ fits. IsTrue fits → words_of row.new.items ≡ self.now) }
-    {
-        let mut words = self.fork();
-        row.clear();
-        let Some(first) = words.next() else {
-            return Ok(false);
-        };
-        if first.len() > most {
-            return Ok(false);
-        }
-        row.extend_from_slice(first)?;
-        push_row(words, most, row)
-    }
-}
-
-/// Writes words behind others into a row, with a space before each, if the row then has at most `most` bytes.
-fn push_row(mut words: StepWords<'_>, most: usize, row: &mut Vec<u8>) -> Result<bool, AllocError>
-    requires names { list_all is_name words ≡ true }
-    requires room { length row.old.items ≤ most }
-    ensures fits { IfOk result (λ fits. fits ≡ nat_le (length row.old.items + row_size words.entry) most) }
-    ensures row { IfOk result (λ fits. IsTrue fits → words_of row.new.items ≡ words_of row.old.items ++ words.entry) }
-{
-    'words: while let Some(word) = words.next() {
-        if row.len() + word.len() >= most {
-            return Ok(false);
-        }
-        row.push(b' ')?;
-        row.extend_from_slice(word)?;
-    }
-    Ok(true)
 }
 
 /// Reads words into an open step, in lower case.
@@ -193,19 +152,6 @@ fn push_words(mut words: StepWords<'_>, step: &mut OpenSteps) -> Result<(), Allo
     ensures { IfOk result (λ _. step.new ≡ record { steps = step.old.steps; words = step.old.words ++ map folded words.entry }) }
 {
     'words: while let Some(word) = words.next() {
-        step.push_word(word)?;
-    }
-    Ok(())
-}
-
-/// Reads the first words, at most `most` of them, into an open step, in lower case.
-fn push_front(mut words: StepWords<'_>, most: usize, step: &mut OpenSteps) -> Result<(), AllocError>
-    ensures { IfOk result (λ _. step.new ≡ record { steps = step.old.steps; words = step.old.words ++ map folded (take most words.entry) }) }
-{
-    'words: for _ in 0..most {
-        let Some(word) = words.next() else {
-            return Ok(());
-        };
         step.push_word(word)?;
     }
     Ok(())

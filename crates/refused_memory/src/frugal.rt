@@ -3,7 +3,7 @@
 //! Each row first makes what its calls need, and then makes the calls if `makes_calls` is set. After the set-up all memory can be refused.
 
 use crate::page::Page;
-use crate::seen::{Seen, of_engine};
+use crate::seen::{Seen, whole_if};
 use crate::tasks::{blocks, discard};
 use crate::texts::{BOTH, LAMP, LAMP_1, LIGHT, LIGHT_TWICE, REPLIES, STEPS};
 use intake_core::Refusal;
@@ -20,14 +20,10 @@ use strips_judge::Task;
 
 /// What is asked of a task.
 pub(crate) fn task_row(alloc: Global, makes_calls: bool) -> Seen {
-    match blocks(alloc) {
-        Ok(task) => {
-            let is_right = !makes_calls || reads_blocks(&task.task);
-            discard(task);
-            Seen::whole_if(is_right)
-        }
-        Err(seen) => seen,
-    }
+    let task = blocks(alloc)?;
+    let is_right = !makes_calls || reads_blocks(&task.task);
+    discard(task);
+    whole_if(is_right)
 }
 
 /// Whether a task is that of its texts.
@@ -67,7 +63,7 @@ fn reads_action(task: &Task) -> bool {
 
 /// What is asked of texts and words. Nothing has to be made for it.
 pub(crate) fn text_row(makes_calls: bool) -> Seen {
-    Seen::whole_if(!makes_calls || reads_tokens() && reads_words() && reads_parts())
+    whole_if(!makes_calls || reads_tokens() && reads_words() && reads_parts())
 }
 
 /// Whether a text has its tokens.
@@ -121,19 +117,14 @@ fn is_part(part: Option<&[u8]>, wanted: &[u8]) -> bool {
 }
 
 /// The lines of a replay.
-pub(crate) fn replayed(alloc: Global) -> Result<Report, Seen> {
-    match replay_bytes(alloc, Seed::fixed(), LAMP, LAMP_1, STEPS) {
-        Ok(report) => Ok(report),
-        Err(fault) => Err(of_engine(fault)),
-    }
+pub(crate) fn replayed(alloc: Global) -> Result<Report, JudgeFault> {
+    replay_bytes(alloc, Seed::fixed(), LAMP, LAMP_1, STEPS)
 }
 
 /// What is asked of a report.
 pub(crate) fn report_row(alloc: Global, makes_calls: bool) -> Seen {
-    match replayed(alloc) {
-        Ok(report) => Seen::whole_if(!makes_calls || is_written(&report)),
-        Err(seen) => seen,
-    }
+    let report = replayed(alloc)?;
+    whole_if(!makes_calls || is_written(&report))
 }
 
 /// Whether a report is written whole.

@@ -3,53 +3,35 @@
 ghost use Rattle.std.specs.Prelude.{◌≡◌};
 ghost use Rattle.intake_rules.specs.Findings.{IsRight};
 
-use crate::desks::is_valid;
-use crate::seen::Seen;
+use crate::desks::valid_job;
+use crate::seen::{Seen, whole_if};
 use crate::tasks::{discard, lamp, light};
 use intake_core::{Desk, Finding, Job, Refusal};
 use intake_rules::SubmittedPlan;
 use plan_cost::CostedTask;
-use std::alloc::{AllocError, Global};
+use std::alloc::Global;
 use std::sync::Arc;
 use strips_judge::Plan;
 
 /// What is asked of a desk, once two findings of one job were made.
 pub(crate) fn desk_row(alloc: Global, makes_calls: bool) -> Seen {
-    match lamp(alloc) {
-        Ok(task) => {
-            let seen = light_and_judge(alloc, &task, makes_calls);
-            discard(task);
-            seen
-        }
-        Err(seen) => seen,
-    }
-}
-
-/// Makes a plan, and judges it twice.
-fn light_and_judge(alloc: Global, task: &CostedTask, makes_calls: bool) -> Seen {
-    match light(alloc) {
-        Ok(plan) => judge_first(alloc, task, &plan, makes_calls),
-        Err(seen) => seen,
-    }
+    let task = lamp(alloc)?;
+    let seen = judge_first(alloc, &task, makes_calls);
+    discard(task);
+    seen
 }
 
 /// Judges the job that a plan will be, twice.
-fn judge_first(alloc: Global, task: &CostedTask, plan: &Arc<Plan>, makes_calls: bool) -> Seen {
-    let Ok(own) = Arc::try_clone(plan) else {
-        return Seen::Wrong;
-    };
+fn judge_first(alloc: Global, task: &CostedTask, makes_calls: bool) -> Seen {
+    let plan = light(alloc)?;
     let job = Job {
         number: 0,
         planner: 0,
-        plan: SubmittedPlan::from_plan(own),
+        plan: SubmittedPlan::from_plan(Arc::try_clone(&plan)?),
     };
-    match Finding::judge(alloc, task, &job) {
-        Ok(finding) => match Finding::judge(alloc, task, &job) {
-            Ok(other) => with_findings(alloc, task, plan, finding, other, makes_calls),
-            Err(AllocError) => Seen::Refused,
-        },
-        Err(AllocError) => Seen::Refused,
-    }
+    let finding = Finding::judge(alloc, task, &job)?;
+    let other = Finding::judge(alloc, task, &job)?;
+    with_findings(alloc, task, &plan, finding, other, makes_calls)
 }
 
 /// Makes a desk for findings.
@@ -63,16 +45,14 @@ fn with_findings(
 ) -> Seen
     requires { IsRight task.now finding × IsRight task.now other }
 {
-    match Desk::make(alloc, task, 1, 2) {
-        Ok(mut desk) => Seen::whole_if(
-            !makes_calls
-                || takes_in(&mut desk, plan)
-                    && gives_out(&mut desk)
-                    && finishes(&mut desk, finding, other)
-                    && emits(&mut desk),
-        ),
-        Err(AllocError) => Seen::Refused,
-    }
+    let mut desk = Desk::make(alloc, task, 1, 2)?;
+    whole_if(
+        !makes_calls
+            || takes_in(&mut desk, plan)
+                && gives_out(&mut desk)
+                && finishes(&mut desk, finding, other)
+                && emits(&mut desk),
+    )
 }
 
 /// Submits a plan three times. Whether two slots take it, and none is left then.
@@ -88,13 +68,8 @@ fn takes_in(desk: &mut Desk, plan: &Arc<Plan>) -> bool
 fn submitted(desk: &mut Desk, plan: &Arc<Plan>) -> Option<u32>
     ensures { desk.new.task ≡ desk.old.task }
 {
-    match Arc::try_clone(plan) {
-        Ok(plan) => match desk.submit(0, plan) {
-            Ok(job) => Some(job),
-            Err(_) => None,
-        },
-        Err(_) => None,
-    }
+    let plan = Arc::try_clone(plan).ok()?;
+    desk.submit(0, plan).ok()
 }
 
 /// Takes a job, hands it back and takes it again. Whether it is always the first.
@@ -126,21 +101,14 @@ fn is_finished(desk: &mut Desk, other: Finding) -> bool
 
 /// Emits the finding of the first job, and closes the planner. Whether the second job's is not ready.
 fn emits(desk: &mut Desk) -> bool {
-    is_emitted(desk) && is_not_ready(desk) && desk.close(0).is_ok() && desk.close(0).is_err()
+    emit(desk) == Ok(Some(0))
+        && emit(desk) == Err(Refusal::NotReady(1))
+        && desk.close(0).is_ok()
+        && desk.close(0).is_err()
 }
 
-/// Whether the finding of the first job is emitted.
-fn is_emitted(desk: &mut Desk) -> bool {
-    match desk.emit(0) {
-        Ok(finding) => is_valid(&finding, 0),
-        Err(_) => false,
-    }
-}
-
-/// Whether the second job is not ready.
-fn is_not_ready(desk: &mut Desk) -> bool {
-    match desk.emit(0) {
-        Ok(_) => false,
-        Err(refusal) => refusal == Refusal::NotReady(1),
-    }
+/// The job whose finding is emitted, if that says that its plan is valid.
+fn emit(desk: &mut Desk) -> Result<Option<u32>, Refusal> {
+    let finding = desk.emit(0)?;
+    Ok(valid_job(&finding))
 }

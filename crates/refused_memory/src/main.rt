@@ -29,7 +29,7 @@ mod tasks;
 mod texts;
 
 use crate::rows::{run_all, run_row};
-use crate::seen::Seen;
+use crate::seen::status;
 use std::env;
 use std::io::ErrorKind;
 use std::process::ExitCode;
@@ -37,9 +37,7 @@ use std::process::ExitCode;
 fn main(rt: HostRuntime) -> ExitCode {
     let mut words = match env::args(&rt) {
         Ok(words) => words,
-        Err(error) if error.kind() == ErrorKind::OutOfMemory => {
-            return ExitCode::from(Seen::Refused.status());
-        }
+        Err(error) if error.kind() == ErrorKind::OutOfMemory => return ExitCode::from(3),
         Err(_) => return ExitCode::from(2),
     };
     let seen = match words.nth(1) {
@@ -47,7 +45,7 @@ fn main(rt: HostRuntime) -> ExitCode {
         None => run_all(&rt),
     };
     match seen {
-        Some(seen) => ExitCode::from(seen.status()),
+        Some(seen) => ExitCode::from(status(seen)),
         None => ExitCode::from(2),
     }
 }

@@ -1,9 +1,9 @@
 //! Names, and a table that they are pushed to.
 
-use crate::seen::Seen;
+use crate::seen::{Seen, Stop, refused_if, whole_if};
 use pddl_reader::Seed;
 use pddl_tokens::{WordKind, word_kind};
-use std::alloc::{AllocError, Global};
+use std::alloc::Global;
 use strips_judge::{Name, NameTable};
 
 /// The names that are pushed. Those of more than 22 bytes take memory of their own.
@@ -23,56 +23,39 @@ const NAMES: [&[u8]; 12] = [
 ];
 
 /// The name of a word.
-fn name(alloc: Global, word: &[u8]) -> Result<Name, Seen> {
+fn name(alloc: Global, word: &[u8]) -> Result<Name, Stop> {
     match word_kind(word) {
-        WordKind::Name => match Name::from_word(alloc, word) {
-            Ok(name) => Ok(name),
-            Err(AllocError) => Err(Seen::Refused),
-        },
-        _ => Err(Seen::Wrong),
+        WordKind::Name => Ok(Name::from_word(alloc, word)?),
+        _ => Err(Stop::Wrong),
     }
 }
 
 /// A name is made of a word, and is in lower case.
 pub(crate) fn name_row(alloc: Global) -> Seen {
-    match name(alloc, b"A-Word-Of-More-Than-Twenty-Two-Bytes") {
-        Ok(name) => {
-            Seen::whole_if(name.as_bytes() == b"a-word-of-more-than-twenty-two-bytes".as_slice())
-        }
-        Err(seen) => seen,
-    }
+    let name = name(alloc, b"A-Word-Of-More-Than-Twenty-Two-Bytes")?;
+    whole_if(name.as_bytes() == b"a-word-of-more-than-twenty-two-bytes".as_slice())
 }
 
 /// Names are pushed to a table until a push is refused memory.
 pub(crate) fn push_row(alloc: Global) -> Seen {
     let mut table = NameTable::new(alloc, Seed::fixed());
     for (number, word) in NAMES.iter().enumerate() {
-        let seen = push(alloc, &mut table, word, number);
-        if seen != Seen::Whole {
-            return seen;
-        }
+        push(alloc, &mut table, word, number)?;
     }
-    Seen::whole_if(has_first(&table, NAMES.len()))
+    whole_if(has_first(&table, NAMES.len()))
 }
 
-/// Pushes the name of a word.
+/// Pushes the name of a word. If that is refused memory, the name and its number come back, and the table is what it was.
 fn push(alloc: Global, table: &mut NameTable<usize>, word: &[u8], number: usize) -> Seen {
-    match name(alloc, word) {
-        Ok(name) => push_name(table, name, word, number),
-        Err(seen) => seen,
-    }
-}
-
-/// Pushes a name. If that is refused memory, the name and its number come back, and the table is what it was.
-fn push_name(table: &mut NameTable<usize>, name: Name, word: &[u8], number: usize) -> Seen {
+    let name = name(alloc, word)?;
     if table.number_of(name.as_bytes()).is_some() {
-        return Seen::Wrong;
+        return Err(Stop::Wrong);
     }
     match table.push(name, number) {
-        Ok(()) => Seen::Whole,
+        Ok(()) => Ok(()),
         Err(failed) => {
             let (name, value) = failed.value;
-            Seen::refused_if(name.as_bytes() == word && value == number && has_first(table, number))
+            refused_if(name.as_bytes() == word && value == number && has_first(table, number))
         }
     }
 }

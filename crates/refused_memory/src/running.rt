@@ -2,9 +2,9 @@
 
 ghost use Rattle.std.specs.Prelude.{◌≡◌, ◌<◌, ◌≤◌, All, IfOk, length};
 
-use crate::desks::is_valid;
+use crate::desks::valid_job;
 use crate::frugal::replayed;
-use crate::seen::{Seen, of_engine};
+use crate::seen::{Seen, Stop, whole_if};
 use crate::tasks::{discard, lamp, light};
 use crate::texts::{BOTH, FLY, LAMP, LAMP_1, LIGHT, REPLIES, REPORT};
 use intake_rules::SubmittedPlan;
@@ -22,17 +22,13 @@ use strips_judge::Plan;
 pub(crate) fn run_row<R: AllocGlobal + Threads + Wait + Sync>(rt: &R, workers: u32) -> Seen
     requires { (1 ≤ workers) × (workers ≤ 32) }
 {
-    match lamp(rt.alloc()) {
-        Ok(task) => {
-            let seen = run_lights(rt, &task, workers);
-            discard(task);
-            seen
-        }
-        Err(seen) => seen,
-    }
+    let task = lamp(rt.alloc())?;
+    let seen = run_lights(rt, &task, workers);
+    discard(task);
+    seen
 }
 
-/// Makes two plans, and judges them.
+/// Judges two plans of one planner.
 fn run_lights<R: AllocGlobal + Threads + Wait + Sync>(
     rt: &R,
     task: &CostedTask,
@@ -40,104 +36,64 @@ fn run_lights<R: AllocGlobal + Threads + Wait + Sync>(
 ) -> Seen
     requires { (1 ≤ workers) × (workers ≤ 32) }
 {
-    match two_lights(rt.alloc()) {
-        Ok(plans) => run_plans(rt, task, plans, workers),
-        Err(seen) => seen,
-    }
-}
-
-/// Judges two plans of one planner.
-fn run_plans<R: AllocGlobal + Threads + Wait + Sync>(
-    rt: &R,
-    task: &CostedTask,
-    plans: Vec<Submission>,
-    workers: u32,
-) -> Seen
-    requires plans { (length plans.items ≡ 2) × All (λ plan. plan.planner < 1) plans.items }
-    requires workers { (1 ≤ workers) × (workers ≤ 32) }
-{
+    let plans = two_lights(rt.alloc())?;
     let mut intake = Listed::new(plans);
     match run(rt, rt.alloc(), task, 1, 2, &mut intake, workers, &Open) {
-        Ok(findings) => Seen::whole_if(are_valid(&findings)),
-        Err(RunFault::OutOfMemory | RunFault::NoThread) => Seen::Refused,
-        Err(RunFault::Held(_)) => Seen::Wrong,
+        Ok(findings) => whole_if(are_valid(&findings)),
+        Err(RunFault::OutOfMemory | RunFault::NoThread) => Err(Stop::Refused),
+        Err(RunFault::Held(_)) => Err(Stop::Wrong),
     }
 }
 
 /// Two plans of the first planner that light the lamp.
-fn two_lights(alloc: Global) -> Result<Vec<Submission>, Seen>
+fn two_lights(alloc: Global) -> Result<Vec<Submission>, AllocError>
     ensures { IfOk result (λ plans. (length plans.items ≡ 2) × All (λ plan. plan.planner < 1) plans.items) }
 {
-    match light(alloc) {
-        Ok(plan) => twice(alloc, &plan),
-        Err(seen) => Err(seen),
-    }
+    let plan = light(alloc)?;
+    let first = submission(&plan)?;
+    let second = submission(&plan)?;
+    Ok(Vec::from_array(alloc, [first, second])?)
 }
 
 /// The submission of a plan.
-fn submission(plan: &Arc<Plan>) -> Result<Submission, Seen>
+fn submission(plan: &Arc<Plan>) -> Result<Submission, AllocError>
     ensures { IfOk result (λ it. it.planner ≡ 0) }
 {
-    match Arc::try_clone(plan) {
-        Ok(plan) => Ok(Submission {
-            planner: 0,
-            plan: SubmittedPlan::from_plan(plan),
-        }),
-        Err(_) => Err(Seen::Wrong),
-    }
-}
-
-/// A plan of the first planner, twice.
-fn twice(alloc: Global, plan: &Arc<Plan>) -> Result<Vec<Submission>, Seen>
-    ensures { IfOk result (λ plans. (length plans.items ≡ 2) × All (λ plan. plan.planner < 1) plans.items) }
-{
-    let first = submission(plan)?;
-    let second = submission(plan)?;
-    match Vec::from_array(alloc, [first, second]) {
-        Ok(plans) => Ok(plans),
-        Err(_) => Err(Seen::Refused),
-    }
+    Ok(Submission {
+        planner: 0,
+        plan: SubmittedPlan::from_plan(Arc::try_clone(plan)?),
+    })
 }
 
 /// Whether both plans of one planner were found valid.
 fn are_valid(findings: &Findings) -> bool {
     findings.planners() == 1
         && findings.plans(0) == 2
-        && is_valid(findings.get(0, 0), 0)
-        && is_valid(findings.get(0, 1), 1)
+        && valid_job(findings.get(0, 0)) == Some(0)
+        && valid_job(findings.get(0, 1)) == Some(1)
 }
 
 /// The plans of three planners are judged by `workers` workers.
 pub(crate) fn judge_row<R: AllocGlobal + Threads + Wait + Sync>(rt: &R, workers: u32) -> Seen
     requires { (1 ≤ workers) × (workers ≤ 32) }
 {
-    match bundles(rt.alloc()) {
-        Ok(bundles) => judged(rt, bundles.as_slice(), workers),
-        Err(seen) => seen,
-    }
-}
-
-/// What is seen of the report on planners.
-fn judged<R: AllocGlobal + Threads + Wait + Sync>(rt: &R, bundles: &[Bundle], workers: u32) -> Seen
-    requires { (1 ≤ workers) × (workers ≤ 32) }
-{
-    match judge_bytes(
+    let alloc = rt.alloc();
+    let bundles = bundles(alloc)?;
+    let report = judge_bytes(
         rt,
-        rt.alloc(),
+        alloc,
         Seed::fixed(),
         LAMP,
         LAMP_1,
-        bundles,
+        &bundles,
         workers,
         &Open,
-    ) {
-        Ok(report) => Seen::whole_if(report.bytes() == REPORT),
-        Err(fault) => of_engine(fault),
-    }
+    )?;
+    whole_if(report.bytes() == REPORT)
 }
 
 /// The files of three planners.
-fn bundles(alloc: Global) -> Result<[Bundle; 3], Seen> {
+fn bundles(alloc: Global) -> Result<[Bundle; 3], AllocError> {
     Ok([
         bundle(alloc, "p", LIGHT)?,
         bundle(alloc, "q", BOTH)?,
@@ -146,28 +102,15 @@ fn bundles(alloc: Global) -> Result<[Bundle; 3], Seen> {
 }
 
 /// The file of a planner.
-fn bundle(alloc: Global, name: &str, bytes: &[u8]) -> Result<Bundle, Seen> {
-    match String::from_str(alloc, name) {
-        Ok(name) => with_bytes(alloc, name, bytes),
-        Err(AllocError) => Err(Seen::Refused),
-    }
-}
-
-/// The file of a planner with this name.
-fn with_bytes(alloc: Global, name: String, bytes: &[u8]) -> Result<Bundle, Seen> {
-    let Ok(bytes) = bytes.to_vec(alloc) else {
-        return Err(Seen::Refused);
-    };
-    match Arc::new(alloc, bytes) {
-        Ok(bytes) => Ok(Bundle { name, bytes }),
-        Err(_) => Err(Seen::Refused),
-    }
+fn bundle(alloc: Global, name: &str, bytes: &[u8]) -> Result<Bundle, AllocError> {
+    Ok(Bundle {
+        name: String::from_str(alloc, name)?,
+        bytes: Arc::new(alloc, bytes.to_vec(alloc)?)?,
+    })
 }
 
 /// Steps are replayed from texts.
 pub(crate) fn replay_row(alloc: Global) -> Seen {
-    match replayed(alloc) {
-        Ok(report) => Seen::whole_if(report.bytes() == REPLIES),
-        Err(seen) => seen,
-    }
+    let report = replayed(alloc)?;
+    whole_if(report.bytes() == REPLIES)
 }

@@ -1,11 +1,11 @@
 //! Tasks and plans that are read, and verdicts on them.
 
-use crate::seen::{Seen, of_reader};
+use crate::seen::{Seen, refused_if, whole_if};
 use crate::texts::{
     BLOCKS, CARGO, CARGO_1, LAMP, LAMP_1, LIGHT, LIGHT_TWICE, PAIR, PARK_CITY, PARK_TRUCK,
     PARK_VEHICLE, PICK_UP_TWICE, TWO,
 };
-use pddl_reader::{Seed, read_domain, read_problem};
+use pddl_reader::{ReadFault, Seed, read_domain, read_problem};
 use plan_cost::CostedTask;
 use plan_text::read_plan;
 use std::alloc::{AllocError, Global};
@@ -13,51 +13,27 @@ use std::sync::Arc;
 use strips_judge::{GroundCond, GroundFormula, Plan, Task, Verdict, Why, judge};
 
 /// The task of a domain and a problem, which counts no costs.
-fn task(alloc: Global, domain: &[u8], problem: &[u8]) -> Result<CostedTask, Seen> {
-    match read_domain(alloc, Seed::fixed(), domain) {
-        Ok(domain) => match read_problem(alloc, domain, problem) {
-            Ok(task) => Ok(CostedTask { task, costs: None }),
-            Err(fault) => Err(of_reader(fault)),
-        },
-        Err(fault) => Err(of_reader(fault)),
-    }
+fn task(alloc: Global, domain: &[u8], problem: &[u8]) -> Result<CostedTask, ReadFault> {
+    let task = read_problem(alloc, read_domain(alloc, Seed::fixed(), domain)?, problem)?;
+    Ok(CostedTask { task, costs: None })
 }
 
 /// Drops a task. The prover takes some fifteen seconds for each function that drops one, so the others leave it to this one.
 pub(crate) fn discard(_task: CostedTask) {}
 
 /// The task of a lamp that is dark.
-pub(crate) fn lamp(alloc: Global) -> Result<CostedTask, Seen> {
+pub(crate) fn lamp(alloc: Global) -> Result<CostedTask, ReadFault> {
     task(alloc, LAMP, LAMP_1)
 }
 
 /// The task of two blocks.
-pub(crate) fn blocks(alloc: Global) -> Result<CostedTask, Seen> {
+pub(crate) fn blocks(alloc: Global) -> Result<CostedTask, ReadFault> {
     task(alloc, BLOCKS, TWO)
 }
 
 /// The plan that lights the lamp.
-pub(crate) fn light(alloc: Global) -> Result<Arc<Plan>, Seen> {
-    match plan(alloc, LIGHT) {
-        Ok(plan) => shared(alloc, plan),
-        Err(seen) => Err(seen),
-    }
-}
-
-/// The plan of a text.
-fn plan(alloc: Global, text: &[u8]) -> Result<Plan, Seen> {
-    match read_plan(alloc, text) {
-        Ok(plan) => Ok(plan),
-        Err(AllocError) => Err(Seen::Refused),
-    }
-}
-
-/// A plan that several may own.
-fn shared(alloc: Global, plan: Plan) -> Result<Arc<Plan>, Seen> {
-    match Arc::new(alloc, plan) {
-        Ok(plan) => Ok(plan),
-        Err(_) => Err(Seen::Refused),
-    }
+pub(crate) fn light(alloc: Global) -> Result<Arc<Plan>, AllocError> {
+    Ok(Arc::new(alloc, read_plan(alloc, LIGHT)?)?)
 }
 
 /// A verdict as far as the rows look at it. Conditions are counted, and the first is known by its predicate.
@@ -107,99 +83,70 @@ fn first(conditions: &[GroundCond]) -> u16 {
     }
 }
 
-/// Plans for the lamp.
+/// What the second of two steps that light the lamp finds.
+pub(crate) const LIT_TWICE: Found = Found::Missing {
+    step: 2,
+    first: 1,
+    count: 1,
+};
+
+/// Plans for the lamp: one lights it, one lights it twice, and one does nothing.
 pub(crate) fn lamp_row(alloc: Global) -> Seen {
-    match lamp(alloc) {
-        Ok(task) => {
-            let seen = lamp_plans(alloc, &task.task);
-            discard(task);
-            seen
-        }
-        Err(seen) => seen,
-    }
+    let plans: [(&[u8], Found); 3] = [
+        (LIGHT, Found::Valid { steps: 1 }),
+        (LIGHT_TWICE, LIT_TWICE),
+        (b"", Found::Goal { first: 0, count: 1 }),
+    ];
+    plans_row(alloc, lamp(alloc)?, &plans)
 }
 
-/// A plan that lights the lamp, one that lights it twice, and one that does nothing.
-fn lamp_plans(alloc: Global, task: &Task) -> Seen {
-    let light = judged(alloc, task, LIGHT, Found::Valid { steps: 1 });
-    let wanted = Found::Missing {
-        step: 2,
-        first: 1,
-        count: 1,
-    };
-    let twice = judged(alloc, task, LIGHT_TWICE, wanted);
-    let nothing = judged(alloc, task, b"", Found::Goal { first: 0, count: 1 });
-    light.and(twice).and(nothing)
-}
-
-/// Plans for blocks.
+/// Plans for blocks, which fail at their first step and at their second.
 pub(crate) fn blocks_row(alloc: Global) -> Seen {
-    match blocks(alloc) {
-        Ok(task) => {
-            let seen = block_plans(alloc, &task.task);
-            discard(task);
-            seen
-        }
-        Err(seen) => seen,
-    }
-}
-
-/// Two plans that fail, at their first step and at their second.
-fn block_plans(alloc: Global, task: &Task) -> Seen {
-    let wanted = Found::Missing {
+    let held = Found::Missing {
         step: 1,
         first: 4,
         count: 1,
     };
-    let pair = judged(alloc, task, PAIR, wanted);
-    let wanted = Found::Missing {
+    let picked_up = Found::Missing {
         step: 2,
         first: 2,
         count: 3,
     };
-    pair.and(judged(alloc, task, PICK_UP_TWICE, wanted))
+    let plans: [(&[u8], Found); 2] = [(PAIR, held), (PICK_UP_TWICE, picked_up)];
+    plans_row(alloc, blocks(alloc)?, &plans)
 }
 
-/// The task of cargo.
-fn cargo(alloc: Global) -> Result<CostedTask, Seen> {
-    task(alloc, CARGO, CARGO_1)
-}
-
-/// Plans for cargo.
+/// Plans for cargo: one parks a truck, and two park what is no truck.
 pub(crate) fn cargo_row(alloc: Global) -> Seen {
-    match cargo(alloc) {
-        Ok(task) => {
-            let seen = cargo_plans(alloc, &task.task);
-            discard(task);
-            seen
-        }
-        Err(seen) => seen,
-    }
+    let no_truck = Found::WrongType { step: 1, arg: 1 };
+    let plans: [(&[u8], Found); 3] = [
+        (PARK_TRUCK, Found::Valid { steps: 1 }),
+        (PARK_CITY, no_truck),
+        (PARK_VEHICLE, no_truck),
+    ];
+    plans_row(alloc, task(alloc, CARGO, CARGO_1)?, &plans)
 }
 
-/// A plan that parks a truck, and two that park what is no truck.
-fn cargo_plans(alloc: Global, task: &Task) -> Seen {
-    let truck = judged(alloc, task, PARK_TRUCK, Found::Valid { steps: 1 });
-    let wanted = Found::WrongType { step: 1, arg: 1 };
-    let city = judged(alloc, task, PARK_CITY, wanted);
-    truck
-        .and(city)
-        .and(judged(alloc, task, PARK_VEHICLE, wanted))
+/// What is seen of the verdicts on plans for a task.
+fn plans_row(alloc: Global, task: CostedTask, plans: &[(&[u8], Found)]) -> Seen {
+    let seen = judge_all(alloc, &task.task, plans);
+    discard(task);
+    seen
 }
 
-/// What is seen of a plan's verdict.
-fn judged(alloc: Global, task: &Task, text: &[u8], wanted: Found) -> Seen {
-    match plan(alloc, text) {
-        Ok(plan) => judged_plan(alloc, task, &plan, wanted),
-        Err(seen) => seen,
+/// What is seen of the verdicts on plans, up to the first that is refused memory or wrong.
+fn judge_all(alloc: Global, task: &Task, plans: &[(&[u8], Found)]) -> Seen {
+    for plan in plans {
+        judged(alloc, task, &read_plan(alloc, plan.0)?, plan.1)?;
     }
+    Ok(())
 }
 
 /// What is seen of a plan's verdict. If judging was refused memory, the same plan is judged again.
-fn judged_plan(alloc: Global, task: &Task, plan: &Plan, wanted: Found) -> Seen {
+fn judged(alloc: Global, task: &Task, plan: &Plan, wanted: Found) -> Seen {
     match judge(alloc, task, plan) {
-        Ok(verdict) => Seen::whole_if(found_in(&verdict) == wanted),
-        Err(AllocError) => Seen::refused_if(is_judged(alloc, task, plan, wanted)),
+        Ok(verdict) => whole_if(found_in(&verdict) == wanted),
+        Err(AllocError) => refused_if(is_judged(alloc, task, plan, wanted)),
     }
 }
 

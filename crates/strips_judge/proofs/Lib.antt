@@ -12,6 +12,5 @@ pub mod Searches
 pub mod StepLaws
 pub mod VerdictLaws
 pub mod NumberedSteps
-pub mod NameFaults
 pub mod UnmetConditions
 pub mod ReasonLaws

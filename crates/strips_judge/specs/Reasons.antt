@@ -52,10 +52,10 @@ abbrev pub PlanLeavesUnmet : TaskParts → Plan → List GroundCond → Type 0
 PlanLeavesUnmet parts (Steps steps) unmet = LeaveUnmet parts steps unmet
 PlanLeavesUnmet parts (Unreadable line) unmet = ⊥
 
--- if the verdict is that a plan fails, it names the reason
+-- a verdict that a plan fails gives the reason for which it fails at that step
 abbrev pub FailsNamesTheReason : TaskParts → Plan → Type 0
 FailsNamesTheReason parts plan = (number : ℕ) (why : Why) → verdict parts plan ≡ answer.Fails number why → PlanFailsFor parts plan number why
 
--- if the verdict is that a plan misses its goal, it names what is unmet
+-- a verdict that a plan misses its goal lists exactly the conditions that it leaves unmet
 abbrev pub GoalNamesTheUnmet : TaskParts → Plan → Type 0
 GoalNamesTheUnmet parts plan = (unmet : List GroundCond) → verdict parts plan ≡ answer.Goal unmet → PlanLeavesUnmet parts plan unmet

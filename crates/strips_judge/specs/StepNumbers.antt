@@ -1,6 +1,6 @@
 -- Steps by numbers: that of the action, and those of the objects.
 
-use Rattle.std.specs.Prelude.{◌≡◌, ◌<◌, ℕ, Bool, true, false, List, [], ◌∷◌, ◌++◌, Option, Some, None, All, length, map}
+use Rattle.std.specs.Prelude.{◌≡◌, ◌<◌, ℕ, Bool, true, false, List, [], ◌∷◌, Option, Some, All, length, map}
 use Rattle.strips_task.specs.declared.steps.StepText.{StepText}
 use Rattle.strips_task.specs.declared.tasks.TaskParts.{TaskParts}
 use Rattle.strips_task.specs.Names.{number_named}
@@ -23,17 +23,6 @@ numbers_named parts (action ∷ args) = number_named parts.actions action ∷ ma
 -- all words of a step name something, and these are the numbers
 abbrev pub IsNumbered : TaskParts → StepText → List ℕ → Type 0
 IsNumbered parts step numbers = numbers_named parts (step.action ∷ step.args) ≡ map Some numbers
-
--- nothing, or at first a word that names nothing
-abbrev pub BeginsUnknown : List (Option ℕ) → Type 0
-BeginsUnknown [] = Unit {0}
-BeginsUnknown (None ∷ more) = Unit {0}
-BeginsUnknown (Some number ∷ more) = ⊥
-
--- these are the numbers of the words of a step before the first that names nothing, or of all of them
-abbrev pub IsNumberedFront : TaskParts → StepText → List ℕ → Type 0
-IsNumberedFront parts step numbers =
-    (more : List (Option ℕ)) × BeginsUnknown more × (numbers_named parts (step.action ∷ step.args) ≡ map Some numbers ++ more)
 
 -- a task has an action and objects with these numbers
 abbrev pub AreWithin : TaskParts → List ℕ → Type 0

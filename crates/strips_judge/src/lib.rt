@@ -26,21 +26,17 @@ mod effects;
 mod grounding;
 mod judging;
 pub mod laws;
-mod name_faults;
 mod numbered_steps;
 pub mod reasons;
 mod single_cells;
 mod state;
-mod step_names;
 mod unmet;
 mod verdict;
 
 pub use codes::{CodeBuffer, StepCode, take_by_code};
 pub use judging::{Scratch, judge, judge_goal, take_step};
-pub use name_faults::fault_of_row;
 pub use numbered_steps::{code_of_numbered, take_numbered};
 pub use state::NumberedState;
-pub use step_names::StepNames;
 pub use strips_task::{
     Action, Alternatives, Atom, AtomList, Cond, CondList, Formula, GroundCond, GroundFormula,
     InitialAtoms, MOST_STEPS, Name, NameKey, NameTable, OpenSteps, Pattern, Plan, Seed, Seq,

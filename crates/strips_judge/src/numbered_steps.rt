@@ -1,7 +1,7 @@
 //! Steps that are known by the numbers of their names.
 //!
 //! What a step asks and does depends only on its action and its objects, so with their numbers none of its words is needed. Why a step is not
-//! applicable is not said here: the judge explains it at most once for each plan, by [`fault_of_row`](crate::fault_of_row) or by its words.
+//! applicable is not said here: the judge explains it at most once for each plan, by its words.
 ghost use Rattle.std.specs.Prelude.{◌≡◌, [], length, map, false, None, Some, IfOk, IfSome, IsTrue, All};
 ghost use Rattle.strips_task.specs.declared.steps.StepText.{StepText};
 ghost use Rattle.strips_task.specs.Within.{IsActionWithin, IsFormulaWithin};

@@ -150,17 +150,14 @@ impl Task {
         }
     }
 
-    /// The number of the action whose name the word spells in upper or lower case. If there is none, the action may be known all the same, so it is looked
-    /// up in lower case by `action_named`. Takes two reads of memory for most names of at most 16 bytes ([`NameTable::number_of_spelling`]).
+    /// The number of the action with a name, as by `action_named`. The word is the name itself, in lower case.
     #[inline(always)]
     pub fn action_spelled(&self, word: &[u8]) -> Option<u16>
         ensures spelled { IfSome result (λ number. (is_name word.now ≡ true) × (number_named self.now.actions (folded word.now) ≡ Some number)) }
         ensures within { IfSome result (λ number. number < length self.now.actions) }
     {
-        match self.parts.actions.number_of_spelling(word) {
-            Some(number) => Some(number as u16),
-            None => None,
-        }
+        let number = self.parts.actions.number_of(word)?;
+        Some(number as u16)
     }
 
     /// The number of the object with a name, by the bytes as they are: a word that is not in lower case has none. Takes two
@@ -176,17 +173,14 @@ impl Task {
         }
     }
 
-    /// The number of the object whose name the word spells in upper or lower case. If there is none, the object may be known all the same, so it is looked
-    /// up in lower case by `object_named`. Takes two reads of memory for most names of at most 16 bytes ([`NameTable::number_of_spelling`]).
+    /// The number of the object with a name, as by `object_named`. The word is the name itself, in lower case.
     #[inline(always)]
     pub fn object_spelled(&self, word: &[u8]) -> Option<u16>
         ensures spelled { IfSome result (λ number. (is_name word.now ≡ true) × (number_named self.now.objects (folded word.now) ≡ Some number)) }
         ensures within { IfSome result (λ number. number < length self.now.objects) }
     {
-        match self.parts.objects.number_of_spelling(word) {
-            Some(number) => Some(number as u16),
-            None => None,
-        }
+        let number = self.parts.objects.number_of(word)?;
+        Some(number as u16)
     }
 
     /// Whether the first type is below the second: they are the same, or the second is the parent of the first, or its parent's parent, and so on

@@ -14,8 +14,6 @@ use Rattle.plan_text.specs.Walks.{Walk, HasPassed}
 use Rattle.text_judge.specs.Judging.{Judging, HasTaken}
 use Rattle.text_judge.specs.declared.pass.Passed.{Passed}
 use Rattle.text_judge.specs.declared.pass.Passed.TheVariants.{All, Fails, Unreadable as Faulty}
-use Rattle.text_judge.specs.declared.pass.Tried.{Tried}
-use Rattle.text_judge.specs.declared.pass.Tried.TheVariants.{Taken, Ends, NotTaken, NotTried}
 
 -- the judge has taken just the steps that the walk has passed
 abbrev pub AreTogether : Walk → Judging → Type 0
@@ -60,17 +58,3 @@ GoOnOrEnd (Some All) walk judging steps = HasTaken judging steps × (plan_of wal
 GoOnOrEnd (Some (Fails number why)) walk judging steps =
     (step : StepText) × HasPassed walk (steps ++ step ∷ []) × (number ≡ length steps + 1) × FailsNext judging.task steps step why
 GoOnOrEnd (Some (Faulty line)) walk judging steps = plan_of walk.text ≡ Unreadable line
-
--- how a pass ends by the step that was tried, if it does
-abbrev pub ended : Tried → Option Passed
-ended Taken = None
-ended (Ends passed) = Some passed
-ended NotTaken = None
-ended NotTried = None
-
--- what becomes of a walk and a judge that were after these steps where the next step is tried: both go on by one, or the pass ends there, or both stay
-abbrev pub AfterTrial : Tried → Walk → Judging → List StepText → Type 0
-AfterTrial Taken walk judging steps = (step : StepText) × HasPassed walk (steps ++ step ∷ []) × HasTaken judging (steps ++ step ∷ [])
-AfterTrial (Ends passed) walk judging steps = GoOnOrEnd (Some passed) walk judging steps
-AfterTrial NotTaken walk judging steps = HasPassed walk steps × HasTaken judging steps
-AfterTrial NotTried walk judging steps = HasPassed walk steps × HasTaken judging steps

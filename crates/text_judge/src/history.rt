@@ -10,11 +10,11 @@ ghost use Rattle.text_judge.specs.History.{AreLastChanges, state_after};
 ghost use Rattle.text_judge.specs.Passes.{with_next};
 ghost use Rattle.text_judge.specs.Watches.{AreWatched, EndsWatch, IsWatched, WatchTogether};
 
-use crate::pass::{Passed, Words, advance};
+use crate::pass::{Passed, advance};
 use crate::step_judge::Judge;
 use plan_text::PlanSteps;
 use std::alloc::{AllocError, Global};
-use strips_task::Atom;
+use strips_task::{Atom, OpenSteps};
 
 /// What is kept of an atom that is watched: whether it is true, and which step changed that last, counted from 1.
 #[derive(Clone, Copy, Debug)]
@@ -47,7 +47,7 @@ pub(crate) fn watch_all(
 pub(crate) fn watch_steps(
     alloc: Global,
     judge: &mut Judge<'_>,
-    words: &mut Words,
+    words: &mut OpenSteps,
     walk: &mut PlanSteps<'_>,
     atoms: &[Atom],
     watches: &mut [Watch],

@@ -13,14 +13,14 @@ ghost use Rattle.text_judge.specs.Passes.{unreadable};
 ghost use Rattle.text_judge.specs.Watches.{AreWatched};
 
 use crate::history::{Watch, changes_of, watch_all, watch_steps};
-use crate::pass::{Passed, Words, fault_behind, pass};
+use crate::pass::{Passed, fault_behind, pass};
 use crate::step_judge::Judge;
 use plan_cost::{Assessment, Cost, CostedTask};
 use plan_text::PlanSteps;
 use std::alloc::{AllocError, Global};
 use std::marker::Model;
 use strips_judge::Verdict;
-use strips_task::Atom;
+use strips_task::{Atom, OpenSteps};
 
 /// A judge of the plans of one task, for one thread. Contracts see the task.
 #[derive(Drop)]
@@ -28,7 +28,7 @@ pub struct TextJudge<'t> {
     task: &'t CostedTask,
     judge: Judge<'t>,
     /// The words of the step that is being read.
-    words: Words,
+    words: OpenSteps,
 }
 
 impl<'t> Model for TextJudge<'t> {
@@ -54,7 +54,7 @@ impl<'t> TextJudge<'t> {
         Ok(TextJudge {
             task,
             judge: Judge::new(alloc, task, judges)?,
-            words: Words::new(alloc),
+            words: OpenSteps::new(alloc),
         })
     }
 
@@ -117,7 +117,7 @@ impl<'t> TextJudge<'t> {
 fn follow(
     alloc: Global,
     judge: &mut Judge<'_>,
-    words: &mut Words,
+    words: &mut OpenSteps,
     walk: &mut PlanSteps<'_>,
     atoms: &[Atom],
     watches: &mut [Watch],
@@ -143,7 +143,7 @@ fn follow(
 fn assess_steps(
     alloc: Global,
     judge: &mut Judge<'_>,
-    words: &mut Words,
+    words: &mut OpenSteps,
     walk: &mut PlanSteps<'_>,
 ) -> Result<Assessment, AllocError>
     requires { HasPassed walk.old [] }

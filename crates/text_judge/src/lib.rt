@@ -10,8 +10,8 @@
 //! what it learned of a step under the bytes between its parentheses (`step_judge` and `memo`). A step that it knows is not read again, only tested and
 //! taken by the numbers of its atoms. Any other step is judged by its names, and learned.
 //!
-//! The names must stand with single spaces between them to be looked up so. A step with other blanks or with comments inside is read word by word, and
-//! looked up by its words, written anew with single spaces.
+//! The names must be in lower case, with single spaces between them, to be looked up so. Any other step is read and judged word by word, and so is one that
+//! can't be taken: its words say why.
 //!
 //! If a step fails, the judge still reads the text to its end: the text may be unreadable further on, and then that is the answer.
 //!
@@ -23,6 +23,7 @@ mod history;
 mod judge;
 pub mod laws;
 mod memo;
+mod names;
 mod pass;
 mod room;
 mod step_judge;

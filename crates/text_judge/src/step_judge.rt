@@ -1,5 +1,5 @@
 //! A judge of many plans of one task, which takes their steps one by one and keeps what it learns of them.
-ghost use Rattle.std.specs.Prelude.{◌≡◌, ◌≢◌, ◌+◌, ◌<◌, ◌∷◌, [], ◌++◌, ℕ, List, length, IsTrue, false, Some, IfOk, OnOk, IfSome, IfNone};
+ghost use Rattle.std.specs.Prelude.{◌≡◌, ◌<◌, ◌∷◌, [], ◌++◌, List, length, IsTrue, false, IfOk, OnOk, IfSome, IfNone};
 ghost use Rattle.strips_task.specs.declared.plans.Plan.TheVariants.{Steps};
 ghost use Rattle.strips_task.specs.declared.steps.StepText.{StepText};
 ghost use Rattle.strips_task.specs.declared.steps.TheConstants.{MOST_STEPS};
@@ -7,28 +7,22 @@ ghost use Rattle.strips_task.specs.Spelled.{IsSpelled, step_spelled};
 ghost use Rattle.strips_task.specs.StepView.{step_shown};
 ghost use Rattle.strips_judge.specs.NumberedState.{state_of};
 ghost use Rattle.strips_judge.specs.State.{is_in};
-ghost use Rattle.strips_judge.specs.Step.{fault};
-ghost use Rattle.strips_judge.specs.StepNumbers.{AreWithin, IsNumberedFront};
-ghost use Rattle.strips_judge.specs.declared.verdict.Verdict.TheVariants.{Fails};
-ghost use Rattle.strips_judge.specs.declared.verdict.Why.{Why};
-ghost use Rattle.plan_cost.specs.declared.costs.Cost.TheVariants.{NotCounted};
 ghost use Rattle.plan_cost.specs.Assessments.{assessment};
 ghost use Rattle.plan_cost.specs.CompactCosts.{IsCompact};
 ghost use Rattle.text_judge.specs.Judging.{HasTaken};
-ghost use Rattle.text_judge.specs.declared.step_judge.RowStep.TheVariants.{Faulty, Taken};
+ghost use Rattle.text_judge.specs.Passes.{FailsNext};
 
 use crate::amounts::{added, amount_of, cost_beside, initial_of, numbered_amount};
 use crate::memo::Memo;
+use crate::names::number_names;
 use crate::room::Room;
-use crate::steps::{NewStep, take_found, take_new};
+use crate::steps::{NewStep, take_new, take_remembered};
 use crate::usage::Usage;
 use plan_cost::{Assessment, CostScratch, CostedTask};
 use std::alloc::{AllocError, Global};
 use std::marker::Model;
-use strips_judge::{
-    Atom, CodeBuffer, NumberedState, Scratch, StepNames, Why, fault_of_row, judge_goal, take_step,
-};
-use strips_task::{StepView, Task};
+use strips_judge::{Atom, CodeBuffer, NumberedState, Scratch, Why, judge_goal, take_step};
+use strips_task::StepView;
 
 /// How many atoms besides the initial ones may have numbers that are kept from one plan to the next, with all that was learned.
 pub(crate) const MOST_LATER: usize = 131_072;
@@ -36,17 +30,6 @@ pub(crate) const MOST_LATER: usize = 131_072;
 /// How many atoms besides the initial ones may have numbers while steps are still learned. A plan that brings up more of them repeats few of its
 /// steps.
 const LATER_TO_LEARN: usize = 32_768;
-
-/// What came of a row of bytes that may spell a step.
-#[derive(Debug, Drop)]
-pub(crate) enum RowStep {
-    /// It spells a step, which was taken.
-    Taken,
-    /// It was not taken. If it spells a step, this is wrong with it, whatever is true.
-    Faulty(Why),
-    /// It was not taken, though it may spell a step that is applicable.
-    NotTaken,
-}
 
 /// A judge of plans of one task. Contracts see the task and what is kept of the plan that is being judged.
 ///
@@ -58,7 +41,6 @@ pub(crate) struct Judge<'t> {
     room: Room,
     state: NumberedState<'t>,
     memo: Memo,
-    names: StepNames<'t>,
     /// The numbers of the step that is being taken.
     numbers: Vec<u16>,
     code: CodeBuffer,
@@ -78,7 +60,7 @@ impl<'t> Model for Judge<'t> {
 
     ghost view = { λ j. record { task = j.task.now; state = j.state; cost = j.cost; count = j.count } };
 
-    ghost invariant = { λ j. IsJudge j.task.now j.state j.memo j.cost j.count × (j.names ≡ j.task.now.task) };
+    ghost invariant = { λ j. IsJudge j.task.now j.state j.memo j.cost j.count };
 }
 
 impl<'t> Judge<'t> {
@@ -101,7 +83,6 @@ impl<'t> Judge<'t> {
             room,
             state,
             memo: Memo::new(alloc, initial.seed(), room),
-            names: StepNames::new(alloc, &task.task),
             numbers: Vec::new(alloc),
             code: CodeBuffer::new(alloc),
             scratch: Scratch::new(alloc),
@@ -160,11 +141,27 @@ impl<'t> Judge<'t> {
         self.count
     }
 
+    /// Takes the step that a row spells, if it is known, or if its names are and it is applicable. Otherwise no atom is changed. Returns whether it did.
+    #[inline(always)]
+    pub(crate) fn take_spelled(&mut self, alloc: Global, row: &[u8]) -> Result<bool, AllocError>
+        requires { self.old.count < MOST_STEPS }
+        ensures task { self.new.task ≡ self.old.task }
+        ensures spelled { IfOk result (λ taken. IsTrue taken → IsSpelled row.now) }
+        ensures taken { IfOk result (λ taken. IsTrue taken → (steps : List StepText) → HasTaken self.old steps
+            → HasTaken self.new (steps ++ step_spelled row.now ∷ [])) }
+        ensures not { IfOk result (λ taken. taken ≡ false → (steps : List StepText) → HasTaken self.old steps → HasTaken self.new steps) }
+    {
+        if self.take_known(row) {
+            return Ok(true);
+        }
+        self.take_by_names(alloc, row)
+    }
+
     /// Takes the step that a key spells, if it is known and applicable, and otherwise changes nothing. Returns whether it did.
     ///
-    /// Takes one hash of the key and no memory. The key may be any bytes: only a step that [`take_row`](Judge::take_row) learned under the same
-    /// bytes is known.
-    pub(crate) fn take_known(&mut self, key: &[u8]) -> bool
+    /// Takes one hash of the key and no memory. The key may be any bytes: only a step that
+    /// [`take_by_names`](Judge::take_by_names) learned under the same bytes is known.
+    fn take_known(&mut self, key: &[u8]) -> bool
         requires { self.old.count < MOST_STEPS }
         ensures task { self.new.task ≡ self.old.task }
         ensures spelled { IsTrue result → IsSpelled key.now }
@@ -175,7 +172,7 @@ impl<'t> Judge<'t> {
         if !self.usage.asks() {
             return false;
         }
-        let found = take_found(self.task, &self.memo, &mut self.state, key);
+        let found = take_remembered(self.task, &self.memo, &mut self.state, key);
         self.usage.note(found.is_some());
         let Some(amount) = found else {
             return false;
@@ -185,24 +182,21 @@ impl<'t> Judge<'t> {
         true
     }
 
-    /// Takes the step that a row spells, if its names are known and it is applicable, and otherwise changes no atom. Returns whether it did, or what is
-    /// wrong with the names. Learns a step that has a code while there is room.
+    /// Takes the step that a row spells in lower case, if its names are known and it is applicable, and otherwise changes no atom. Returns whether it did.
+    /// Learns a step that has a code while there is room.
     ///
     /// Takes a few reads of memory for each name and for each atom, fewer for those that were looked up before, and memory for what is new. If memory runs
     /// out, the plan is over.
-    pub(crate) fn take_row(&mut self, alloc: Global, row: &[u8]) -> Result<RowStep, AllocError>
+    fn take_by_names(&mut self, alloc: Global, row: &[u8]) -> Result<bool, AllocError>
         requires { self.old.count < MOST_STEPS }
         ensures task { self.new.task ≡ self.old.task }
-        ensures spelled { IfOk result (λ came. came ≡ Taken → IsSpelled row.now) }
-        ensures taken { IfOk result (λ came. came ≡ Taken → (steps : List StepText) → HasTaken self.old steps
+        ensures spelled { IfOk result (λ taken. IsTrue taken → IsSpelled row.now) }
+        ensures taken { IfOk result (λ taken. IsTrue taken → (steps : List StepText) → HasTaken self.old steps
             → HasTaken self.new (steps ++ step_spelled row.now ∷ [])) }
-        ensures faulty { IfOk result (λ came. (why : Why) → came ≡ Faulty why → IsSpelled row.now → (steps rest : List StepText) → HasTaken self.old steps
-            → assessment self.old.task (Steps (steps ++ step_spelled row.now ∷ rest)) ≡ record { verdict = Fails (length steps + 1) why; cost = NotCounted }) }
-        ensures not { IfOk result (λ came. came ≢ Taken → (steps : List StepText) → HasTaken self.old steps → HasTaken self.new steps) }
-        ensures count { IfOk result (λ came. came ≢ Taken → self.new.count ≡ self.old.count) }
+        ensures not { IfOk result (λ taken. taken ≡ false → (steps : List StepText) → HasTaken self.old steps → HasTaken self.new steps) }
     {
-        if !self.names.number(row, &mut self.numbers)? {
-            return Ok(not_taken(&self.task.task, row, self.numbers.as_slice()));
+        if !number_names(&self.task.task, row, &mut self.numbers)? {
+            return Ok(false);
         }
         let may_learn = self.may_learn();
         let numbers = self.numbers.as_slice();
@@ -223,11 +217,11 @@ impl<'t> Judge<'t> {
             &mut self.code,
         )?;
         if !is_taken {
-            return Ok(not_taken(&self.task.task, row, numbers));
+            return Ok(false);
         }
         self.cost = added(self.cost, amount);
         self.count += 1;
-        Ok(RowStep::Taken)
+        Ok(true)
     }
 
     /// Whether steps may be learned: only if known steps are being found, and not too many atoms have numbers.
@@ -247,8 +241,8 @@ impl<'t> Judge<'t> {
         ensures task { self.new.task ≡ self.old.task }
         ensures taken { IfOk result (λ why. IfNone why ((steps : List StepText) → HasTaken self.old steps
             → HasTaken self.new (steps ++ step_shown step.entry ∷ []))) }
-        ensures fails { IfOk result (λ why. IfSome why (λ why. (steps rest : List StepText) → HasTaken self.old steps
-            → assessment self.old.task (Steps (steps ++ step_shown step.entry ∷ rest)) ≡ record { verdict = Fails (length steps + 1) why; cost = NotCounted })) }
+        ensures fails { IfOk result (λ why. IfSome why (λ why. (steps : List StepText) → HasTaken self.old steps
+            → FailsNext self.old.task steps (step_shown step.entry) why)) }
     {
         let task = &self.task.task;
         if let Some(why) = take_step(alloc, task, step, &mut self.state, &mut self.scratch)? {
@@ -258,15 +252,6 @@ impl<'t> Judge<'t> {
         self.cost = added(self.cost, amount);
         self.count += 1;
         Ok(None)
-    }
-
-    /// Why a step of the action of this name, in lower case, is not applicable if it has more arguments than any action has parameters. Takes one
-    /// look-up of the name.
-    pub(crate) fn refusal_of_many(&self, action: &[u8]) -> Why
-        ensures { (args : List (List ℕ)) (steps rest : List StepText) → 32 < length args → HasTaken self.now steps
-            → assessment self.now.task (Steps (steps ++ record { action = action.now; args = args } ∷ rest)) ≡ record { verdict = Fails (length steps + 1) result; cost = NotCounted } }
-    {
-        fault_of_many(&self.task.task, action)
     }
 
     /// The assessment of the plan of the steps that were taken: whether the goal holds after them, and what they cost. Takes memory for the
@@ -285,31 +270,5 @@ impl<'t> Judge<'t> {
         ensures { result ≡ state_of self.now.state atom.now }
     {
         self.state.contains(atom)
-    }
-}
-
-/// What came of a row that was not taken, by the numbers of its words before the first that names nothing.
-fn not_taken(task: &Task, row: &[u8], numbers: &[u16]) -> RowStep
-    requires { AreWithin task.now numbers.now }
-    ensures not { result ≢ Taken }
-    ensures faulty { (why : Why) → result ≡ Faulty why → IsNumberedFront task.now (step_spelled row.now) numbers.now → fault task.now (step_spelled row.now) ≡ Some why }
-{
-    match fault_of_row(task, row, numbers) {
-        Some(why) => RowStep::Faulty(why),
-        None => RowStep::NotTaken,
-    }
-}
-
-/// What is wrong with a step of the action of this name that has more arguments than any action has parameters.
-fn fault_of_many(task: &Task, action: &[u8]) -> Why
-    ensures { (args : List (List ℕ)) → 32 < length args → fault task.now (record { action = action.now; args = args }) ≡ Some result }
-{
-    match task.action_named(action) {
-        Some(number) => {
-            // The action has at most 32 parameters.
-            let _action = task.action(number);
-            Why::WrongCount
-        }
-        None => Why::UnknownAction,
     }
 }

@@ -16,7 +16,7 @@ use strips_judge::{
 /// Takes the step that a key spells, if it is known and applicable, and returns what it adds to the cost. Otherwise changes nothing. The task
 /// is only there for the contract.
 #[inline(always)]
-pub(crate) fn take_found(
+pub(crate) fn take_remembered(
     _task: &CostedTask,
     memo: &Memo,
     state: &mut NumberedState<'_>,

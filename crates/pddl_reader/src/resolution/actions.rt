@@ -9,7 +9,6 @@ ghost use Rattle.pddl_syntax.specs.Forms.{action_forms, action_syntax_form, atom
 ghost use Rattle.pddl_syntax.specs.Reading.{Gives, Puts};
 ghost use Rattle.pddl_reader.specs.Domain.{action_by, action_doing, action_meant, actions_from, changed, effects_of, no_actions, with_action_of, with_change, with_effect};
 
-use crate::resolution::again::{atom_row, pass_again, repeat_addition, repeat_condition};
 use crate::resolution::atoms::pattern;
 use crate::resolution::functions::put_increase;
 use crate::resolution::literals::unsupported;
@@ -19,9 +18,7 @@ use crate::resolution::tables::Declared;
 use crate::resolution::terms::term;
 use crate::resolution::variables::{ActionParameters, parameters};
 use crate::resolution::vocabulary::Vocabulary;
-use pddl_syntax::{
-    ActionSyntax, AtomSyntax, Attempts, EqualitySyntax, LiteralSyntax, Literals, ReadFault,
-};
+use pddl_syntax::{ActionSyntax, AtomSyntax, EqualitySyntax, LiteralSyntax, Literals, ReadFault};
 use plan_cost::Increases;
 use std::alloc::{AllocError, Global};
 use strips_task::{Action, Alternatives, Cond, Formula, NameTable, Pattern, Seq};
@@ -82,31 +79,23 @@ fn condition(
     }
 }
 
-/// The conditions that literals of an action stand for. A literal that is written as the one before it is not looked up again.
+/// The conditions that literals of an action stand for.
 #[tactic(auto, using(crate::proofs::DeclarationSteps::conditions_steps))]
-fn conditions<'a>(
+fn conditions(
     alloc: Global,
     known: &Declared<'_>,
     parameters: &ActionParameters<'_>,
-    mut literals: Literals<'a>,
+    mut literals: Literals<'_>,
 ) -> Result<Seq<Cond>, ReadFault>
     requires { length parameters.now.names.items ≤ most_variables }
     ensures { Gives (λ conditions. conditions) result (conditions_of (known_form known.now) (parameters_form parameters.now) literals.entry) }
 {
     let mut conditions = Seq::new(alloc);
-    let mut before: Option<&'a [u8]> = None;
-    let mut attempts = Attempts::new();
     'conditions: loop {
-        if pass_again(&mut literals, before) {
-            repeat_condition(alloc, &mut conditions)?;
-            continue 'conditions;
-        }
-        let row = atom_row(&literals, &mut attempts);
         match literals.next(alloc)? {
             Some(literal) => conditions.push(condition(alloc, known, parameters, &literal)?)?,
             None => return Ok(conditions),
         }
-        before = row;
     }
 }
 
@@ -177,13 +166,13 @@ fn put_effect(
     }
 }
 
-/// The effects that literals of an action stand for. A literal that is written as the one before it is not looked up again.
-#[tactic(auto, using(crate::proofs::Through::through_steps, crate::proofs::ActionMeaning::effects_steps, crate::proofs::AgainSteps::effect_added))]
-fn effect<'a>(
+/// The effects that literals of an action stand for.
+#[tactic(auto, using(crate::proofs::Through::through_steps, crate::proofs::ActionMeaning::effects_steps))]
+fn effect(
     alloc: Global,
     vocabulary: &Vocabulary<'_>,
     parameters: &ActionParameters<'_>,
-    mut literals: Literals<'a>,
+    mut literals: Literals<'_>,
 ) -> Result<Effects, ReadFault>
     requires { length parameters.now.names.items ≤ most_variables }
     ensures { Gives (λ effects. effects) result (effects_of (vocabulary_form vocabulary.now) (parameters_form parameters.now) literals.entry) }
@@ -193,19 +182,11 @@ fn effect<'a>(
         del: Seq::new(alloc),
         increases: Increases::new(alloc),
     };
-    let mut before: Option<&'a [u8]> = None;
-    let mut attempts = Attempts::new();
     'effects: loop {
-        if pass_again(&mut literals, before) {
-            repeat_addition(alloc, &mut effects.add)?;
-            continue 'effects;
-        }
-        let row = atom_row(&literals, &mut attempts);
         match literals.next(alloc)? {
             Some(literal) => put_effect(alloc, vocabulary, parameters, &mut effects, &literal)?,
             None => return Ok(effects),
         }
-        before = row;
     }
 }
 

@@ -11,7 +11,7 @@ ghost use Rattle.pddl_reader.specs.Resolved.{known_form, vocabulary_form};
 
 use crate::resolution::atoms::ground_atom;
 use crate::resolution::literals::unsupported;
-use crate::resolution::rows::{RowNumbers, next_atom, next_keys, put_keys};
+use crate::resolution::rows::{next_atom, next_keys, put_keys};
 use crate::resolution::tables::Declared;
 use crate::resolution::vocabulary::Vocabulary;
 use pddl_syntax::{AtomSyntax, FaultKind, LiteralSyntax, Literals, ReadFault, ValueSyntax};
@@ -99,7 +99,7 @@ fn put_rows(
     literals: &mut Literals<'_>,
     state: &mut InitialState,
     expected: usize,
-    numbers: &mut RowNumbers,
+    numbers: &mut Vec<u16>,
 ) -> Result<bool, AllocError>
     ensures same { OnOk result (through (with_initial (vocabulary_form vocabulary.now)) state.new literals.new
         ≡ through (with_initial (vocabulary_form vocabulary.now)) state.old literals.old) }
@@ -121,7 +121,7 @@ fn put_row(
     vocabulary: &Vocabulary<'_>,
     literals: &mut Literals<'_>,
     state: &mut InitialState,
-    numbers: &mut RowNumbers,
+    numbers: &mut Vec<u16>,
 ) -> Result<bool, AllocError>
     ensures same { OnOk result (through (with_initial (vocabulary_form vocabulary.now)) state.new literals.new
         ≡ through (with_initial (vocabulary_form vocabulary.now)) state.old literals.old) }
@@ -151,7 +151,7 @@ pub(crate) fn initial(
         values: FunctionValues::new(alloc, seed),
     };
     let expected = size / BYTES_FOR_AN_ATOM;
-    let mut numbers = RowNumbers::new(alloc);
+    let mut numbers = Vec::new(alloc);
     'literals: loop {
         if put_rows(
             alloc,

@@ -1,9 +1,8 @@
 //! Constants and objects are declared with their types.
 
-ghost use Rattle.std.specs.Prelude.{◌≡◌, ◌<◌, ◌≤◌, length, Some, None};
+ghost use Rattle.std.specs.Prelude.{◌≡◌, ◌≤◌, length, Some, None};
 ghost use Rattle.pddl_words.specs.Words.{folded};
 ghost use Rattle.strips_task.specs.WellFormed.{most_types};
-ghost use Rattle.strips_task.specs.Names.{number_named};
 ghost use Rattle.std.specs.Map.{keys_of};
 ghost use Rattle.pddl_syntax.specs.Forms.{name_forms, name_group_form, name_groups};
 ghost use Rattle.pddl_reader.specs.Objects.{object_declared, objects_from, objects_grouped, type_number};
@@ -35,27 +34,7 @@ pub(crate) fn type_number(
     }
 }
 
-/// Declares the object with a number again, which changes nothing. It may have no other type.
-#[tactic(auto, using(crate::proofs::ObjectSteps::object_steps))]
-#[inline(always)]
-fn declare_again(
-    objects: &NameTable<u16>,
-    number: usize,
-    word: NameWord<'_>,
-    kind: u16,
-) -> Result<(), ReadFault>
-    requires named { number_named objects.now (folded word.text.now) ≡ Some number }
-    requires within { number < length objects.now }
-    ensures { Puts result (object_declared kind objects.now word.entry.text.now) objects.now }
-{
-    if *objects.get(number).1 == kind {
-        Ok(())
-    } else {
-        Err(ReadFault::new(FaultKind::Repeated, word.span))
-    }
-}
-
-/// Declares an object where no other fits in: only one that is declared already.
+/// Declares an object in a full table: one that is declared already with the same type.
 #[inline(never)]
 #[tactic(auto, using(crate::proofs::ObjectSteps::object_steps))]
 fn declare_in_full(
@@ -68,13 +47,17 @@ fn declare_in_full(
     requires name { name.now ≡ folded word.text.now }
     ensures { Puts result (object_declared kind objects.now word.entry.text.now) objects.now }
 {
-    match objects.number_of(name.as_bytes()) {
-        Some(number) => declare_again(objects, number, word, kind),
-        None => Err(ReadFault::new(FaultKind::TooMany, word.span)),
+    let Some(number) = objects.number_of(name.as_bytes()) else {
+        return Err(ReadFault::new(FaultKind::TooMany, word.span));
+    };
+    if *objects.get(number).1 == kind {
+        Ok(())
+    } else {
+        Err(ReadFault::new(FaultKind::Repeated, word.span))
     }
 }
 
-/// Declares an object with its type. One that is declared again is mostly found without a name of its own.
+/// Declares an object with its type.
 #[tactic(auto, using(crate::proofs::ObjectSteps::object_steps))]
 #[inline(always)]
 fn declare_object(
@@ -85,9 +68,6 @@ fn declare_object(
 ) -> Result<(), ReadFault>
     ensures { Puts result (object_declared kind objects.old word.entry.text.now) objects.new }
 {
-    if let Some(number) = objects.number_of_spelling(word.text) {
-        return declare_again(objects, number, word, kind);
-    }
     let name = name(alloc, word)?;
     if objects.len() >= MOST_OBJECTS {
         return declare_in_full(objects, &name, word, kind);

@@ -17,7 +17,7 @@ use crate::resolution::initial::{InitialState, initial};
 use crate::resolution::literals::unsupported;
 use crate::resolution::names::name;
 use crate::resolution::parts::{part_items, part_literals};
-use crate::resolution::rows::{RowNumbers, next_atom};
+use crate::resolution::rows::next_atom;
 use crate::resolution::tables::Declared;
 use crate::resolution::terms::object;
 use pddl_syntax::{EqualitySyntax, LiteralSyntax, Literals, ProblemSyntax, ReadFault};
@@ -76,7 +76,7 @@ fn ground_conditions(
     ensures { Gives (λ conditions. conditions) result (ground_conditions_of (known_form known.now) literals.entry) }
 {
     let mut conditions = Seq::new(alloc);
-    let mut numbers = RowNumbers::new(alloc);
+    let mut numbers = Vec::new(alloc);
     'conditions: loop {
         if let Some(atom) = next_atom(alloc, known, &mut literals, &mut numbers)? {
             conditions.push(GroundCond {

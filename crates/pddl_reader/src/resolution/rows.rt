@@ -3,7 +3,7 @@
 //! Nearly all of them are, and a problem may have hundreds of thousands. They are not read word by word: the names of such a row are looked
 //! up as they are written, and a word that is found is a name. Any other literal is read as its syntax, and so is one with a fault.
 
-ghost use Rattle.std.specs.Prelude.{◌≡◌, ◌++◌, [], ◌∷◌, ◌↔◌, ◌&&◌, nat_eq, length, map, true, false, All, IfNone, IfOk, IfSome, IsTrue, List, OnOk, Some, ℕ};
+ghost use Rattle.std.specs.Prelude.{◌≡◌, ◌++◌, [], ◌∷◌, ◌&&◌, nat_eq, length, map, true, false, All, IfNone, IfOk, IfSome, IsTrue, List, OnOk, Some, ℕ};
 ghost use Rattle.std.specs.List.{list_all, zip};
 ghost use Rattle.pddl_words.specs.SpacedWords.{words_of};
 ghost use Rattle.pddl_words.specs.Words.{is_name};
@@ -19,8 +19,6 @@ use crate::resolution::tables::Declared;
 use pddl_syntax::Literals;
 use pddl_words::RowWords;
 use std::alloc::{AllocError, Global};
-use std::marker::Model;
-use std::mem::swap;
 use strips_task::{Alternatives, Atom, AtomKey, InitialAtoms, ShortSeq, object_fits};
 
 /// How many rows are read before their atoms are added.
@@ -29,84 +27,13 @@ const BATCH: usize = 32;
 /// Into how many parts the atoms that are expected are divided, and each part again.
 const PARTS: usize = 8;
 
-/// The numbers of the names of a row, and those of the row before. Contracts see the former.
-///
-/// In rows that follow each other, names at the same place are often the same, or declared one after the other. So the number at the same place in the row
-/// before tells which names to compare with first.
-#[derive(Drop)]
-pub(crate) struct RowNumbers {
-    row: Vec<u16>,
-    before: Vec<u16>,
-}
-
-impl Model for RowNumbers {
-    ghost use Rattle.std.specs.Prelude.{List, ℕ};
-
-    ghost Value = { List ℕ };
-
-    ghost view = { λ n. n.row.items };
-}
-
-impl RowNumbers {
-    /// No row. Takes no memory.
-    pub(crate) fn new(alloc: Global) -> Self {
-        RowNumbers {
-            row: Vec::new(alloc),
-            before: Vec::new(alloc),
-        }
-    }
-
-    /// Begins another row.
-    #[inline(always)]
-    fn begin(&mut self)
-        ensures { self.new ≡ [] }
-    {
-        swap(&mut self.row, &mut self.before);
-        self.row.clear();
-    }
-
-    /// Adds the number of the next name.
-    #[inline(always)]
-    fn push(&mut self, number: u16) -> Result<(), AllocError>
-        ensures { OnOk result (self.new ≡ self.old ++ number ∷ []) }
-    {
-        self.row.push(number)?;
-        Ok(())
-    }
-
-    /// Whether the row has no name yet.
-    #[inline(always)]
-    fn is_empty(&self) -> bool
-        ensures { IsTrue result ↔ (self.now ≡ []) }
-    {
-        self.row.is_empty()
-    }
-
-    /// The numbers.
-    #[inline(always)]
-    fn as_slice(&self) -> &[u16]
-        ensures { result.now ≡ self.now }
-    {
-        self.row.as_slice()
-    }
-
-    /// The number at the place of the next name in the row before, or 0 if that was shorter.
-    #[inline(always)]
-    fn near(&self) -> usize {
-        match self.before.get(self.row.len()) {
-            Some(number) => usize::from(*number),
-            None => 0,
-        }
-    }
-}
-
 /// The number of the predicate that a word names as it is written. Then it is a name.
 #[tactic(auto, using(crate::proofs::TableSteps::named_as_written))]
 #[inline(always)]
-fn predicate_as_written(known: &Declared<'_>, word: &[u8], near: usize) -> Option<u16>
+fn predicate_as_written(known: &Declared<'_>, word: &[u8]) -> Option<u16>
     ensures { IfSome result (λ number. (is_name word.now ≡ true) × (row_number (known_form known.now) true word.now ≡ Some number)) }
 {
-    match known.predicates.number_near(word, near) {
+    match known.predicates.number_of(word) {
         Some(number) => Some(number as u16),
         None => None,
     }
@@ -115,10 +42,10 @@ fn predicate_as_written(known: &Declared<'_>, word: &[u8], near: usize) -> Optio
 /// The number of the object that a word names as it is written. Then it is a name.
 #[tactic(auto, using(crate::proofs::TableSteps::named_as_written))]
 #[inline(always)]
-fn object_as_written(known: &Declared<'_>, word: &[u8], near: usize) -> Option<u16>
+fn object_as_written(known: &Declared<'_>, word: &[u8]) -> Option<u16>
     ensures { IfSome result (λ number. (is_name word.now ≡ true) × (row_number (known_form known.now) false word.now ≡ Some number)) }
 {
-    match known.objects.number_near(word, near) {
+    match known.objects.number_of(word) {
         Some(number) => Some(number as u16),
         None => None,
     }
@@ -126,13 +53,13 @@ fn object_as_written(known: &Declared<'_>, word: &[u8], near: usize) -> Option<u
 
 /// The number of the predicate or of the object that a word of a row names as it is written.
 #[inline(always)]
-fn number_as_written(known: &Declared<'_>, is_first: bool, word: &[u8], near: usize) -> Option<u16>
+fn number_as_written(known: &Declared<'_>, is_first: bool, word: &[u8]) -> Option<u16>
     ensures { IfSome result (λ number. (is_name word.now ≡ true) × (row_number (known_form known.now) is_first word.now ≡ Some number)) }
 {
     if is_first {
-        predicate_as_written(known, word, near)
+        predicate_as_written(known, word)
     } else {
-        object_as_written(known, word, near)
+        object_as_written(known, word)
     }
 }
 
@@ -142,15 +69,15 @@ fn number_as_written(known: &Declared<'_>, is_first: bool, word: &[u8], near: us
 fn find_numbers(
     known: &Declared<'_>,
     row: &[u8],
-    numbers: &mut RowNumbers,
+    numbers: &mut Vec<u16>,
 ) -> Result<bool, AllocError>
     ensures names { IfOk result (λ found. IsTrue found → AreNames row.now) }
-    ensures numbers { IfOk result (λ found. IsTrue found → row_numbers (known_form known.now) (words_of row.now) ≡ map Some numbers.new) }
+    ensures numbers { IfOk result (λ found. IsTrue found → row_numbers (known_form known.now) (words_of row.now) ≡ map Some numbers.new.items) }
 {
-    numbers.begin();
+    numbers.clear();
     let mut words = RowWords::new(row);
     'words: while let Some(word) = words.next() {
-        match number_as_written(known, numbers.is_empty(), word, numbers.near()) {
+        match number_as_written(known, numbers.as_slice().is_empty(), word) {
             Some(number) => numbers.push(number)?,
             None => return Ok(false),
         }
@@ -206,7 +133,7 @@ fn fitting<'n>(known: &Declared<'_>, numbers: &'n [u16]) -> Option<(u16, &'n [u1
 fn row_key(
     known: &Declared<'_>,
     row: &[u8],
-    numbers: &mut RowNumbers,
+    numbers: &mut Vec<u16>,
 ) -> Result<Option<AtomKey>, AllocError>
     ensures names { IfOk result (λ found. IfSome found (λ _. AreNames row.now)) }
     ensures key { IfOk result (λ found. IfSome found (λ key. IsKeyOf (atom_of key) key)) }
@@ -226,7 +153,7 @@ fn row_atom(
     alloc: Global,
     known: &Declared<'_>,
     row: &[u8],
-    numbers: &mut RowNumbers,
+    numbers: &mut Vec<u16>,
 ) -> Result<Option<Atom>, AllocError>
     ensures names { IfOk result (λ found. IfSome found (λ _. AreNames row.now)) }
     ensures atom { IfOk result (λ found. IfSome found (λ atom. ground_of (known_form known.now) (atom_spelled row.now) ≡ Some atom)) }
@@ -249,7 +176,7 @@ pub(crate) fn next_atom(
     alloc: Global,
     known: &Declared<'_>,
     literals: &mut Literals<'_>,
-    numbers: &mut RowNumbers,
+    numbers: &mut Vec<u16>,
 ) -> Result<Option<Atom>, AllocError>
     ensures taken { IfOk result (λ found. IfSome found (λ atom. BeginWithAtoms (known_form known.now) literals.old (atom ∷ []) literals.new)) }
     ensures not { IfOk result (λ found. IfNone found (literals.new ≡ literals.old)) }
@@ -271,7 +198,7 @@ pub(crate) fn next_atom(
 fn next_key(
     known: &Declared<'_>,
     literals: &mut Literals<'_>,
-    numbers: &mut RowNumbers,
+    numbers: &mut Vec<u16>,
 ) -> Result<Option<AtomKey>, AllocError>
     ensures taken { IfOk result (λ found. IfSome found (λ key. BeginWithAtoms (known_form known.now) literals.old (atom_of key ∷ []) literals.new)) }
     ensures key { IfOk result (λ found. IfSome found (λ key. IsKeyOf (atom_of key) key)) }
@@ -292,7 +219,7 @@ pub(crate) fn next_keys(
     alloc: Global,
     known: &Declared<'_>,
     literals: &mut Literals<'_>,
-    numbers: &mut RowNumbers,
+    numbers: &mut Vec<u16>,
 ) -> Result<Vec<AtomKey>, AllocError>
     ensures atoms { IfOk result (λ keys. BeginWithAtoms (known_form known.now) literals.old (map atom_of keys.items) literals.new) }
     ensures keys { IfOk result (λ keys. All (λ key. IsKeyOf (atom_of key) key) keys.items) }

@@ -1,19 +1,17 @@
 //! Types are numbered in text order, declared under their parents, and ordered as a tree below `object`.
 
-ghost use Rattle.std.specs.Prelude.{◌≡◌, ◌≢◌, ◌<◌, ◌≤◌, length, IsTrue, IfOk, Some};
+ghost use Rattle.std.specs.Prelude.{◌≡◌, ◌≢◌, ◌<◌, ◌≤◌, length, IfOk, Some};
 ghost use Rattle.strips_task.specs.WellFormed.{most_types};
 ghost use Rattle.std.specs.List.{list_any};
 ghost use Rattle.pddl_words.specs.Words.{folded};
 ghost use Rattle.pddl_syntax.specs.Forms.{name_forms, name_group_form, name_groups};
 ghost use Rattle.pddl_syntax.specs.Optional.{guard, through};
 ghost use Rattle.pddl_syntax.specs.Reading.{FindsAny, Gives, GivesTest, Puts};
-ghost use Rattle.pddl_reader.specs.Tables.{value_named};
 ghost use Rattle.pddl_reader.specs.TypeOrder.{counts_as_parent, declared_under, group_declared, is_tree, numbered, object_alone, parent_name, parent_number, parents_of, type_declared, types_declared, types_of};
 ghost use Rattle.pddl_reader.specs.TypeCycles.{declares_cycle, is_under_itself, names_cycle};
 
 use crate::resolution::names::{is_same_name, name, number_of};
-use pddl_syntax::{Dialect, FaultKind, NameGroup, NameWord, ReadFault, is_written_as};
-use pddl_words::same_folded;
+use pddl_syntax::{Dialect, FaultKind, NameGroup, NameWord, ReadFault};
 use std::alloc::{AllocError, Global};
 use strips_task::{MOST_TYPES, Name, NameTable, Seed, TypeList};
 
@@ -29,9 +27,6 @@ pub(crate) struct TypeTables {
 fn number(alloc: Global, names: &mut NameTable<()>, word: NameWord<'_>) -> Result<(), ReadFault>
     ensures { Puts result (numbered names.old (folded word.entry.text.now)) names.new }
 {
-    if names.number_of_spelling(word.text).is_some() {
-        return Ok(());
-    }
     let name = name(alloc, word)?;
     if names.number_of(name.as_bytes()).is_some() {
         return Ok(());
@@ -65,16 +60,6 @@ fn counts_as_parent(dialect: Dialect, parent: &Name) -> bool
     }
 }
 
-/// Whether the table tells, without a name being made, that the type that a word names is declared under this parent. It does not tell of long names.
-fn is_found_under(parents: &NameTable<Name>, word: &[u8], parent: &[u8]) -> bool
-    ensures { IsTrue result → value_named parents.now (folded word.now) ≡ Some (folded parent.now) }
-{
-    match parents.number_of_spelling(word) {
-        Some(number) => same_folded(parents.get(number).1.as_bytes(), parent),
-        None => false,
-    }
-}
-
 /// Declares a type under its parent, if that counts.
 #[tactic(auto, using(crate::proofs::TypeSteps::under_steps))]
 fn declare_under(
@@ -86,9 +71,6 @@ fn declare_under(
 ) -> Result<(), ReadFault>
     ensures { Puts result (declared_under dialect parents.old (folded word.entry.text.now) (folded kind.entry.text.now)) parents.new }
 {
-    if is_found_under(parents, word.text, kind.text) {
-        return Ok(());
-    }
     let parent = name(alloc, kind)?;
     if !counts_as_parent(dialect, &parent) {
         return Ok(());
@@ -119,24 +101,19 @@ fn declare_type(
     number(alloc, &mut tables.names, word)
 }
 
-/// Declares types under one parent. A word that is written as the one before it is not looked up again.
-#[tactic(auto, using(crate::proofs::Through::through_steps, crate::proofs::ObjectSteps::named_steps, crate::proofs::TypeSteps::type_stays))]
-fn declare_types<'a>(
+/// Declares types under one parent.
+#[tactic(auto, using(crate::proofs::Through::through_steps, crate::proofs::ObjectSteps::named_steps))]
+fn declare_types(
     alloc: Global,
     dialect: Dialect,
     tables: &mut TypeTables,
-    words: &[NameWord<'a>],
+    words: &[NameWord<'_>],
     kind: NameWord<'_>,
 ) -> Result<(), ReadFault>
     ensures { Puts result (through (type_declared dialect kind.entry.text.now) tables.old (name_forms words.now)) tables.new }
 {
-    let mut before: Option<&'a [u8]> = None;
     'words: for word in words {
-        if is_written_as(before, word.text) {
-            continue 'words;
-        }
         declare_type(alloc, dialect, tables, *word, kind)?;
-        before = Some(word.text);
     }
     Ok(())
 }
@@ -248,7 +225,7 @@ fn names_cycle(
     }
 }
 
-/// The first of the words that names a type under itself. A word that is written as the one before it is not looked up again.
+/// The first of the words that names a type under itself.
 #[tactic(auto, using(crate::proofs::TypeSteps::cycle_word_steps))]
 fn first_in_group<'a>(
     alloc: Global,
@@ -260,15 +237,10 @@ fn first_in_group<'a>(
     requires few { length names.now ≤ most_types }
     ensures { FindsAny result (list_any (names_cycle names.now parents.now) (name_forms words.now)) }
 {
-    let mut before: Option<&'a [u8]> = None;
     'words: for word in words {
-        if is_written_as(before, word.text) {
-            continue 'words;
-        }
         if names_cycle(alloc, names, parents, *word)? {
             return Ok(Some(*word));
         }
-        before = Some(word.text);
     }
     Ok(None)
 }

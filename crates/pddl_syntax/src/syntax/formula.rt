@@ -1,11 +1,10 @@
 //! Steps over literals, formulas and effects, and tests them. That takes no memory.
 
-ghost use Rattle.std.specs.Prelude.{◌≡◌, IfSome, IsTrue, MatchOption};
-ghost use Rattle.std.specs.Option.{option_copied};
+ghost use Rattle.std.specs.Prelude.{◌≡◌, false, IsTrue};
 ghost use Rattle.pddl_syntax.specs.Levels.{here};
 ghost use Rattle.pddl_syntax.specs.Reading.{PassesList, ReadsList, TakesWord};
 ghost use Rattle.pddl_syntax.specs.Heads.{is_term};
-ghost use Rattle.pddl_syntax.specs.Rows.{PassesAtom, SpellsAtom};
+ghost use Rattle.pddl_syntax.specs.Rows.{PassesAtom};
 ghost use Rattle.pddl_syntax.specs.Syntax.{number_of};
 ghost use Rattle.pddl_syntax.specs.Presence.{are_conjuncts, is_equality, are_words, is_amount, is_formula, is_function, is_increase, is_literal, is_negated, is_negated_in, is_target, is_value};
 
@@ -14,11 +13,10 @@ use crate::heads::{
     Context, FormulaHead, LiteralHead, Scope, formula_head, heads_atom, is_and, is_term,
     literal_head,
 };
-use crate::syntax::again::{Attempts, is_written_as};
 use crate::syntax::lists::{enter_list, leave_list};
 use crate::syntax::refusals::{function_fault, name_fault};
 use crate::walk::{Item, Walk, Word};
-use pddl_tokens::{Group, Span, same_folded};
+use pddl_tokens::{Span, same_folded};
 use pddl_words::billionths;
 
 /// Steps over terms to the end of their list.
@@ -185,7 +183,7 @@ fn negated_in(walk: &mut Walk<'_>, scope: Scope) -> Result<(), ReadFault>
 fn negated(walk: &mut Walk<'_>, scope: Scope) -> Result<(), ReadFault>
     ensures { PassesList result (is_negated scope) (here walk.old.cursor) (here walk.new.cursor) }
 {
-    if let Some(_row) = pass_row(walk, None) {
+    if pass_row(walk) {
         return leave_list(walk);
     }
     enter_list(walk)?;
@@ -209,50 +207,22 @@ pub(crate) fn literal(walk: &mut Walk<'_>, scope: Scope, head: Word<'_>) -> Resu
     }
 }
 
-/// Whether the bytes of a group are the row before, which spells an atom, or names with a single space between each two of which the first is not
-/// reserved.
+/// Steps over the atom that follows, if it is written as names with a single space between each two, of which the first is not reserved. Returns
+/// whether it is.
+#[tactic(auto, using(crate::proofs::RowSteps::row_steps))]
 #[inline(always)]
-fn spells_atom(group: &Group<'_>, before: Option<&[u8]>) -> bool
-    requires { IfSome (option_copied before) SpellsAtom }
-    ensures { IsTrue result → SpellsAtom group.now.key.now }
+pub(crate) fn pass_row(walk: &mut Walk<'_>) -> bool
+    ensures passed { IsTrue result → PassesAtom (here walk.old.cursor) (here walk.new.cursor) }
+    ensures other { result ≡ false → here walk.new.cursor ≡ here walk.old.cursor }
 {
-    is_written_as(before, group.key) || group.are_names() && heads_atom(group.key)
-}
-
-/// Steps over the atom that follows, if it is written as the row before, or as names with a single space between each two. Returns its row.
-#[inline(always)]
-pub(crate) fn pass_row<'a>(walk: &mut Walk<'a>, before: Option<&[u8]>) -> Option<&'a [u8]>
-    requires { IfSome (option_copied before) SpellsAtom }
-    ensures { MatchOption (option_copied result) (here walk.new.cursor ≡ here walk.old.cursor)
-        (λ row. SpellsAtom row × PassesAtom (here walk.old.cursor) (here walk.new.cursor)) }
-{
-    let group = walk.next_group()?;
-    if !spells_atom(&group, before) {
-        return None;
+    let Some(group) = walk.next_group() else {
+        return false;
+    };
+    if !group.are_names() || !heads_atom(group.key) {
+        return false;
     }
-    let row = group.key;
     walk.pass(group);
-    Some(row)
-}
-
-/// Steps over the next conjunct as [`pass_row`] does, if that is to be attempted.
-#[inline(always)]
-fn attempt_row<'a>(
-    walk: &mut Walk<'a>,
-    before: Option<&[u8]>,
-    attempts: &mut Attempts,
-) -> Option<&'a [u8]>
-    requires { IfSome (option_copied before) SpellsAtom }
-    ensures { MatchOption (option_copied result) (here walk.new.cursor ≡ here walk.old.cursor)
-        (λ row. SpellsAtom row × PassesAtom (here walk.old.cursor) (here walk.new.cursor)) }
-{
-    if !attempts.is_due() {
-        attempts.count(false);
-        return None;
-    }
-    let row = pass_row(walk, before);
-    attempts.count(row.is_some());
-    row
+    true
 }
 
 /// Steps over what is in the parentheses of a formula or an effect.
@@ -273,17 +243,14 @@ pub(crate) fn formula(walk: &mut Walk<'_>, scope: Scope) -> Result<(), ReadFault
     }
 }
 
-/// Steps over the formulas after `and`. An atom that is written as the row before it is not tested again.
+/// Steps over the formulas after `and`.
 #[cycle(formulas)]
 #[tactic(auto, using(crate::proofs::FormulaSteps::conjunct_steps, crate::proofs::RowSteps::atom_steps))]
-fn conjuncts<'a>(walk: &mut Walk<'a>, scope: Scope) -> Result<(), ReadFault>
+fn conjuncts(walk: &mut Walk<'_>, scope: Scope) -> Result<(), ReadFault>
     ensures { PassesList result (are_conjuncts scope) (here walk.old.cursor) (here walk.new.cursor) }
 {
-    let mut before: Option<&'a [u8]> = None;
-    let mut attempts = Attempts::new();
     'conjuncts: loop {
-        if let Some(row) = attempt_row(walk, before, &mut attempts) {
-            before = Some(row);
+        if pass_row(walk) {
             continue 'conjuncts;
         }
         match walk.next() {

@@ -1,6 +1,6 @@
 //! The literals of formulas, effects and initial atoms. Only where they begin is kept, and they are read again one by one.
 
-ghost use Rattle.std.specs.Prelude.{◌≡◌, ◌+◌, ◌<◌, ◌^◌, List, [], ◌∷◌, true, false, IfSome, IsSome, IsTrue, Some};
+ghost use Rattle.std.specs.Prelude.{◌≡◌, ◌+◌, ◌<◌, ◌^◌, List, [], ◌∷◌, true, IfSome, IsSome, Some};
 ghost use Rattle.pddl_syntax.specs.Levels.{here};
 ghost use Rattle.pddl_syntax.specs.Sizes.{ahead};
 ghost use Rattle.pddl_syntax.specs.Reading.{ReadsList};
@@ -10,13 +10,12 @@ ghost use Rattle.pddl_syntax.specs.Rows.{atom_spelled, is_atom_row};
 
 use crate::dialect::Dialect;
 use crate::fault::ReadFault;
-use crate::heads::{Context, Scope, heads_atom, is_and, is_atom_row};
+use crate::heads::{Context, Scope, heads_atom, is_and};
 use crate::syntax::LiteralSyntax;
 use crate::syntax::formula::formula;
 use crate::syntax::known::literal;
 use crate::walk::{Item, Walk};
 use pddl_tokens::Group;
-use pddl_words::are_same;
 use std::alloc::Global;
 use std::marker::Model;
 
@@ -113,24 +112,6 @@ impl<'a> Literals<'a> {
         *self = row.literals_after();
     }
 
-    /// Passes the next literal, if it is written as this row, which spells an atom: its first word is a name, and each other one a name or a
-    /// variable. Returns whether it was.
-    #[inline(always)]
-    pub fn pass_again(&mut self, row: &[u8]) -> bool
-        requires atom { is_atom_row row.now ≡ true }
-        ensures passed { IsTrue result → self.old ≡ atom_literal true (atom_spelled row.now) ∷ self.new }
-        ensures other { result ≡ false → self.new ≡ self.old }
-    {
-        let Some(group) = self.walk.next_group() else {
-            return false;
-        };
-        if self.depth != 1 || !are_same(group.key, row) || !heads_atom(group.key) {
-            return false;
-        }
-        self.walk.pass(group);
-        true
-    }
-
     /// The next literal, or `None` if none follows. The only fault is running out of memory, and no literal follows it.
     #[tactic(auto, using(crate::proofs::LiteralSteps::next_steps))]
     pub fn next(&mut self, alloc: Global) -> Result<Option<LiteralSyntax<'a>>, ReadFault>
@@ -172,14 +153,6 @@ impl<'a> AtomRow<'a> {
         ensures { result.now ≡ self.now.bytes }
     {
         self.group.key
-    }
-
-    /// Whether the first word is a name, and each other one a name or a variable. Then they spell the literal. Takes one pass over the bytes.
-    pub fn is_atom(&self) -> bool
-        ensures is { result ≡ is_atom_row self.now.bytes }
-        ensures spells { IsTrue result → (rest : List LiteralForm) × (self.now.before ≡ atom_literal true (atom_spelled self.now.bytes) ∷ rest) }
-    {
-        is_atom_row(self.group.key)
     }
 
     /// The literals after it, if its words spell it.

@@ -40,7 +40,7 @@ fn init_items(dialect: Dialect, walk: &mut Walk<'_>) -> Result<(), ReadFault>
     ensures { PassesList result (are_initial dialect) (here walk.old.cursor) (here walk.new.cursor) }
 {
     'items: loop {
-        if let Some(_row) = pass_row(walk, None) {
+        if pass_row(walk) {
             continue 'items;
         }
         match walk.next() {

@@ -10,9 +10,9 @@ loop-child-preserved g c =
     let was = c.loop-child.invariant in
     let at = c.in-Some.ensures.steps.0 in
     let less = c.in-Some.ensures.steps.1 in
-    let crew = subst (AllWorkAt c.args.bench.now c.args.gate.now) at was.crew in
+    let crew = subst (AllWorkAt c.args.shared.now.bench.now c.args.shared.now.gate.now) at was.crew in
     let ended = c.join-seat.ensures in
-    let may = first_may_be_held (g.G.Gate.may_hold c.args.gate.now) c.loop-child.held c.join-seat.result.refused was.held
+    let may = first_may_be_held (g.G.Gate.may_hold c.args.shared.now.gate.now) c.loop-child.held c.join-seat.result.refused was.held
     (λ job is. subst (λ gate. g.G.Gate.may_hold gate job) crew.1 (ended.may_hold job is)) in
     let view = was.view in
     let long = ap length at in
@@ -28,5 +28,5 @@ loop-child-preserved g c =
         (let count = view.2 in omega arith),
         one_joined c.args.owner.now.view c.loop-child.owner.view c.hand_in.new.self.view c.join-seat.result.seat.view view.0 view.1 view.3 c.hand_in.ensures.view,
       );
-      held = subst (λ held. IfSome held (g.G.Gate.may_hold c.args.gate.now)) (sym c.first_held-held.ensures) may;
+      held = subst (λ held. IfSome held (g.G.Gate.may_hold c.args.shared.now.gate.now)) (sym c.first_held-held.ensures) may;
     }

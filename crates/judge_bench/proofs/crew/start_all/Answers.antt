@@ -8,8 +8,8 @@ use Rattle.judge_bench.proofs.crew.start_all.Goals as goal
 pub loop-number-preserved : goal.loop-number-preserved
 loop-number-preserved g c =
     let was = c.loop-number.invariant in
-    let bench = c.args.bench.now in
-    let gate = c.args.gate.now in
+    let bench = c.args.shared.now.bench.now in
+    let gate = c.args.shared.now.gate.now in
     let promise = c.in-Ok.ensures.ok in
     let items = c.push_reserved.ensures.items in
     let more = ap length items ∙ length_push c.loop-number.crew.items c.in-Ok.child in record {

@@ -8,8 +8,8 @@ use Rattle.judge_bench.proofs.crew.start_all.Given as goal
 -- So far so many workers were started.
 abbrev pub invariant-loop-number : goal.invariant-loop-number
 invariant-loop-number g l = record {
-  sits : SitsAt l.bench l.owner;
-  crew : AllWorkAt l.bench l.gate l.crew.items;
+  sits : SitsAt l.shared.bench.now l.owner;
+  crew : AllWorkAt l.shared.bench.now l.shared.gate.now l.crew.items;
   count : vec_len l.crew ≡ l.number;
   length_is : length l.crew.items ≡ l.number;
   room : vec_capacity l.crew ≡ vec_capacity l.initial.crew;

@@ -2,9 +2,9 @@ use Rattle.std.proofs.Common.{◌++◌, length, ap, sym, ◌∙◌, arith}
 use Rattle.std.proofs.lemmas.List.{length-map}
 use Rattle.report_text.specs.Format.{head_in}
 use Rattle.judge_engine.specs.Plans.{plan_of_cut}
-use Rattle.judge_engine.specs.Standing.{start_of, rest_text}
+use Rattle.judge_engine.specs.ReportPosition.{start_of, rest_text}
 use Rattle.judge_engine.proofs.Submitted.{count_is}
-use Rattle.judge_engine.proofs.Standing.{last_sum, whole_report, some_file}
+use Rattle.judge_engine.proofs.ReportPosition.{last_sum, whole_report, some_file}
 use Rattle.judge_engine.proofs.engine.report_of.Goals as goal
 
 pub judge_together-requires-clause-few : goal.judge_together-requires-clause-few
@@ -23,7 +23,7 @@ returns-clause-report g c =
     let head = c.in_ok-push_head.ensures ∙ ap (λ l. l ++ head_in format task.task) c.new-text.ensures in
     c.from_bytes-2.ensures
     ∙ c.into_bytes-2.ensures
-    ∙ c.in_ok-push_sum.ensures
+    ∙ c.in_ok-push_planner_line.ensures
     ∙ ap (λ l. c.push_plans.new.text ++ l) (last_sum format task bundles c.in_ok-last.last)
     ∙ c.in_ok-last.ensures.text
     ∙ (λ j. head j ++ rest_text format task bundles (start_of 0) (c.requires.plans j))

@@ -5,15 +5,15 @@ use Rattle.intake_rules.specs.declared.finding.Finding.{Finding}
 use Rattle.report_text.specs.Report.{as_judged}
 use Rattle.judge_engine.specs.Plans.{handed_in, plans_of_cuts}
 use Rattle.judge_engine.specs.declared.plans.Cut.{Cut}
-use Rattle.judge_engine.specs.Standing.{rest_text}
+use Rattle.judge_engine.specs.ReportPosition.{rest_text}
 use Rattle.judge_engine.proofs.Submitted.{count_found, found_at, list_of_all, one_list}
-use Rattle.judge_engine.proofs.Standing.{later_well, one_cut_more, start_well}
+use Rattle.judge_engine.proofs.ReportPosition.{later_well, one_cut_more, start_well}
 use Rattle.judge_engine.proofs.planner.push_plans.Goals as goal
 
 pub loop-index-init : goal.loop-index-init
 loop-index-init c = record {
-  text = ap (λ s. c.args.text.now ++ rest_text c.args.format c.args.task.now c.args.bundles.now s (plans_of_cuts c.args.bundles.now c.args.cuts.now)) c.start_of-standing.ensures;
-  standing = start_well (length c.args.bundles.now) c.start_of-standing.result c.requires.some c.start_of-standing.ensures;
+  text = ap (λ s. c.args.text.now ++ rest_text c.args.format c.args.task.now c.args.bundles.now s (plans_of_cuts c.args.bundles.now c.args.cuts.now)) c.start_of-position.ensures;
+  position = start_well (length c.args.bundles.now) c.start_of-position.result c.requires.some c.start_of-position.ensures;
 }
 
 pub get-finding-requires-clause-planner : goal.get-finding-requires-clause-planner
@@ -29,10 +29,10 @@ pub push_next-requires-clause-planner : goal.push_next-requires-clause-planner
 push_next-requires-clause-planner c =
     (c.requires.within c.loop-index.index (record { planner = 0; start = 0; end = 0 }) c.loop-index-test.true).0
 
-pub push_next-requires-clause-standing : goal.push_next-requires-clause-standing
-push_next-requires-clause-standing c =
-    let standing = c.loop-index.invariant.standing in
-    record { known = standing.known; few = omega (arith, standing.few, c.requires.few, c.loop-index-test.true); some = standing.some }
+pub push_next-requires-clause-position : goal.push_next-requires-clause-position
+push_next-requires-clause-position c =
+    let position = c.loop-index.invariant.position in
+    record { known = position.known; few = omega (arith, position.few, c.requires.few, c.loop-index-test.true); some = position.some }
 
 pub loop-index-preserved : goal.loop-index-preserved
 loop-index-preserved c =
@@ -48,18 +48,18 @@ loop-index-preserved c =
     let judged = found_at task bundles 0 cuts index finding cut (sym (ap (λ l. slice_get l index) list) ∙ c.get-finding.ensures) c.loop-index-test.true is in
     let within = (c.requires.within index empty c.loop-index-test.true).0 in
     record {
-      text = one_cut_more c.args.format task bundles cuts index cut c.loop-index.standing c.in_ok-standing.standing (as_judged finding) c.loop-index.text c.push_next.new.text
-          c.loop-index-test.true is judged c.in_ok-standing.ensures.text c.in_ok-standing.ensures.standing
+      text = one_cut_more c.args.format task bundles cuts index cut c.loop-index.position c.in_ok-position.position (as_judged finding) c.loop-index.text c.push_next.new.text
+          c.loop-index-test.true is judged c.in_ok-position.ensures.text c.in_ok-position.ensures.position
           ∙ c.loop-index.invariant.text;
-      standing = later_well (length bundles) index cut.planner c.loop-index.standing c.in_ok-standing.standing (as_judged finding) within c.loop-index.invariant.standing
-          c.in_ok-standing.ensures.standing;
+      position = later_well (length bundles) index cut.planner c.loop-index.position c.in_ok-position.position (as_judged finding) within c.loop-index.invariant.position
+          c.in_ok-position.ensures.position;
     }
 
 pub returns-clause-text : goal.returns-clause-text
 returns-clause-text c =
-    ap (λ l. c.loop-index.text ++ rest_text c.args.format c.args.task.now c.args.bundles.now c.loop-index.standing (plans_of_cuts c.args.bundles.now l))
+    ap (λ l. c.loop-index.text ++ rest_text c.args.format c.args.task.now c.args.bundles.now c.loop-index.position (plans_of_cuts c.args.bundles.now l))
     (sym (drop_all c.loop-index.index c.args.cuts.now c.loop-index-test.false))
     ∙ c.loop-index.invariant.text
 
 pub returns-clause-known : goal.returns-clause-known
-returns-clause-known c = c.loop-index.invariant.standing.known
+returns-clause-known c = c.loop-index.invariant.position.known

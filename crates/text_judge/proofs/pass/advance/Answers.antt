@@ -1,9 +1,11 @@
-use Rattle.std.proofs.Common.{Some, subst}
-use Rattle.text_judge.specs.declared.pass.Tried.{Tried}
-use Rattle.text_judge.specs.Passes.{AfterTrial}
+use Rattle.std.proofs.Common.{subst, sym}
+use Rattle.plan_text.specs.Walks.{Walk}
+use Rattle.text_judge.specs.Passes.{AreTogether}
+use Rattle.text_judge.proofs.Judged.{together_still}
 use Rattle.text_judge.proofs.pass.advance.Goals as goal
 
-pub returns-in-Taken-clause-next : goal.returns-in-Taken-clause-next
-returns-in-Taken-clause-next c = λ steps passed taken.
-    let after = subst (λ (t : Tried). AfterTrial t c.go_on.new.walk c.go_on.new.judge steps) c.in-Taken.is (c.in_ok-go_on.ensures.next steps passed taken) in
-    (Some after.0, after.1, after.2)
+pub take_next-requires : goal.take_next-requires
+take_next-requires c =
+    let tried = c.in_ok-take_spelled.ensures in
+    subst (λ (w : Walk). AreTogether w c.take_spelled.new.judge) (sym (tried.stays c.if-branch.false))
+    (together_still c.args.walk.now c.args.judge.now c.take_spelled.new.judge c.requires (tried.not c.if-branch.false))

@@ -5,6 +5,6 @@ use Rattle.text_judge.proofs.pass.take_next.Goals as goal
 
 pub returns-in-None-clause-next : goal.returns-in-None-clause-next
 returns-in-None-clause-next c = λ steps passed taken.
-    let takes = rw c.in-None.is at c.in_ok-take_found-in-Found-Step.ensures.taken in
+    let takes = rw c.in-None.is at c.in_ok-take_words-in-Found-Step.ensures.taken in
     let found = rw c.in-Found-Step.field-0-is at c.in-Found-Step.ensures in
     (Some (step_of (map folded c.in-Found-Step.found)), found.behind.passed steps passed, takes steps taken)

@@ -12,7 +12,7 @@ invariant-words l = record {
   passed : List (List ℕ);
   words : words_of l.row ≡ passed ++ l.words;
   names : list_all is_name passed ≡ true;
-  numbered : row_numbers (known_form l.known) passed ≡ map Some l.numbers;
+  numbered : row_numbers (known_form l.known) passed ≡ map Some l.numbers.items;
 }
 
 abbrev pub decreases-words : goal.decreases-words

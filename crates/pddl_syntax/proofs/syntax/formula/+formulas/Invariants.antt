@@ -1,8 +1,6 @@
-use Rattle.std.proofs.Common.{◌≡◌, ◌≤◌, IfSome}
-use Rattle.std.specs.Option.{option_copied}
+use Rattle.std.proofs.Common.{◌≡◌, ◌≤◌}
 use Rattle.pddl_syntax.specs.Levels.{here}
 use Rattle.pddl_syntax.specs.Presence.{are_conjuncts}
-use Rattle.pddl_syntax.specs.Rows.{SpellsAtom}
 use Rattle.pddl_syntax.specs.Sizes.{size}
 use Rattle.pddl_syntax.proofs.syntax.formula.+formulas.Given as goal
 
@@ -17,7 +15,6 @@ invariant-conjuncts-conjuncts l = record {
   so_far : are_conjuncts l.scope (here l.walk.cursor).top ≡ are_conjuncts l.scope (here l.fn.walk.cursor).top;
   below : (here l.walk.cursor).below ≡ (here l.fn.walk.cursor).below;
   smaller : size (here l.walk.cursor).top ≤ size (here l.fn.walk.cursor).top;
-  spelled : IfSome (option_copied l.before) SpellsAtom;
 }
 
 abbrev pub decreases-conjuncts-conjuncts : goal.decreases-conjuncts-conjuncts

@@ -1,42 +1,36 @@
-use Rattle.std.proofs.Common.{◌≡◌, ◌+◌, ◌<◌, ◌∷◌, ◌++◌, [], List, Some, length, subst, sym, ap, ◌∙◌, arith}
-use Rattle.strips_task.specs.declared.plans.Plan.TheVariants.{Steps}
+use Rattle.std.proofs.Common.{◌+◌, ◌<◌, ◌∷◌, ◌++◌, [], List, Some, subst, sym, ap, ◌∙◌, arith}
 use Rattle.strips_task.specs.declared.steps.StepText.{StepText}
 use Rattle.strips_task.specs.StepView.{step_shown}
-use Rattle.strips_judge.specs.declared.verdict.Verdict.TheVariants.{Fails}
 use Rattle.strips_judge.proofs.VerdictLaws.{without_value}
-use Rattle.plan_cost.specs.declared.costs.Cost.TheVariants.{NotCounted}
-use Rattle.plan_cost.specs.Assessments.{assessment}
 use Rattle.text_judge.specs.Judging.{Judging, HasTaken}
+use Rattle.text_judge.specs.Passes.{FailsNext}
 use Rattle.text_judge.proofs.TakenLaws.{fails_here, has_taken_more, judge_grown, judge_counted}
 use Rattle.text_judge.proofs.step_judge.Judge.take.Goals as goal
 
 pub invariant_of-self : goal.invariant_of-self
 invariant_of-self c =
-    (judge_grown c.self.inside.task.now c.self.inside.state c.self.inside.cost c.self.inside.count c.self.inside.memo c.self.invariant.0 c.take_step.new.state c.take_step.ensures.grows, c.self.invariant.1)
+    judge_grown c.self.inside.task.now c.self.inside.state c.self.inside.cost c.self.inside.count c.self.inside.memo c.self.invariant c.take_step.new.state c.take_step.ensures.grows
 
 pub invariant_of-self-in-Some : goal.invariant_of-self-in-Some
 invariant_of-self-in-Some c =
-    (judge_grown c.self.inside.task.now c.self.inside.state c.self.inside.cost c.self.inside.count c.self.inside.memo c.self.invariant.0 c.take_step.new.state c.take_step.ensures.grows, c.self.invariant.1)
+    judge_grown c.self.inside.task.now c.self.inside.state c.self.inside.cost c.self.inside.count c.self.inside.memo c.self.invariant c.take_step.new.state c.take_step.ensures.grows
 
 pub invariant_of-self-in_err-amount : goal.invariant_of-self-in_err-amount
 invariant_of-self-in_err-amount c =
-    (judge_grown c.self.inside.task.now c.self.inside.state c.self.inside.cost c.self.inside.count c.self.inside.memo c.self.invariant.0 c.take_step.new.state c.take_step.ensures.grows, c.self.invariant.1)
+    judge_grown c.self.inside.task.now c.self.inside.state c.self.inside.cost c.self.inside.count c.self.inside.memo c.self.invariant c.take_step.new.state c.take_step.ensures.grows
 
 pub returns-in-Some-clause-fails : goal.returns-in-Some-clause-fails
 returns-in-Some-clause-fails c =
-    subst (λ (j : Judging). (steps rest : List StepText) → HasTaken j steps
-    → assessment j.task (Steps (steps ++ step_shown c.args.step ∷ rest)) ≡ record { verdict = Fails (length steps + 1) c.in-Some.why; cost = NotCounted }) c.self.view_is
-    (fails_here c.self.inside.task.now c.self.inside.state c.self.inside.cost c.self.inside.count (Some c.in-Some.why) (step_shown c.args.step)
-    (sym c.in-Some.is ∙ c.in_ok-why.ensures.why))
+    subst (λ (j : Judging). (steps : List StepText) → HasTaken j steps → FailsNext j.task steps (step_shown c.args.step) c.in-Some.why) c.self.view_is
+    (λ steps taken rest. fails_here c.self.inside.task.now c.self.inside.state c.self.inside.cost c.self.inside.count (Some c.in-Some.why) (step_shown c.args.step)
+    (sym c.in-Some.is ∙ c.in_ok-why.ensures.why) steps rest taken)
 
 pub invariant_of-self-2 : goal.invariant_of-self-2
 invariant_of-self-2 c =
-    let lt : c.self.inside.count < 1000000 = omega (arith, c.requires, ap (λ (j : Judging). j.count) c.self.view_is) in (
-      judge_counted c.self.inside.task.now c.take_step.new.state c.self.inside.cost c.self.inside.count c.self.inside.memo
-          (judge_grown c.self.inside.task.now c.self.inside.state c.self.inside.cost c.self.inside.count c.self.inside.memo c.self.invariant.0 c.take_step.new.state c.take_step.ensures.grows)
-          c.added-self-inside.result c.in_ok-amount.amount lt c.added-self-inside.ensures.small c.in_ok-amount.ensures.small,
-      c.self.invariant.1,
-    )
+    let lt : c.self.inside.count < 1000000 = omega (arith, c.requires, ap (λ (j : Judging). j.count) c.self.view_is) in
+    judge_counted c.self.inside.task.now c.take_step.new.state c.self.inside.cost c.self.inside.count c.self.inside.memo
+    (judge_grown c.self.inside.task.now c.self.inside.state c.self.inside.cost c.self.inside.count c.self.inside.memo c.self.invariant c.take_step.new.state c.take_step.ensures.grows)
+    c.added-self-inside.result c.in_ok-amount.amount lt c.added-self-inside.ensures.small c.in_ok-amount.ensures.small
 
 pub returns-clause-taken : goal.returns-clause-taken
 returns-clause-taken c =
