@@ -13,7 +13,7 @@ use Rattle.intake_rules.specs.Intake.{jobs_of}
 use Rattle.intake_rules.specs.Jobs.{AcceptedPlan}
 use Rattle.intake_rules.specs.Rules.{Event, emit}
 use Rattle.intake_rules.proofs.Ends.{taken_count, returned_count, is_out_by, stage_in_by}
-use Rattle.intake_rules.proofs.Numbered.{number_at, stands_at, one_index}
+use Rattle.intake_rules.proofs.Numbered.{stands_at, one_index}
 
 pub record IsConsistent (history : History) : Type 0 where
   -- a job was handed back as often as it was given out, or once less, and then it is an accepted one
@@ -33,11 +33,6 @@ none_consistent = record {
   first = λ planner index finding e. cc;
   known = λ planner index finding e. cc;
 }
-
--- a job's number is its index
-pub number_is : (history : History) (index : ℕ) (job : AcceptedPlan) → slice_get (jobs history) index ≡ Some job → job.number ≡ index
-unfolding jobs
-number_is history index job e = let is = number_at 0 (filter_map accepted_by history) index job e in omega arith
 
 -- a job of a planner stands at its number among all
 pub planners_job : (history : History) (planner index : ℕ) (job : AcceptedPlan) → slice_get (jobs_of planner (jobs history)) index ≡ Some job

@@ -10,14 +10,14 @@ use Rattle.intake_rules.specs.declared.reply.Reply.TheVariants as reply
 use Rattle.intake_rules.specs.declared.stage.Stage.TheVariants as stage
 use Rattle.intake_rules.specs.History.{History, numbered_from, jobs, closes, is_closed, emitted, stage_in, below, left_by, IsLawful, TakesLeast, HasRightFindings}
 use Rattle.intake_rules.specs.Intake.{Intake, has_planner, has_job, is_closed_in, stage_of, jobs_of, least_waiting, next_job}
-use Rattle.intake_rules.specs.Rules.{Event, submit, close, take_job, hand_back, finish, emit, first_that_applies, refused_or, Allows, after, reply_to, taken}
+use Rattle.intake_rules.specs.Rules.{Event, submit, close, take_job, hand_back, finish, emit, first_that_applies, refused_or, Allows, reply_to, taken}
 use Rattle.intake_rules.specs.Laws.{EmptyHistory, OneMore, LeastGoesOn}
 use Rattle.plan_cost.specs.declared.costs.CostedTask.{CostedTask}
 use Rattle.intake_rules.proofs.Allowed.{least_allowed, returned_from, finished_from, emitted_from}
 use Rattle.intake_rules.proofs.Consistent.{IsConsistent, none_consistent, planners_job}
 use Rattle.intake_rules.proofs.Ends.{quiet, closed_last}
 use Rattle.intake_rules.proofs.Pushes.{by_pushes, slice_get_before, slice_get_last, slice_get_cases, take_before, take_last}
-use Rattle.intake_rules.proofs.Steps.{Goes, quiet_goes, accepted_goes, closed_goes, taken_goes, returned_goes, finished_goes, emitted_goes}
+use Rattle.intake_rules.proofs.Lemmas.{Goes, quiet_goes, accepted_goes, closed_goes, taken_goes, returned_goes, finished_goes, emitted_goes}
 use Rattle.intake_rules.proofs.Tables.{length-table, get_or-table, table_replicate}
 
 -- what the intake that a history leaves says of planners and jobs
@@ -176,28 +176,6 @@ least_goes_on planners slots history event = (
   least_allowed slots (left_by planners history) event,
   λ least. least_push planners history event (reply_to slots (left_by planners history) event) least (least_reply slots (left_by planners history) event),
 )
-
--- an intake that always gives out the least job, one event further: for whoever keeps an intake and the history that leaves it
-pub goes_on : (planners slots : ℕ) (history : History) (intake : Intake) (event : Event) → IsLawful planners slots history → TakesLeast planners history
-    → left_by planners history ≡ intake
-    → IsLawful planners slots (history ++ (event, reply_to slots intake event) ∷ []) × TakesLeast planners (history ++ (event, reply_to slots intake event) ∷ [])
-    × (left_by planners (history ++ (event, reply_to slots intake event) ∷ []) ≡ after intake event (reply_to slots intake event))
-goes_on planners slots history intake event lawful least leaves =
-    subst
-    (λ (x : Intake). IsLawful planners slots (history ++ (event, reply_to slots x event) ∷ []) × TakesLeast planners (history ++ (event, reply_to slots x event) ∷ [])
-    × (left_by planners (history ++ (event, reply_to slots x event) ∷ []) ≡ after x event (reply_to slots x event)))
-    leaves
-    (more.0, keeps least, more.1)
-  where
-    allowed : Allows slots (left_by planners history) event (reply_to slots (left_by planners history) event)
-    allowed = (least_goes_on planners slots history event).0
-
-    keeps : TakesLeast planners history → TakesLeast planners (history ++ (event, reply_to slots (left_by planners history) event) ∷ [])
-    keeps = (least_goes_on planners slots history event).1
-
-    more : IsLawful planners slots (history ++ (event, reply_to slots (left_by planners history) event) ∷ [])
-        × (left_by planners (history ++ (event, reply_to slots (left_by planners history) event) ∷ []) ≡ after (left_by planners history) event (reply_to slots (left_by planners history) event))
-    more = one_more planners slots history event (reply_to slots (left_by planners history) event) lawful allowed
 
 -- an element of a front stands in the whole
 slice_get_front : {A : Type 0} (n : ℕ) (xs : List A) (i : ℕ) (x : A) → slice_get (take n xs) i ≡ Some x → (i < n) × (slice_get xs i ≡ Some x)

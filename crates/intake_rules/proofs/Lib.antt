@@ -8,6 +8,6 @@ pub mod OneHistory
 pub mod Pushes
 pub mod Refused
 pub mod SameJobs
-pub mod Steps
+pub mod Lemmas
 pub mod Tables
 pub mod WorkedRows

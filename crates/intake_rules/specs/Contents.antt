@@ -3,8 +3,8 @@
 use Rattle.std.specs.Arc.{arc_value}
 use Rattle.plan_text.specs.PlanReading.{plan_of}
 use Rattle.strips_task.specs.declared.plans.Plan.{Plan}
-use Rattle.intake_rules.specs.declared.plan.Form.{Form}
-use Rattle.intake_rules.specs.declared.plan.Form.TheVariants as shown
+use Rattle.intake_rules.specs.declared.plan.PlanForm.{PlanForm}
+use Rattle.intake_rules.specs.declared.plan.PlanForm.TheVariants as shown
 use Rattle.intake_rules.specs.declared.plan.KeptPlan.{KeptPlan}
 use Rattle.intake_rules.specs.declared.plan.KeptPlan.TheVariants as kept
 
@@ -14,6 +14,6 @@ content (kept.Read plan) = arc_value plan
 content (kept.Text text) = plan_of text
 
 -- the plan that is shown: itself, or the plan of its text
-abbrev pub content_shown : Form → Plan
+abbrev pub content_shown : PlanForm → Plan
 content_shown (shown.Read plan) = plan.now
 content_shown (shown.Text text) = plan_of text.now

@@ -4,7 +4,7 @@ ghost use Rattle.plan_cost.specs.Assessments.{assessment};
 ghost use Rattle.plan_cost.specs.CompactCosts.{IsCompact};
 ghost use Rattle.intake_rules.specs.Findings.{IsRight};
 
-use crate::{Form, Job, SubmittedPlan};
+use crate::{Job, PlanForm, SubmittedPlan};
 use plan_cost::{Assessment, CompactCost, CostedTask, assess};
 use std::alloc::{AllocError, AllocFailed, Global};
 use strips_judge::Verdict;
@@ -87,7 +87,7 @@ fn assess_by(
     ensures task { judge.new ≡ judge.old }
 {
     match plan.form() {
-        Form::Read(plan) => assess(alloc, judge.task(), plan),
-        Form::Text(text) => judge.assess(alloc, text),
+        PlanForm::Read(plan) => assess(alloc, judge.task(), plan),
+        PlanForm::Text(text) => judge.assess(alloc, text),
     }
 }

@@ -40,7 +40,7 @@ mod stage;
 pub use finding::Finding;
 pub use given_back::{FinishRefused, SubmitRefused};
 pub use job::Job;
-pub use plan::{Form, SubmittedPlan};
+pub use plan::{PlanForm, SubmittedPlan};
 pub use refusal::Refusal;
 pub use reply::Reply;
 pub use shared_text::SharedText;

@@ -28,7 +28,7 @@ enum KeptPlan {
 
 /// A plan in the form in which it is kept.
 #[derive(Clone, Copy, Debug)]
-pub enum Form<'a> {
+pub enum PlanForm<'a> {
     /// The plan itself.
     Read(&'a Plan),
     /// The text whose plan it is.
@@ -66,12 +66,12 @@ impl SubmittedPlan {
     }
 
     /// The plan or its text, whichever is kept. Takes no memory, and reads nothing.
-    pub fn form(&self) -> Form<'_>
+    pub fn form(&self) -> PlanForm<'_>
         ensures { content_shown result ≡ self.now }
     {
         match &self.kept {
-            KeptPlan::Read(plan) => Form::Read(plan),
-            KeptPlan::Text(text) => Form::Text(text.as_slice()),
+            KeptPlan::Read(plan) => PlanForm::Read(plan),
+            KeptPlan::Text(text) => PlanForm::Text(text.as_slice()),
         }
     }
 
@@ -80,10 +80,10 @@ impl SubmittedPlan {
         ensures { result ≡ plan_eq self.now other.now }
     {
         match (self.form(), other.form()) {
-            (Form::Read(plan), Form::Read(other)) => *plan == *other,
-            (Form::Read(plan), Form::Text(text)) => is_plan_of(plan, text),
-            (Form::Text(text), Form::Read(plan)) => is_plan_of(plan, text),
-            (Form::Text(text), Form::Text(other)) => same_plans(text, other),
+            (PlanForm::Read(plan), PlanForm::Read(other)) => *plan == *other,
+            (PlanForm::Read(plan), PlanForm::Text(text)) => is_plan_of(plan, text),
+            (PlanForm::Text(text), PlanForm::Read(plan)) => is_plan_of(plan, text),
+            (PlanForm::Text(text), PlanForm::Text(other)) => same_plans(text, other),
         }
     }
 

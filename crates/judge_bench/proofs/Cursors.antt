@@ -9,7 +9,7 @@ use native.Mathlib.Decide.{ℕ_discrete}
 use Rattle.intake_rules.specs.Jobs.{AcceptedPlan}
 use Rattle.bench_rule.specs.Views.{one_if, planners_of, rank, times_among}
 use Rattle.bench_rule.proofs.Counts.{one_at}
-use Rattle.judge_bench.specs.Kept.{CursorsKept}
+use Rattle.judge_bench.specs.Bookkeeping.{AreCursors}
 
 times_among-none : (planners : List ℕ) (planner : ℕ) → times_among planners planner 0 ≡ 0
 times_among-none [] planner = refl
@@ -31,9 +31,9 @@ rank_next jobs slot planner job at his =
     ap (rank jobs planner) (add-one slot) ∙ omega (arith, next, one)
 
 -- a planner's cursor was written, and at most that planner's number of emitted findings
-pub cursor_set : (jobs : List AcceptedPlan) (emitted emitted' planners cursors : List ℕ) (planner slot : ℕ) → CursorsKept jobs emitted planners cursors → length emitted' ≡ length emitted
+pub cursor_set : (jobs : List AcceptedPlan) (emitted emitted' planners cursors : List ℕ) (planner slot : ℕ) → AreCursors jobs emitted planners cursors → length emitted' ≡ length emitted
     → planner < length emitted → slot ≤ length jobs → rank jobs planner slot ≡ slice_index emitted' planner → ((other : ℕ) → other ≢ planner → slice_index emitted' other ≡ slice_index emitted other)
-    → CursorsKept jobs emitted' planners (slice_set cursors planner slot)
+    → AreCursors jobs emitted' planners (slice_set cursors planner slot)
 cursor_set jobs emitted emitted' planners cursors planner slot kept long inside within counted others =
     record {
       planners_are = kept.planners_are;
@@ -50,7 +50,7 @@ cursor_set jobs emitted emitted' planners cursors planner slot kept long inside 
     here other same = ap (slice_index (slice_set cursors planner slot)) same ∙ get_or-set_same cursors planner slot 0 (omega (arith, inside, kept.count))
 
 -- where the jobs from a planner's cursor up to a slot are others', the planner has as many jobs before the slot as findings were emitted
-pub looked_through : (jobs : List AcceptedPlan) (emitted planners cursors : List ℕ) (planner from slot : ℕ) (seen : List ℕ) → CursorsKept jobs emitted planners cursors → seen ≡ planners → planner < length emitted → from ≡ get_or cursors planner from
+pub looked_through : (jobs : List AcceptedPlan) (emitted planners cursors : List ℕ) (planner from slot : ℕ) (seen : List ℕ) → AreCursors jobs emitted planners cursors → seen ≡ planners → planner < length emitted → from ≡ get_or cursors planner from
     → times_among seen planner slot ≡ times_among seen planner from → rank jobs planner slot ≡ slice_index emitted planner
 looked_through jobs emitted planners cursors planner from slot seen kept same inside read between =
     let whose = same ∙ kept.planners_are in

@@ -7,7 +7,7 @@ use Rattle.intake_rules.specs.Jobs.{AcceptedPlan}
 use Rattle.bench_rule.specs.declared.views.Held.{Held}
 use Rattle.bench_rule.specs.Views.{HoldsJob, times_held, without_held}
 use Rattle.bench_rule.proofs.Counts.{one_else}
-use Rattle.judge_bench.specs.Kept.{HeldWithin}
+use Rattle.judge_bench.specs.Bookkeeping.{HeldWithin}
 
 abbrev pick : Bool → List Held → List Held → List Held
 pick test xs ys = cond test xs ys

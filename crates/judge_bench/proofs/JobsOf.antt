@@ -11,7 +11,7 @@ use Rattle.intake_rules.specs.Jobs.{AcceptedPlan}
 use Rattle.judge_bench.specs.Findings.{of_planner}
 use Rattle.intake_rules.specs.Findings.{right_finding}
 use Rattle.intake_rules.proofs.Numbered.{number_at}
-use Rattle.judge_bench.specs.Kept.{Numbered}
+use Rattle.judge_bench.specs.Bookkeeping.{Numbered}
 use Rattle.judge_bench.specs.Submissions.{SubmissionParts, jobs_from}
 
 pub jobs_of-append : (planner : ℕ) (jobs more : List AcceptedPlan) → jobs_of planner (jobs ++ more) ≡ jobs_of planner jobs ++ jobs_of planner more

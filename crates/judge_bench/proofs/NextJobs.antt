@@ -13,7 +13,7 @@ use Rattle.intake_rules.specs.Rules.{emit_reply, emit_reply_of}
 use Rattle.bench_rule.specs.declared.views.View.{View}
 use Rattle.bench_rule.specs.Views.{IsNext, one_if, planners_of, rank}
 use Rattle.bench_rule.proofs.Ranks.{job_by_rank}
-use Rattle.judge_bench.specs.Kept.{Numbered}
+use Rattle.judge_bench.specs.Bookkeeping.{Numbered}
 use Rattle.judge_bench.specs.Seats.{accepted_intake}
 
 -- a planner has as many jobs as are counted among all jobs

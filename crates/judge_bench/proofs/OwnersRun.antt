@@ -11,7 +11,7 @@ use Rattle.intake_rules.specs.Jobs.{AcceptedPlan}
 use Rattle.bench_rule.specs.declared.views.View.{View}
 use Rattle.bench_rule.specs.Views.{with_close, with_joined, with_posted, with_seat_out, times, times_held}
 use Rattle.judge_bench.specs.Keeping.{AllKnown, KeptNext, NextIsUnknown, NoneWaits, OnlyAccepts, with_all_joined, with_all_out}
-use Rattle.judge_bench.specs.Kept.{Numbered}
+use Rattle.judge_bench.specs.Bookkeeping.{Numbered}
 use Rattle.judge_bench.specs.Submissions.{SubmissionParts, job_of, jobs_from}
 use Rattle.judge_bench.proofs.JobsOf.{its_slot}
 

@@ -13,14 +13,14 @@ use Rattle.bench_rule.specs.declared.contents.Item.TheVariants.{Nothing}
 use Rattle.bench_rule.specs.Views.{Carried, Sitting, HoldsJob, IsNext, rank, slots_of, one_if, times_held, with_emission, with_finished, with_handed_back, with_posted, without_held, without_slot}
 use Rattle.bench_rule.proofs.Counts.{carries_without, held_often, one_at, times-push, without_else}
 use Rattle.bench_rule.proofs.Ranks.{rank_push}
-use Rattle.judge_bench.specs.Kept.{OwnerKept, Numbered}
+use Rattle.judge_bench.specs.Bookkeeping.{OwnerBooks, Numbered}
 use Rattle.judge_bench.proofs.Cursors.{cursor_set, rank_next}
 use Rattle.judge_bench.proofs.Holding.{within_without}
 
 pub kept_as : (table table' : TableId) (id id' : ℕ) (me me' : Sitting) (planners planners' cursors : List ℕ) (closed : List Bool) (out first : ℕ)
-    → table' ≡ table → id' ≡ id → me' ≡ me → planners' ≡ planners → OwnerKept table id me planners cursors closed out first → OwnerKept table' id' me' planners' cursors closed out first
+    → table' ≡ table → id' ≡ id → me' ≡ me → planners' ≡ planners → OwnerBooks table id me planners cursors closed out first → OwnerBooks table' id' me' planners' cursors closed out first
 kept_as table table' id id' me me' planners planners' cursors closed out first one two three four kept =
-    subst (λ (z : TableId × ℕ × Sitting × List ℕ). OwnerKept z.0 z.1 z.2 z.3 cursors closed out first) (sym (λ i. (one i, two i, three i, four i))) kept
+    subst (λ (z : TableId × ℕ × Sitting × List ℕ). OwnerBooks z.0 z.1 z.2 z.3 cursors closed out first) (sym (λ i. (one i, two i, three i, four i))) kept
 
 numbered_push : (jobs : List AcceptedPlan) (job : AcceptedPlan) → Numbered jobs → job.number ≡ length jobs → Numbered (jobs ++ job ∷ [])
 numbered_push jobs job before number slot other there = ⊎_elim
@@ -28,9 +28,9 @@ numbered_push jobs job before number slot other there = ⊎_elim
     (λ (z : (slot ≡ length jobs) × (job ≡ other)). ap (λ (x : AcceptedPlan). x.number) (sym z.1) ∙ (number ∙ sym z.0))
     (slice_get_cases jobs job other slot there)
 
-module _ (table : TableId) (id : ℕ) (me : Sitting) (planners cursors : List ℕ) (closed : List Bool) (out first : ℕ) (kept : OwnerKept table id me planners cursors closed out first) where
+module _ (table : TableId) (id : ℕ) (me : Sitting) (planners cursors : List ℕ) (closed : List Bool) (out first : ℕ) (kept : OwnerBooks table id me planners cursors closed out first) where
   pub post_keeps : (job : AcceptedPlan) → length me.0.jobs < table.slots → job.number ≡ length me.0.jobs
-      → OwnerKept table id (with_posted me.0 job, me.1) (planners ++ job.planner ∷ []) cursors closed out first
+      → OwnerBooks table id (with_posted me.0 job, me.1) (planners ++ job.planner ∷ []) cursors closed out first
   post_keeps job inside number = let more = length-append me.0.jobs (job ∷ []) in record {
     zero = kept.zero;
     few = kept.few;
@@ -54,7 +54,7 @@ module _ (table : TableId) (id : ℕ) (me : Sitting) (planners cursors : List �
 
   -- the slot of an emitted finding comes behind the others
   pub emit_keeps : (planner slot : ℕ) (job : AcceptedPlan) → IsNext me.0 slot job → job.planner ≡ planner
-      → OwnerKept table id (with_emission me.0 planner, me.1 ++ (slot, Nothing) ∷ []) planners (slice_set cursors planner (slot + 1)) closed out first
+      → OwnerBooks table id (with_emission me.0 planner, me.1 ++ (slot, Nothing) ∷ []) planners (slice_set cursors planner (slot + 1)) closed out first
   emit_keeps planner slot job next his = let long = length-set me.0.emitted planner (suc (slice_index me.0.emitted planner)) in let inside : planner < length me.0.emitted = subst (λ p. p < length me.0.emitted) his next.planner_within in record {
     zero = kept.zero;
     few = kept.few;
@@ -81,7 +81,7 @@ module _ (table : TableId) (id : ℕ) (me : Sitting) (planners cursors : List �
   waited : (slot other : ℕ) → other ≢ slot → times_held other (without_held slot me.0.held) ≡ 0 → times_held other me.0.held ≡ 0
   waited slot other apart none = sym (without_else slot other me.0.held apart) ∙ none
 
-  pub finish_keeps : (slot : ℕ) (job : AcceptedPlan) → HoldsJob slot job me.0.held → OwnerKept table id (with_finished me.0 slot, without_slot slot me.1) planners cursors closed out first
+  pub finish_keeps : (slot : ℕ) (job : AcceptedPlan) → HoldsJob slot job me.0.held → OwnerBooks table id (with_finished me.0 slot, without_slot slot me.1) planners cursors closed out first
   finish_keeps slot job holds = record {
     zero = kept.zero;
     few = kept.few;
@@ -100,7 +100,7 @@ module _ (table : TableId) (id : ℕ) (me : Sitting) (planners cursors : List �
         (λ apart. kept.none_before none other before (waits.0, waited slot other apart waits.1, let unnamed = waits.2 in omega arith));
   }
 
-  pub hand_back_keeps : (slot : ℕ) (job : AcceptedPlan) → HoldsJob slot job me.0.held → OwnerKept table id (with_handed_back me.0 slot, without_slot slot me.1) planners cursors closed out (min first slot)
+  pub hand_back_keeps : (slot : ℕ) (job : AcceptedPlan) → HoldsJob slot job me.0.held → OwnerBooks table id (with_handed_back me.0 slot, without_slot slot me.1) planners cursors closed out (min first slot)
   hand_back_keeps slot job holds = record {
     zero = kept.zero;
     few = kept.few;

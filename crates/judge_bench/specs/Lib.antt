@@ -1,6 +1,6 @@
 pub mod Findings
 pub mod Keeping
-pub mod Kept
+pub mod Bookkeeping
 pub mod Runs
 pub mod Seats
 pub mod Submissions

@@ -5,7 +5,7 @@ ghost use Rattle.intake_rules.specs.Intake.{jobs_of};
 ghost use Rattle.judge_bench.specs.Findings.{by_planner};
 ghost use Rattle.intake_rules.specs.Findings.{right_finding};
 ghost use Rattle.judge_bench.specs.Keeping.{AcceptsAll, AllKnown, KeptFindings, KeptNext, NoneWaits, OnlyAccepts, OnlyEmits, with_all_closed, with_more_finished};
-ghost use Rattle.judge_bench.specs.Kept.{Numbered};
+ghost use Rattle.judge_bench.specs.Bookkeeping.{Numbered};
 ghost use Rattle.judge_bench.specs.Seats.{SitsAt};
 ghost use Rattle.judge_bench.specs.Submissions.{job_of};
 

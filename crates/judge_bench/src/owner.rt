@@ -7,7 +7,7 @@ ghost use Rattle.intake_rules.specs.Rules.{submit, close, emit_reply, reply_to, 
 ghost use Rattle.intake_rules.specs.declared.reply.Reply.TheVariants.{Refused};
 ghost use Rattle.bench_rule.specs.Plays.{SeemsWaiting};
 ghost use Rattle.bench_rule.specs.Views.{HoldsJob, IsNext, with_close, with_emission, with_finished, with_handed_back, with_joined, with_posted, with_seat_out, with_shut, with_taken, worker_view, first_view, times, times_among};
-ghost use Rattle.judge_bench.specs.Kept.{NoneWaitsAmong, NoneWaitsBefore};
+ghost use Rattle.judge_bench.specs.Bookkeeping.{NoneWaitsAmong, NoneWaitsBefore};
 ghost use Rattle.intake_rules.specs.Jobs.{AcceptedPlan};
 ghost use Rattle.intake_rules.specs.declared.refusal.Refusal.TheVariants.{NotReady};
 ghost use Rattle.judge_bench.specs.Seats.{SitsAt, AfterRefusal, accepted_intake};
@@ -37,13 +37,13 @@ pub struct Owner {
 impl Model for Owner {
     ghost use Rattle.std.specs.Prelude.{◌≤◌, vec_capacity};
     ghost use Rattle.judge_bench.specs.Seats.{SeatFacts};
-    ghost use Rattle.judge_bench.specs.Kept.{OwnerKept};
+    ghost use Rattle.judge_bench.specs.Bookkeeping.{OwnerBooks};
 
     ghost Value = { SeatFacts };
 
     ghost view = { λ owner. record { table = owner.seat.table_id; view = owner.seat.me.0 } };
 
-    ghost invariant = { λ owner. OwnerKept owner.seat.table_id owner.seat.id owner.seat.me owner.planners.items owner.cursors.items owner.closed.items owner.seats_out owner.first × (owner.seat.table_id.slots ≤ vec_capacity owner.planners) };
+    ghost invariant = { λ owner. OwnerBooks owner.seat.table_id owner.seat.id owner.seat.me owner.planners.items owner.cursors.items owner.closed.items owner.seats_out owner.first × (owner.seat.table_id.slots ≤ vec_capacity owner.planners) };
 }
 
 impl Owner {

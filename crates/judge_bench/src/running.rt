@@ -3,7 +3,7 @@ ghost use Rattle.std.specs.Prelude.{◌≡◌, ◌≢◌, ◌<◌, ◌≤◌, []
 ghost use Rattle.judge_bench.specs.Findings.{by_planner, findings_of};
 ghost use Rattle.intake_rules.specs.Findings.{right_finding};
 ghost use Rattle.judge_bench.specs.Keeping.{KeptFindings};
-ghost use Rattle.judge_bench.specs.Kept.{Numbered};
+ghost use Rattle.judge_bench.specs.Bookkeeping.{Numbered};
 ghost use Rattle.judge_bench.specs.Runs.{AllAccepted, FoundOrHeld, IsReady, MayRun};
 ghost use Rattle.judge_bench.specs.Seats.{SitsAt};
 ghost use Rattle.judge_bench.specs.Workers.{AllWorkAt};

@@ -31,13 +31,13 @@ pub struct WorkerSeat {
 
 impl Model for WorkerSeat {
     ghost use Rattle.judge_bench.specs.Seats.{SeatFacts};
-    ghost use Rattle.judge_bench.specs.Kept.{WorkerKept};
+    ghost use Rattle.judge_bench.specs.Bookkeeping.{WorkerBooks};
 
     ghost Value = { SeatFacts };
 
     ghost view = { λ worker. record { table = worker.seat.table_id; view = worker.seat.me.0 } };
 
-    ghost invariant = { λ worker. WorkerKept worker.seat.table_id worker.seat.me worker.held worker.next };
+    ghost invariant = { λ worker. WorkerBooks worker.seat.table_id worker.seat.me worker.held worker.next };
 }
 
 impl WorkerSeat {

@@ -14,6 +14,6 @@ pub mod PlanCounts
 pub mod Files
 pub mod Texts
 pub mod PlainNames
-pub mod ValueSteps
-pub mod OperandSteps
-pub mod HelpSteps
+pub mod ValueLemmas
+pub mod OperandLemmas
+pub mod HelpLemmas

@@ -39,7 +39,7 @@ pub(crate) fn arguments(words: &[String]) -> &[String]
 }
 
 /// Whether some word asks for help or for the version.
-#[tactic(auto, using(crate::proofs::HelpSteps::help_steps))]
+#[tactic(auto, using(crate::proofs::HelpLemmas::help_steps))]
 pub(crate) fn asks_for_help(words: &[String]) -> bool
     ensures { result ≡ asks_for_help (map string_bytes words.now) }
 {
@@ -71,7 +71,7 @@ fn is_short_help(word: &str) -> bool
 }
 
 /// The value of an option among some words: the first that is given.
-#[tactic(auto, using(crate::proofs::ValueSteps::value_steps))]
+#[tactic(auto, using(crate::proofs::ValueLemmas::value_steps))]
 pub(crate) fn value_of<'a>(words: &'a [String], option: &str) -> Option<&'a str>
     ensures { option_map (λ value. value.now) result ≡ value_of option.now (map string_bytes words.now) }
 {
@@ -112,7 +112,7 @@ fn joined_value<'a>(word: &'a str, option: &str) -> Option<&'a str>
 }
 
 /// The words that are neither options nor their values. Takes memory for a list of them.
-#[tactic(auto, using(crate::proofs::OperandSteps::operand_steps))]
+#[tactic(auto, using(crate::proofs::OperandLemmas::operand_steps))]
 pub(crate) fn operands<'a>(alloc: Global, words: &'a [String]) -> Result<Vec<&'a str>, AllocError>
     ensures { IfOk result (λ found. map (λ word. word.now) found.items ≡ operands (map string_bytes words.now)) }
 {

@@ -16,7 +16,7 @@ use Rattle.pddl_reader.specs.Functions.{Vocabulary, with_increase}
 use Rattle.pddl_reader.specs.Variables.{Parameters, parameters_of}
 use Rattle.pddl_reader.specs.Domain.{no_effects, changed, with_change, increased, with_effect, effects_of, action_doing, action_with, action_by, action_meant, tables_with, declared_action, with_action_of, actions_from}
 use Rattle.pddl_syntax.specs.Syntax.{ActionForm, AtomForm, EqualityForm, AmountForm, ValueForm, LiteralForm, atom_literal, equality_literal, increase_literal, value_literal, action_form}
-use Rattle.pddl_reader.proofs.DeclarationSteps.{may_declare_new}
+use Rattle.pddl_reader.proofs.DeclarationLemmas.{may_declare_new}
 use Rattle.pddl_reader.proofs.KeptVariables.{few_parameters}
 use Rattle.pddl_reader.proofs.Through.{through_behind, through_item, through_end}
 

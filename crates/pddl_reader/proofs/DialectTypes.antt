@@ -18,7 +18,7 @@ use Rattle.pddl_reader.specs.declared.resolution.types.KnownTypes.{KnownTypes}
 use Rattle.pddl_reader.specs.declared.resolution.types.TypeTables.{TypeTables}
 use Rattle.pddl_reader.specs.Tables.{value_at, value_named}
 use Rattle.pddl_reader.specs.TypeOrder.{TypeNames, TypeParents, numbered, under, counts_as_parent, declared_under, tables_of, type_declared, parent_numbered, group_declared, object_alone, types_declared, parent_name, parent_number, parents_of, is_tree, ordered, types_of}
-use Rattle.pddl_reader.proofs.CycleSteps.{put_together}
+use Rattle.pddl_reader.proofs.CycleLemmas.{put_together}
 
 position-behind : {A : Type 0} (test : A → Bool) (xs : List A) (at n : ℕ) → position_from test at xs ≡ Some n → at ≤ n
 position-behind test [] at n h = cc

@@ -22,7 +22,7 @@ use Rattle.pddl_reader.specs.TypeOrder.{types_declared, parent_number, parents_o
 use Rattle.pddl_syntax.proofs.Guards.{guard_held}
 use Rattle.pddl_reader.proofs.NamedValues.{position-within, unnamed_value}
 use Rattle.pddl_reader.proofs.Through.{through_keeps}
-use Rattle.pddl_reader.proofs.TypeSteps.{AreFew, declared-few}
+use Rattle.pddl_reader.proofs.TypeLemmas.{AreFew, declared-few}
 use Rattle.pddl_reader.proofs.TypeTests.{tree_from}
 
 -- names are distinct, there are no more than the limit, and their types are known

@@ -15,7 +15,7 @@ use Rattle.pddl_syntax.specs.Syntax.{VariableGroup}
 use Rattle.pddl_reader.specs.Variables.{alternative_behind, alternative_named, alternatives_of, argument_types_with, with_group_types, argument_types_of, Parameters, parameter_number, parameter_named, parameters_with, group_named, no_parameters, parameters_of}
 use Rattle.pddl_reader.proofs.KeptObjects.{type_number-within}
 use Rattle.pddl_syntax.proofs.Guards.{guard_held}
-use Rattle.pddl_reader.proofs.TableSteps.{words_counted}
+use Rattle.pddl_reader.proofs.TableLemmas.{words_counted}
 use Rattle.pddl_reader.proofs.Through.{through_keeps}
 use Rattle.pddl_reader.proofs.VariableMeaning.{none_some}
 

@@ -15,11 +15,11 @@ use Rattle.pddl_syntax.specs.Syntax.{VariableGroup}
 use Rattle.pddl_reader.specs.Variables.{alternative_behind, alternative_named, alternatives_of, argument_types_with, with_group_types, argument_types_of, Parameters, parameter_number, parameter_named, parameters_with, group_named, parameters_of}
 use Rattle.std.proofs.lemmas.List.{drop_all}
 use Rattle.pddl_reader.proofs.Items.{word_at, word_item_steps}
-use Rattle.pddl_reader.proofs.ObjectSteps.{named_steps}
+use Rattle.pddl_reader.proofs.ObjectLemmas.{named_steps}
 use Rattle.pddl_syntax.proofs.Guards.{guard_held}
-use Rattle.pddl_reader.proofs.TableSteps.{words_counted}
+use Rattle.pddl_reader.proofs.TableLemmas.{words_counted}
 use Rattle.pddl_reader.proofs.Through.{through_behind, through_item, through_end, through_steps}
-use Rattle.pddl_syntax.proofs.WordSteps.{no_words, word_forms-push}
+use Rattle.pddl_syntax.proofs.WordLemmas.{no_words, word_forms-push}
 
 pub alternatives_many : (types : List (List ℕ)) (numbers word : List ℕ) → 32 ≤ length numbers → alternative_named types numbers word ≡ None
 unfolding alternative_named guard

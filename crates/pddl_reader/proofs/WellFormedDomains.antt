@@ -37,7 +37,7 @@ use Rattle.pddl_reader.specs.declared.resolution.domain.Head.{Head}
 use Rattle.pddl_reader.specs.declared.resolution.types.KnownTypes.{KnownTypes}
 use Rattle.pddl_reader.proofs.KeptObjects.{AreObjects, AreKnown, known_types, objects_kept, no_objects}
 use Rattle.pddl_syntax.specs.Syntax.{LiteralForm, atom_literal, equality_literal, increase_literal, value_literal, PredicateForm, ActionForm, DomainForm}
-use Rattle.pddl_reader.proofs.DeclarationSteps.{may_declare_new, may_declare_length}
+use Rattle.pddl_reader.proofs.DeclarationLemmas.{may_declare_new, may_declare_length}
 
 no_names_distinct : are_distinct [] ≡ true
 unfolding are_distinct

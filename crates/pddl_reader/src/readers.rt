@@ -16,7 +16,7 @@ use strips_task::{Seed, Task};
 /// Reads a domain (PDDL 2.1, Fox and Long 2003, appendix A). Walks over the text twice, over formulas and lists of variables three times, and
 /// looks up each name with one hash. The tables of the domain, and those of the task made from it, hash with the seed; the domain does not depend
 /// on it.
-#[tactic(auto, using(crate::proofs::TextSteps::default_steps))]
+#[tactic(auto, using(crate::proofs::TextLemmas::default_steps))]
 pub fn read_domain(alloc: Global, seed: Seed, text: &[u8]) -> Result<Domain, ReadFault>
     ensures domain { Gives (λ domain. domain) result (domain_of_text text.now) }
     ensures fault { (e : read_fault.ReadFault) → text_fault text.now ≡ Some e → result ≡ Err e }
@@ -26,7 +26,7 @@ pub fn read_domain(alloc: Global, seed: Seed, text: &[u8]) -> Result<Domain, Rea
 
 /// Reads a problem (PDDL 2.1, Fox and Long 2003, appendix A) as `read_domain` reads a domain, and makes a task of it and its domain. The name that
 /// the problem gives for its domain is read but not compared. If the problem is refused, the domain is dropped.
-#[tactic(auto, using(crate::proofs::TextSteps::default_steps))]
+#[tactic(auto, using(crate::proofs::TextLemmas::default_steps))]
 pub fn read_problem(alloc: Global, domain: Domain, text: &[u8]) -> Result<Task, ReadFault>
     ensures task { Gives (λ task. task) result (problem_of_text domain text.now) }
     ensures fault { (e : read_fault.ReadFault) → text_fault text.now ≡ Some e → result ≡ Err e }
@@ -37,7 +37,7 @@ pub fn read_problem(alloc: Global, domain: Domain, text: &[u8]) -> Result<Task, 
 
 /// Reads a domain as [`read_domain`] does, in a dialect. With [`Dialect::Ipc`] it may declare functions (PDDL 2.1, Fox and Long 2003,
 /// section 3): at most 4,096, each with at most 32 variables. `total-cost` has no variables, and an action may increase it up to 32 times.
-#[tactic(auto, using(crate::proofs::TextSteps::domain_text_steps))]
+#[tactic(auto, using(crate::proofs::TextLemmas::domain_text_steps))]
 pub fn read_domain_in(
     alloc: Global,
     seed: Seed,
@@ -54,7 +54,7 @@ pub fn read_domain_in(
 
 /// Reads a problem as [`read_problem`] does, in a dialect, and keeps what it says about costs if its domain declares `total-cost`. With
 /// [`Dialect::Ipc`] it may give each function one value; values are kept in billionths.
-#[tactic(auto, using(crate::proofs::TextSteps::problem_text_steps))]
+#[tactic(auto, using(crate::proofs::TextLemmas::problem_text_steps))]
 pub fn read_problem_in(
     alloc: Global,
     dialect: Dialect,

@@ -14,7 +14,7 @@ use Rattle.pddl_syntax.specs.Levels.{Levels, before_word, before_left, before_ri
 use Rattle.pddl_syntax.specs.Walking.{behind}
 use Rattle.pddl_syntax.specs.Sizes.{size, sizes, ahead}
 use Rattle.pddl_syntax.proofs.Balanced.{short_without_fault}
-use Rattle.pddl_syntax.proofs.LevelSteps.{word_step, left_step, right_step}
+use Rattle.pddl_syntax.proofs.LevelLemmas.{word_step, left_step, right_step}
 
 few_before_word : (text : List ℕ) (found : Option Levels) (n : ℕ) → ahead (or_end found) ≤ n → ahead (or_end (option_map (before_word text) found)) ≤ suc n
 few_before_word text None n h = omega arith

@@ -10,7 +10,7 @@ use Rattle.pddl_words.specs.Kinds.{is_marked_name, kind_of_word}
 use Rattle.pddl_words.specs.SpacedWords.{words_of}
 use Rattle.pddl_words.specs.Words.{is_name}
 use Rattle.pddl_tokens.specs.Bytes.{class_of, is_word_byte}
-use Rattle.pddl_tokens.specs.Groups.{is_word, IsPlain}
+use Rattle.pddl_tokens.specs.ParenRanges.{is_word, IsPlain}
 use Rattle.pddl_tokens.proofs.NamesArePlain.{name_is_word}
 use Rattle.pddl_tokens.proofs.PlainRows.{row_has_words}
 use Rattle.pddl_syntax.specs.declared.heads.Context.{Context}

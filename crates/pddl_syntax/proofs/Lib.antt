@@ -1,28 +1,27 @@
 pub mod Depths
 mod MarkTable
-mod PlainBlocks
-pub mod MarkSteps
-mod BlockSteps
-pub mod LevelSteps
-pub mod ListSteps
-pub mod FormulaSteps
-pub mod ActionSteps
+pub mod MarkLemmas
+mod BlockLemmas
+pub mod LevelLemmas
+pub mod ListLemmas
+pub mod FormulaLemmas
+pub mod ActionLemmas
 pub mod ListsOf
 pub mod Guards
-pub mod TypedSteps
-pub mod WordSteps
-pub mod VariableSteps
-pub mod DomainSteps
-pub mod ProblemSteps
-pub mod TextSteps
+pub mod TypedLemmas
+pub mod WordLemmas
+pub mod VariableLemmas
+pub mod DomainLemmas
+pub mod ProblemLemmas
+pub mod TextLemmas
 pub mod Spelling
 pub mod Balanced
 pub mod Ahead
-pub mod LiteralSteps
+pub mod LiteralLemmas
 pub mod Memory
-pub mod FunctionSteps
-pub mod KnownSteps
+pub mod FunctionLemmas
+pub mod KnownLemmas
 pub mod DialectLaws
 pub mod AtomRows
-pub mod RowSteps
+pub mod RowLemmas
 pub mod ReservedWords

@@ -4,8 +4,8 @@ use Rattle.std.specs.Prelude.{◌≡◌, ℕ, ◌++◌, ◌&&◌, Bool, true, fa
 use Rattle.std.specs.List.{list_all}
 use Rattle.pddl_words.specs.SpacedWords.{is_space, words_of}
 use Rattle.pddl_words.specs.Words.{is_name}
-use Rattle.pddl_tokens.specs.declared.scan.Group.{Group}
-use Rattle.pddl_tokens.specs.Groups.{IsPlain, group_pieces}
+use Rattle.pddl_tokens.specs.declared.scan.ParenRange.{ParenRange}
+use Rattle.pddl_tokens.specs.ParenRanges.{IsPlain, range_pieces}
 use Rattle.pddl_tokens.specs.Tokens.{Piece}
 use Rattle.pddl_syntax.specs.declared.dialect.Dialect.{Dialect}
 use Rattle.pddl_syntax.specs.declared.heads.Context.TheVariants as context
@@ -60,9 +60,9 @@ unfoldable pub word_trees : List (List ℕ) → Trees
 word_trees [] = none
 word_trees (w ∷ ws) = word w (word_trees ws)
 
--- if the key of this group is plain, the group comes next
-abbrev pub ComesNext : List Piece → Group → Type 0
-ComesNext pieces group = IsPlain group.key.now → pieces ≡ group_pieces group.start group.key.now ++ group.rest
+-- if the key of this range is plain, the range comes next
+abbrev pub ComesNext : List Piece → ParenRange → Type 0
+ComesNext pieces range = IsPlain range.key.now → pieces ≡ range_pieces range.start range.key.now ++ range.rest
 
 -- the walk steps over the list of the words of a row
 abbrev pub PassesRow : List ℕ → Levels → Levels → Type 0

@@ -3,7 +3,7 @@
 use Rattle.std.specs.Prelude.{ℕ, zero, suc, ◌+◌, ◌^◌, nat_le, Bool, true, false, List, [], ◌∷◌, length, Option, Some, None, if◌then◌else◌, ◌≡◌}
 use Rattle.pddl_tokens.specs.declared.spans.Span.{Span}
 use Rattle.pddl_tokens.specs.declared.spans.TokenKind.TheVariants.{Left, Right, Word}
-use Rattle.pddl_tokens.specs.Front.{pieces_at}
+use Rattle.pddl_tokens.specs.Lexeme.{pieces_at}
 use Rattle.pddl_tokens.specs.Tokens.{Piece, token, bad, pieces}
 use Rattle.pddl_syntax.specs.declared.fault.FaultKind.TheVariants.{BadText, Unbalanced, TooDeep}
 use Rattle.pddl_syntax.specs.declared.fault.ReadFault.{ReadFault}

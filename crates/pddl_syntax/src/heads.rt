@@ -405,7 +405,7 @@ fn is_comparison(word: &[u8]) -> bool
 
 /// Whether the first word of a row is not reserved, if it is a name. A row of terms is then an atom. If the first word is no name, the answer says
 /// nothing, so that no byte is read twice.
-#[tactic(auto, unfolding(crate::specs::Rows::heads_atom), using(crate::proofs::RowSteps::first_word))]
+#[tactic(auto, unfolding(crate::specs::Rows::heads_atom), using(crate::proofs::RowLemmas::first_word))]
 #[inline(always)]
 pub(crate) fn heads_atom(row: &[u8]) -> bool
     ensures { is_name (atom_spelled row.now).predicate ≡ true → result ≡ heads_atom row.now }

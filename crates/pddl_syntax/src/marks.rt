@@ -1,13 +1,10 @@
 //! What single bytes mean to the check of parentheses.
 
-ghost use Rattle.std.specs.Prelude.{◌≡◌, ◌<◌, ◌≤◌, ℕ, length, slice_index};
-ghost use Rattle.std.specs.Int.{bit_at};
+ghost use Rattle.std.specs.Prelude.{◌≡◌, ◌<◌, ◌≤◌, length, slice_index};
 ghost use Rattle.std.specs.List.{prefix_len};
 ghost use Rattle.pddl_tokens.specs.Cut.{is_comment_byte};
-ghost use Rattle.pddl_tokens.specs.Front.{pieces_at};
+ghost use Rattle.pddl_tokens.specs.Lexeme.{pieces_at};
 ghost use Rattle.pddl_syntax.specs.Marks.{mark_of};
-
-use std::simd::prelude::*;
 
 /// What a byte outside comments means to the check of parentheses.
 #[derive(Clone, Copy, Debug, PartialEq, Eq)]
@@ -63,23 +60,8 @@ pub(crate) fn mark_of(b: u8) -> Mark
     }
 }
 
-/// A bit for each byte of a block, which is 0 only where the byte is plain. Blanks other than the space and LF have a 1 too.
-#[inline(always)]
-pub(crate) fn special_bits(block: u8x32) -> u64
-    ensures plain { (k : ℕ) → k < 32 → bit_at result k ≡ 0 → mark_of (slice_index block k) ≡ Mark.Plain }
-    ensures within { (k : ℕ) → bit_at result k ≡ 1 → k < 32 }
-{
-    // `(` and `)` differ in their lowest bit alone.
-    let parentheses = (block & u8x32::splat(0xfe)).simd_eq(u8x32::splat(b'('));
-    let semicolons = block.simd_eq(u8x32::splat(b';'));
-    // The bytes from the space to `~` are moved to 0 to 94.
-    let unprinted = (block - u8x32::splat(b' ')).simd_gt(u8x32::splat(94));
-    let line_ends = block.simd_eq(u8x32::splat(b'\n'));
-    (parentheses | semicolons | (unprinted & !line_ends)).to_bitmask()
-}
-
 /// Whether a comment goes on with this byte, so that it is no LF.
-#[tactic(auto, using(crate::proofs::MarkSteps::comment_byte_is))]
+#[tactic(auto, using(crate::proofs::MarkLemmas::comment_byte_is))]
 fn is_comment_byte(b: u8) -> bool
     ensures { result ≡ is_comment_byte b }
 {

@@ -7,8 +7,8 @@ ghost use Rattle.pddl_syntax.specs.Refusing.{FirstFault};
 ghost use Rattle.pddl_syntax.specs.Trees.{fault_after, text_fault};
 
 use crate::fault::{FaultKind, ReadFault};
-use crate::marks::{Mark, comment_end, mark_of, special_bits};
-use std::simd::prelude::*;
+use crate::marks::{Mark, comment_end, mark_of};
+use pddl_words::vectors::special_bits;
 
 /// How deep lists may be nested.
 const DEEPEST: u32 = 64;
@@ -52,7 +52,7 @@ fn pass_block(text: &[u8], at: usize, depth: u32) -> Result<(usize, u32), ReadFa
     ensures fault { IfErr result (λ e. fault_after text.now at depth ≡ Some e) }
     ensures kind { IfErr result (λ e. e.kind ≢ FaultKind.OutOfMemory) }
 {
-    let mut special = special_bits(u8x32::from_slice(&text[at..]));
+    let mut special = special_bits(&text[at..]);
     let mut seen = at;
     let mut lists = depth;
     'marks: while special != 0 {
@@ -117,7 +117,7 @@ fn depth_behind(text: &[u8], at: usize, depth: u32) -> Result<u32, ReadFault>
 }
 
 /// Whether a comment begins with this byte.
-#[tactic(auto, using(crate::proofs::MarkSteps::semicolon_is))]
+#[tactic(auto, using(crate::proofs::MarkLemmas::semicolon_is))]
 fn is_semicolon(b: u8) -> bool
     ensures { IsTrue result ↔ (mark_of b ≡ Mark.Semicolon) }
 {

@@ -5,14 +5,14 @@
 
 ghost use Rattle.std.specs.Prelude.{◌≡◌, ◌<◌, ◌^◌, IfSome, IsSome, IsTrue, None};
 ghost use Rattle.pddl_words.specs.Words.{is_name};
-ghost use Rattle.pddl_tokens.specs.Groups.{IsPlain};
+ghost use Rattle.pddl_tokens.specs.ParenRanges.{IsPlain};
 ghost use Rattle.pddl_tokens.specs.Tokens.{pieces};
 ghost use Rattle.pddl_syntax.specs.Trees.{begins_with_list, text_fault};
 ghost use Rattle.pddl_syntax.specs.Levels.{here, levels};
 ghost use Rattle.pddl_syntax.specs.Sizes.{ahead};
 ghost use Rattle.pddl_syntax.specs.Rows.{ComesNext, PassesRow};
 
-use pddl_tokens::{Cursor, Group, Span, TokenKind};
+use pddl_tokens::{Cursor, ParenRange, Span, TokenKind};
 
 /// A word of a text with its span.
 #[derive(Clone, Copy, Debug)]
@@ -111,7 +111,7 @@ impl<'a> Walk<'a> {
     }
 
     /// Whether a list follows directly.
-    #[tactic(auto, using(crate::proofs::LevelSteps::list_steps))]
+    #[tactic(auto, using(crate::proofs::LevelLemmas::list_steps))]
     pub(crate) fn begins_with_list(&self) -> bool
         ensures { result ≡ begins_with_list (here self.now.cursor).top }
     {
@@ -126,23 +126,23 @@ impl<'a> Walk<'a> {
     /// The list that may follow, as the bytes between its parentheses.
     ///
     /// These bytes were not read yet. They are the next list only if they are known to be words with a single space between each two.
-    pub(crate) fn next_group(&self) -> Option<Group<'a>>
-        ensures { IfSome result (λ group. ComesNext self.now.cursor group) }
+    pub(crate) fn next_range(&self) -> Option<ParenRange<'a>>
+        ensures { IfSome result (λ range. ComesNext self.now.cursor range) }
     {
-        self.cursor.group()
+        self.cursor.paren_range()
     }
 
-    /// Steps over the list that follows, which the key of its group must spell.
-    pub(crate) fn pass(&mut self, group: Group<'a>)
-        requires next { ComesNext self.old.cursor group }
-        requires spelled { IsPlain group.key.now }
-        ensures { PassesRow group.entry.key.now (here self.old.cursor) (here self.new.cursor) }
+    /// Steps over the list that follows, which the key of its range must spell.
+    pub(crate) fn pass(&mut self, range: ParenRange<'a>)
+        requires next { ComesNext self.old.cursor range }
+        requires spelled { IsPlain range.key.now }
+        ensures { PassesRow range.entry.key.now (here self.old.cursor) (here self.new.cursor) }
     {
-        self.cursor = group.rest;
+        self.cursor = range.rest;
     }
 
     /// Steps over the next word, into the next list, or out of the list that the walk is in.
-    #[tactic(auto, using(crate::proofs::LevelSteps::walk_steps, crate::proofs::Ahead::no_more_ahead))]
+    #[tactic(auto, using(crate::proofs::LevelLemmas::walk_steps, crate::proofs::Ahead::no_more_ahead))]
     pub(crate) fn next(&mut self) -> Item<'a>
         ensures { Steps result (here self.old.cursor) (here self.new.cursor) }
     {

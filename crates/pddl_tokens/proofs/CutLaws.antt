@@ -10,8 +10,8 @@ use Rattle.pddl_tokens.specs.declared.bytes.ByteClass.TheVariants as c
 use Rattle.pddl_tokens.specs.Bytes.{class_of, is_word_class, is_word_byte}
 use Rattle.pddl_tokens.specs.Cut.{is_comment_byte, LiesInComment, is_blank, IsGap, IsLongestRun, IsOutsideComments, IsCutInto}
 use Rattle.pddl_tokens.specs.Tokens.{pieces}
-use Rattle.pddl_tokens.specs.Front.{pieces_at}
-use Rattle.pddl_tokens.proofs.Steps.{end_step, line_end_step, blank_step, comment_step, left_step, right_step, word_step, bad_step, run_not_empty}
+use Rattle.pddl_tokens.specs.Lexeme.{pieces_at}
+use Rattle.pddl_tokens.proofs.Lemmas.{end_step, line_end_step, blank_step, comment_step, left_step, right_step, word_step, bad_step, run_not_empty}
 use Rattle.pddl_tokens.proofs.Classes.{line_end_is, blank_is, blank_no_semicolon, left_is, right_is, semicolon_is, bad_no_blank, bad_not_visible, word_byte_no_semicolon, no_comment_line_end, comment_byte_no_line_end, line_end_class, line_end_no_word}
 
 -- no comment is open before an offset between tokens, and no word goes on over it

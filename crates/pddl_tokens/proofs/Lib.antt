@@ -1,4 +1,4 @@
-pub mod Steps
+pub mod Lemmas
 mod Classes
 pub mod CutLaws
 pub mod Within
@@ -7,7 +7,5 @@ mod OnlyCut
 pub mod PlainRows
 pub mod NamesArePlain
 pub mod Counts
-mod Masks
-mod NameLanes
 mod NamePairs
 mod CommentRuns

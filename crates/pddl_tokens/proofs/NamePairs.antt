@@ -7,13 +7,12 @@ use Rattle.std.specs.Int.{is_in_range}
 use Rattle.std.specs.List.{list_all}
 use Rattle.std.proofs.lemmas.Bool.{eqb-true, eqb-false, ne_eqb, eq-eqb, and_from, and_left, and_right, or_right, cases_eq, cases_lt}
 use Rattle.std.proofs.lemmas.List.{get_or-drop, get_or-take, get_or_append_left, get_or_at}
+use Rattle.pddl_words.specs.Pairs.{GoesOnTo, begins_name, goes_on}
 use Rattle.pddl_words.specs.SpacedWords.{is_space, words_of}
 use Rattle.pddl_words.specs.Words.{is_name, is_name_byte}
 use Rattle.pddl_words.proofs.NameRows.{names_from, from_start, at_end, no_letter, letter, space, name_byte, other_byte}
-use Rattle.pddl_tokens.specs.Groups.{BeginsWithList}
-use Rattle.pddl_tokens.specs.Pairs.{begins_name, goes_on}
-use Rattle.pddl_tokens.proofs.NameLanes.{GoesOnTo}
-use Rattle.pddl_tokens.proofs.Steps.{rest_whole}
+use Rattle.pddl_tokens.specs.ParenRanges.{BeginsWithList}
+use Rattle.pddl_tokens.proofs.Lemmas.{rest_whole}
 
 -- single bytes
 

@@ -11,7 +11,7 @@ use Rattle.std.proofs.lemmas.List.Elements.{All-nil, All-cons}
 use Rattle.pddl_words.specs.SpacedWords.{words_of}
 use Rattle.pddl_words.specs.Words.{is_name, is_name_byte}
 use Rattle.pddl_tokens.specs.Bytes.{class_of, is_word_byte}
-use Rattle.pddl_tokens.specs.Groups.{is_word, IsPlain}
+use Rattle.pddl_tokens.specs.ParenRanges.{is_word, IsPlain}
 
 -- the bytes from `-` (45) to `z` (122) belong to words, but for `;` (59)
 between_dash_and_z : (b : ℕ) → 45 ≤ b → b ≤ 122 → b ≢ 59 → is_word_byte b ≡ true

@@ -15,9 +15,9 @@ use Rattle.pddl_tokens.specs.declared.spans.TokenKind.TheVariants.{Left, Right, 
 use Rattle.pddl_tokens.specs.Bytes.{class_of, is_word_class, is_word_byte}
 use Rattle.pddl_tokens.specs.Cut.{is_blank_class}
 use Rattle.pddl_tokens.specs.Tokens.{Piece, token, span, between, pieces_from}
-use Rattle.pddl_tokens.specs.Front.{pieces_at}
-use Rattle.pddl_tokens.specs.Groups.{is_word, IsPlain, BeginsWithList, word_pieces, group_pieces}
-use Rattle.pddl_tokens.proofs.Steps.{first_byte, run_goes, run_ends, behind, word_whole, byte_at, line_end_step, blank_step}
+use Rattle.pddl_tokens.specs.Lexeme.{pieces_at}
+use Rattle.pddl_tokens.specs.ParenRanges.{is_word, IsPlain, BeginsWithList, word_pieces, range_pieces}
+use Rattle.pddl_tokens.proofs.Lemmas.{first_byte, run_goes, run_ends, behind, word_whole, byte_at, line_end_step, blank_step}
 
 -- a run of bytes of words ends at the first byte that is none
 whole_run : (word : List ℕ) (end : ℕ) (rest : List ℕ) → list_all is_word_byte word ≡ true → is_word_byte end ≡ false → prefix_len is_word_byte (word ++ end ∷ rest) ≡ length word
@@ -91,8 +91,8 @@ row_first at row rest plain =
     (join_with_byte-slice_split 32 row) (some_words_first at (words_of row) rest (row_has_words row) plain)
 
 -- a plain row in parentheses comes first
-pub group_first : (at : ℕ) (row rest : List ℕ) → IsPlain row → pieces_from between at (40 ∷ (row ++ 41 ∷ rest)) ≡ group_pieces at row ++ pieces_from between (at + 1 + length row + 1) rest
-group_first at row rest plain =
+pub range_first : (at : ℕ) (row rest : List ℕ) → IsPlain row → pieces_from between at (40 ∷ (row ++ 41 ∷ rest)) ≡ range_pieces at row ++ pieces_from between (at + 1 + length row + 1) rest
+range_first at row rest plain =
     let close = token Right (span (at + 1 + length row) (at + 1 + length row + 1)) (41 ∷ []) in
     first_byte between at 40 (row ++ 41 ∷ rest) c.Left left_class
     ∙ ap (λ (ps : List Piece). token Left (span at (at + 1)) (40 ∷ []) ∷ ps) (
@@ -137,8 +137,8 @@ begins_at text list inside at size lt left from same within right =
     ap (take (length (take size inside) + 2)) (from ∙ front_at text inside at size lt left same within right) ∙ list_front (take size inside) (drop (size + 1) inside)
 
 -- the pieces from there on, if what is in the list is plain
-pub group_at : (text inside : List ℕ) (at size : ℕ) → at < length text → get_or text at 0 ≡ 40 → inside ≡ drop (at + 1) text → size < length inside → get_or inside size 0 ≡ 41 → IsPlain (take size inside) → pieces_at text at ≡ group_pieces at (take size inside) ++ pieces_at text (at + 1 + size + 1)
-group_at text inside at size lt left same within right plain =
+pub range_at : (text inside : List ℕ) (at size : ℕ) → at < length text → get_or text at 0 ≡ 40 → inside ≡ drop (at + 1) text → size < length inside → get_or inside size 0 ≡ 41 → IsPlain (take size inside) → pieces_at text at ≡ range_pieces at (take size inside) ++ pieces_at text (at + 1 + size + 1)
+range_at text inside at size lt left same within right plain =
     let row = take size inside in
     let rest = drop (size + 1) inside in
     let front = front_at text inside at size lt left same within right in
@@ -146,6 +146,6 @@ group_at text inside at size lt left same within right plain =
     let offset : at + 1 + (size + 1) ≡ at + 1 + size + 1 = omega arith in
     let behind_it : rest ≡ drop (at + 1 + size + 1) text = ap (drop (size + 1)) same ∙ drop-drop (size + 1) (at + 1) text ∙ ap (λ (n : ℕ). drop n text) offset in
     ap (pieces_from between at) front
-    ∙ group_first at row rest plain
-    ∙ ap (λ (n : ℕ). group_pieces at row ++ pieces_from between (at + 1 + n + 1) rest) long
-    ∙ ap (λ (bytes : List ℕ). group_pieces at row ++ pieces_from between (at + 1 + size + 1) bytes) behind_it
+    ∙ range_first at row rest plain
+    ∙ ap (λ (n : ℕ). range_pieces at row ++ pieces_from between (at + 1 + n + 1) rest) long
+    ∙ ap (λ (bytes : List ℕ). range_pieces at row ++ pieces_from between (at + 1 + size + 1) bytes) behind_it

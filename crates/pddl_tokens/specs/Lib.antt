@@ -1,8 +1,7 @@
 pub mod Bytes
 pub mod Tokens
-pub mod Front
+pub mod Lexeme
 pub mod Lines
 pub mod Cut
-pub mod Groups
+pub mod ParenRanges
 pub mod Within
-pub mod Pairs

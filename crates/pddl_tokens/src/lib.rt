@@ -8,13 +8,12 @@
 //! line_of(b"(lit\n?x)", 5)        // 2: the line of the byte at offset 5
 //! ```
 //!
-//! A [`Cursor`] walks over the text once and takes no memory. [`Cursor::group`] gives a list of plain words as one run of bytes, for callers
-//! that know these bytes already and need not read them again, and [`Group::are_names`] says whether these words are names. [`word_kind`]
+//! A [`Cursor`] walks over the text once and takes no memory. [`Cursor::paren_range`] gives a list of plain words as one run of bytes, for callers
+//! that know these bytes already and need not read them again, and [`ParenRange::are_names`] says whether these words are names. [`word_kind`]
 //! says what a word may stand for, and [`line_of`] finds the line of an offset.
 #![tactic(auto)]
 
 mod bytes;
-mod lanes;
 pub mod laws;
 mod lines;
 mod scan;
@@ -22,5 +21,5 @@ mod spans;
 
 pub use lines::line_of;
 pub use pddl_words::{WordKind, same_folded, word_kind};
-pub use scan::{Cursor, Group, NextWord};
+pub use scan::{Cursor, NextWord, ParenRange};
 pub use spans::{BadByte, Span, Token, TokenKind, TooLong};

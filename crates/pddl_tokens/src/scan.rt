@@ -1,17 +1,24 @@
 //! The cursor over the tokens of a text.
 
-ghost use Rattle.std.specs.Prelude.{◌≡◌, ◌+◌, ◌<◌, ◌≤◌, ◌^◌, ◌∷◌, ◌++◌, [], length, drop, IfOk, IfErr, IfSome, IsTrue};
-ghost use Rattle.std.specs.List.{prefix_len};
+ghost use Rattle.std.specs.Prelude.{◌≡◌, ℕ, ◌+◌, ◌<◌, ◌≤◌, ◌^◌, ◌∷◌, ◌++◌, [], true, false, length, drop, slice_index, IfOk, IfErr, IfSome, IsTrue};
+ghost use Rattle.std.specs.List.{list_all, prefix_len};
+ghost use Rattle.pddl_words.specs.Pairs.{goes_on};
+ghost use Rattle.pddl_words.specs.SpacedWords.{words_of};
+ghost use Rattle.pddl_words.specs.Words.{is_name};
 ghost use Rattle.pddl_tokens.specs.Bytes.{is_word_byte};
 ghost use Rattle.pddl_tokens.specs.Cut.{is_comment_byte};
-ghost use Rattle.pddl_tokens.specs.Front.{IsFront, pieces_at};
-ghost use Rattle.pddl_tokens.specs.Groups.{BeginsWithList};
+ghost use Rattle.pddl_tokens.specs.Lexeme.{IsLexeme, pieces_at};
+ghost use Rattle.pddl_tokens.specs.ParenRanges.{BeginsWithList};
 
 use crate::bytes::{ByteClass, class_of, is_blank, is_word_byte};
-use crate::lanes::are_names_in;
 use crate::spans::{BadByte, Span, Token, TokenKind, TooLong};
 use memchr::memchr;
+use pddl_words::are_names;
+use pddl_words::vectors::names_len;
 use std::marker::Model;
+
+/// How many bytes of a list are looked at together.
+const LANES: usize = 32;
 
 /// A walk over the tokens of a text, one pass over its bytes. A contract sees it as the pieces that are still to come.
 #[derive(Debug, Drop)]
@@ -64,9 +71,9 @@ impl<'a> Cursor<'a> {
         ensures { Takes result self.old self.new }
     {
         match first_from(self.text, self.at) {
-            Front::End => Ok(None),
-            Front::Bad { at } => Err(BadByte { at: at as u32 }),
-            Front::Token { kind, start, end } => {
+            Lexeme::End => Ok(None),
+            Lexeme::Bad { at } => Err(BadByte { at: at as u32 }),
+            Lexeme::Token { kind, start, end } => {
                 self.at = end;
                 Ok(Some(Token {
                     kind,
@@ -83,7 +90,7 @@ impl<'a> Cursor<'a> {
 
 /// A `(`, and what is between it and the first `)` after it.
 #[derive(Debug, Drop)]
-pub struct Group<'a> {
+pub struct ParenRange<'a> {
     /// The offset of the `(`.
     pub start: u32,
     /// The bytes between the two, which were not read yet.
@@ -95,17 +102,59 @@ pub struct Group<'a> {
     ghost listed: { BeginsWithList list.now key.now },
 }
 
-impl<'a> Group<'a> {
-    ghost use Rattle.std.specs.List.{list_all};
-    ghost use Rattle.pddl_words.specs.SpacedWords.{words_of};
-    ghost use Rattle.pddl_words.specs.Words.{is_name};
-
+impl<'a> ParenRange<'a> {
     /// Whether the key is names, with a single space between each two. Takes one pass over the key at most.
     pub fn are_names(&self) -> bool
         ensures { result ≡ list_all is_name (words_of self.now.key.now) }
     {
         are_names_in(self.list, self.key)
     }
+}
+
+/// Whether the key of a list is names, with a single space between each two.
+///
+/// A key of at most 31 bytes is seen at once, if the text goes on far enough, and a longer one 32 bytes at a time.
+#[inline(always)]
+fn are_names_in(list: &[u8], key: &[u8]) -> bool
+    requires { BeginsWithList list.now key.now }
+    ensures { result ≡ list_all is_name (words_of key.now) }
+{
+    let size = key.len();
+    if size >= LANES {
+        return are_many_names(list, key);
+    }
+    if size == 0 || list.len() <= LANES {
+        return are_names(key);
+    }
+    names_len(list) == size && list[size] != b' '
+}
+
+/// Whether the key of a list is names, as above, if it has at least 32 bytes. The last 32 are looked at together, also those that were seen before.
+fn are_many_names(list: &[u8], key: &[u8]) -> bool
+    requires begins { BeginsWithList list.now key.now }
+    requires many { 32 ≤ length key.now }
+    ensures { result ≡ list_all is_name (words_of key.now) }
+{
+    let size = key.len();
+    let last = size - LANES;
+    let mut at = 0;
+    'vectors: while at < last {
+        if !all_go_on(list, at) {
+            return false;
+        }
+        at += LANES;
+    }
+    all_go_on(list, last) && list[size] != b' '
+}
+
+/// Whether each of the 32 bytes behind the one at `at` goes on as names.
+#[inline(always)]
+fn all_go_on(list: &[u8], at: usize) -> bool
+    requires { at + 32 < length list.now }
+    ensures all { result ≡ true → (k : ℕ) → at ≤ k → k < at + 32 → goes_on (slice_index list.now k) (slice_index list.now (k + 1)) ≡ true }
+    ensures other { result ≡ false → (k : ℕ) × (at ≤ k) × (k < at + 32) × (goes_on (slice_index list.now k) (slice_index list.now (k + 1)) ≡ false) }
+{
+    names_len(&list[at..]) >= LANES
 }
 
 /// A word, and a cursor after it.
@@ -118,7 +167,7 @@ pub struct NextWord<'a> {
 }
 
 impl<'a> Cursor<'a> {
-    ghost use Rattle.pddl_tokens.specs.Groups.{IsPlain, group_pieces};
+    ghost use Rattle.pddl_tokens.specs.ParenRanges.{IsPlain, range_pieces};
     ghost use Rattle.pddl_tokens.specs.Tokens.{token};
     ghost use Rattle.pddl_tokens.specs.declared.spans.Span.{Span};
     ghost use Rattle.pddl_tokens.specs.declared.spans.TokenKind.TheVariants.{Word};
@@ -154,8 +203,8 @@ impl<'a> Cursor<'a> {
     ///
     /// They are the next tokens if the key is plain: only words with single spaces between them. For any other key that need not be so, since
     /// a comment may hide the `)`, or another `(` or a bad byte may be before it. `None` says nothing about what follows.
-    pub fn group(&self) -> Option<Group<'a>>
-        ensures { IfSome result (λ group. IsPlain group.key.now → self.now ≡ group_pieces group.start group.key.now ++ group.rest) }
+    pub fn paren_range(&self) -> Option<ParenRange<'a>>
+        ensures { IfSome result (λ range. IsPlain range.key.now → self.now ≡ range_pieces range.start range.key.now ++ range.rest) }
     {
         let text = self.text;
         let open = skip_blanks(text, self.at);
@@ -167,7 +216,7 @@ impl<'a> Cursor<'a> {
         }
         let inside = &text[open + 1..];
         let size = memchr(b')', inside)?;
-        Some(Group {
+        Some(ParenRange {
             start: open as u32,
             key: &inside[..size],
             list: &text[open..],
@@ -196,7 +245,7 @@ fn skip_blanks(text: &[u8], mut at: usize) -> usize
 
 /// What comes first in the rest of a text.
 #[derive(Clone, Copy)]
-enum Front {
+enum Lexeme {
     End,
     Bad {
         at: usize,
@@ -209,27 +258,27 @@ enum Front {
 }
 
 /// What comes first in a text from `at` on, blanks and comments aside.
-fn first_from(text: &[u8], mut at: usize) -> Front
+fn first_from(text: &[u8], mut at: usize) -> Lexeme
     requires { at ≤ length text.now }
-    ensures { IsFront result text.now at }
+    ensures { IsLexeme result text.now at }
 {
     'skipping: loop {
         if at == text.len() {
-            return Front::End;
+            return Lexeme::End;
         }
         match class_of(text[at]) {
             ByteClass::LineEnd => at += 1,
             ByteClass::Blank => at += 1,
             ByteClass::Semicolon => at += comment_len(text, at),
             ByteClass::Left => {
-                return Front::Token {
+                return Lexeme::Token {
                     kind: TokenKind::Left,
                     start: at,
                     end: at + 1,
                 };
             }
             ByteClass::Right => {
-                return Front::Token {
+                return Lexeme::Token {
                     kind: TokenKind::Right,
                     start: at,
                     end: at + 1,
@@ -237,19 +286,19 @@ fn first_from(text: &[u8], mut at: usize) -> Front
             }
             ByteClass::WordByte => {
                 let end = at + word_len(text, at);
-                return Front::Token {
+                return Lexeme::Token {
                     kind: TokenKind::Word,
                     start: at,
                     end,
                 };
             }
-            ByteClass::Bad => return Front::Bad { at },
+            ByteClass::Bad => return Lexeme::Bad { at },
         }
     }
 }
 
 /// How many bytes from `start` on belong to words, up to the first that does not.
-#[tactic(auto, using(crate::proofs::Steps::rest_whole))]
+#[tactic(auto, using(crate::proofs::Lemmas::rest_whole))]
 fn word_len(text: &[u8], start: usize) -> usize
     requires { start ≤ length text.now }
     ensures run { result ≡ prefix_len is_word_byte (drop start text.now) }
@@ -259,7 +308,7 @@ fn word_len(text: &[u8], start: usize) -> usize
 }
 
 /// How many bytes there are from `start` to the next LF, or to the end.
-#[tactic(auto, using(crate::proofs::Steps::rest_whole))]
+#[tactic(auto, using(crate::proofs::Lemmas::rest_whole))]
 fn comment_len(text: &[u8], start: usize) -> usize
     requires { start ≤ length text.now }
     ensures run { result ≡ prefix_len is_comment_byte (drop start text.now) }

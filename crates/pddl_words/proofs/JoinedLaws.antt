@@ -1,6 +1,6 @@
 -- Different bytes are different numbers.
 
-use Rattle.std.proofs.Common.{◌≡◌, ◌<◌, ◌≤◌, ◌+◌, ◌*◌, ℕ, List, [], ◌∷◌, length, take, drop, get_or, refl, ap, ◌∙◌, arith}
+use Rattle.std.proofs.Common.{◌≡◌, ◌<◌, ℕ, List, [], ◌∷◌, length, refl, ap, ◌∙◌, arith}
 use Rattle.std.specs.Prelude.{All}
 use Rattle.std.proofs.lemmas.List.Elements.{All-head, All-tail}
 use Rattle.pddl_words.specs.JoinedBytes.{joined}
@@ -16,20 +16,3 @@ same_bytes (x ∷ xs) (y ∷ ys) l p q e =
     let tail : joined xs ≡ joined ys = omega (arith, e, first, other) in
     let rest = same_bytes xs ys (omega (arith, l)) (All-tail (λ x. x < 256) x xs p) (All-tail (λ y. y < 256) y ys q) tail in
     ap (λ z. z ∷ xs) head ∙ ap (λ zs. y ∷ zs) rest
-
--- the first four bytes as they are read
-pub joined_four : (xs : List ℕ) → 4 ≤ length xs
-    → joined (take 4 xs) ≡ get_or xs 0 0 + get_or xs 1 0 * 256 + get_or xs 2 0 * 65536 + get_or xs 3 0 * 16777216
-joined_four [] h = absurd (omega (arith, h))
-joined_four (a ∷ []) h = absurd (omega (arith, h))
-joined_four (a ∷ b ∷ []) h = absurd (omega (arith, h))
-joined_four (a ∷ b ∷ c ∷ []) h = absurd (omega (arith, h))
-joined_four (a ∷ b ∷ c ∷ d ∷ rest) h = omega arith
-
--- eight bytes are twice four
-pub joined_eight : (xs : List ℕ) → 4 ≤ length xs → joined (take 8 xs) ≡ joined (take 4 xs) + joined (take 4 (drop 4 xs)) * 4294967296
-joined_eight [] h = absurd (omega (arith, h))
-joined_eight (a ∷ []) h = absurd (omega (arith, h))
-joined_eight (a ∷ b ∷ []) h = absurd (omega (arith, h))
-joined_eight (a ∷ b ∷ c ∷ []) h = absurd (omega (arith, h))
-joined_eight (a ∷ b ∷ c ∷ d ∷ rest) h = omega arith

@@ -7,4 +7,6 @@ pub mod DecimalLaws
 pub mod JoinedLaws
 pub mod SameBytes
 pub mod ShortWordLaws
-pub mod LowerCase
+mod ByteLanes
+mod NameLanes
+mod SpecialLanes

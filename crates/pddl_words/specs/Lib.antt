@@ -5,3 +5,5 @@ pub mod DecimalReading
 pub mod SpacedWords
 pub mod JoinedBytes
 pub mod ShortWords
+pub mod Pairs
+pub mod SpecialBytes

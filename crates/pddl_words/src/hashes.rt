@@ -1,7 +1,8 @@
 //! Hashes of bytes, eight at a time.
 ghost use Rattle.std.specs.Prelude.{◌<◌, length};
 
-use crate::numbers::{eight, few, four};
+use crate::numbers::{few, four};
+use crate::vectors::eight;
 
 /// How many bytes are hashed at once.
 const WORD: usize = 8;

@@ -18,6 +18,7 @@
 //!
 //! The `==` of slices goes byte by byte. A [`ShortWord`] is a word of at most 16 bytes as two numbers, so that two of them are hashed and compared
 //! at once, [`are_same`] compares slices of any length eight bytes at a time, and a [`KeyedHash`] hashes them.
+//! [`vectors`] has all code of this project that looks at many bytes of a slice at once.
 #![tactic(auto)]
 
 ghost use Rattle.std.specs.Prelude.{◌≡◌};
@@ -28,11 +29,11 @@ ghost use Rattle.std.specs.List.{list_all};
 
 mod decimals;
 mod hashes;
-mod lower_case;
 mod numbers;
 mod row_words;
 mod same_bytes;
 mod short_words;
+pub mod vectors;
 
 pub use decimals::{billionths, digits};
 pub use hashes::KeyedHash;

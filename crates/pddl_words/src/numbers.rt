@@ -2,17 +2,6 @@
 ghost use Rattle.std.specs.Prelude.{◌≡◌, ◌≤◌, ◌<◌, ◌^◌, length, take};
 ghost use Rattle.pddl_words.specs.JoinedBytes.{joined};
 
-use std::simd::prelude::*;
-
-/// The number whose digits to the base 256 are the first eight bytes, the lowest first.
-#[inline(always)]
-pub(crate) fn eight(bytes: &[u8]) -> u64
-    requires { 8 ≤ length bytes.now }
-    ensures { result ≡ joined (take 8 bytes.now) }
-{
-    u64::from_le_bytes(u8x8::from_slice(bytes).to_array())
-}
-
 /// The number whose digits to the base 256 are the first four bytes, the lowest first.
 #[inline(always)]
 pub(crate) fn four(bytes: &[u8]) -> u64

@@ -3,8 +3,8 @@ ghost use Rattle.std.specs.Prelude.{◌≡◌, ◌≤◌, ◌∷◌, [], length,
 ghost use Rattle.std.specs.List.{prefix_len};
 ghost use Rattle.pddl_words.specs.SpacedWords.{is_in_word, words_of};
 
+use crate::vectors::{front_of_8, front_of_16};
 use std::marker::Model;
-use std::simd::prelude::*;
 
 /// The words that are left of a row. Contracts see the list of them.
 #[derive(Debug, Drop)]
@@ -83,39 +83,5 @@ fn front_len(row: &[u8]) -> usize
         front_of_8(row)
     } else {
         0
-    }
-}
-
-/// How many of the first 16 bytes there are before a space.
-#[inline(always)]
-fn front_of_16(row: &[u8]) -> usize
-    requires { 16 ≤ length row.now }
-    ensures run { result ≤ prefix_len is_in_word row.now }
-    ensures within { result ≤ 16 }
-{
-    let spaces = u8x16::from_slice(row)
-        .simd_eq(u8x16::splat(b' '))
-        .to_bitmask();
-    if spaces == 0 {
-        16
-    } else {
-        spaces.trailing_zeros() as usize
-    }
-}
-
-/// How many of the first 8 bytes there are before a space.
-#[inline(always)]
-fn front_of_8(row: &[u8]) -> usize
-    requires { 8 ≤ length row.now }
-    ensures run { result ≤ prefix_len is_in_word row.now }
-    ensures within { result ≤ 8 }
-{
-    let spaces = u8x8::from_slice(row)
-        .simd_eq(u8x8::splat(b' '))
-        .to_bitmask();
-    if spaces == 0 {
-        8
-    } else {
-        spaces.trailing_zeros() as usize
     }
 }

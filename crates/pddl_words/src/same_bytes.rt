@@ -1,7 +1,7 @@
 //! Whether bytes are the same, eight at a time.
 ghost use Rattle.std.specs.Prelude.{◌≡◌, ◌≤◌, ◌↔◌, IsTrue, length};
 
-use crate::numbers::eight;
+use crate::vectors::eight;
 
 /// How many bytes are compared at once.
 const WORD: usize = 8;

@@ -1,10 +1,9 @@
 //! Words of at most 16 bytes as two numbers.
 ghost use Rattle.std.specs.Prelude.{◌≡◌, ◌≢◌, ◌≤◌, ◌<◌, ◌↔◌, ◌⊎◌, IfSome, IsNone, IsTrue, length};
-ghost use Rattle.std.specs.Str.{str_to_ascii_lowercase};
 ghost use Rattle.pddl_words.specs.ShortWords.{IsWord, AreEnds};
 
-use crate::lower_case::{eight_in_lower_case, few_in_lower_case, four_in_lower_case};
-use crate::numbers::{eight, few, four};
+use crate::numbers::{few, four};
+use crate::vectors::eight;
 
 /// How many bytes a short word has at most.
 const MOST_BYTES: usize = 16;
@@ -51,25 +50,6 @@ impl ShortWord {
         })
     }
 
-    /// The word of these bytes in lower case, unless there are none, or more than 16. The bytes in lower case are not written anywhere.
-    #[inline(always)]
-    pub fn in_lower_case(word: &[u8]) -> Option<ShortWord>
-        ensures word { IfSome result (λ short. IsWord short (str_to_ascii_lowercase word.now)) }
-        ensures some { IfSome result (λ short. short.len ≢ 0) }
-        ensures none { IsNone result ↔ ((length word.now ≡ 0) ⊎ (16 < length word.now)) }
-    {
-        let len = word.len();
-        if len == 0 || len > MOST_BYTES {
-            return None;
-        }
-        let (front, back) = ends_in_lower_case(word);
-        Some(ShortWord {
-            front,
-            back,
-            len: len as u32,
-        })
-    }
-
     /// Whether it is a word.
     #[inline]
     pub fn is_some(self) -> bool
@@ -109,29 +89,6 @@ fn ends(word: &[u8]) -> (u64, u64)
         (four(word), four(&word[len - 4..]))
     } else {
         let all = few(word);
-        (all, all)
-    }
-}
-
-/// The first and the last bytes of a word in lower case, which cover it, as numbers.
-#[inline(always)]
-fn ends_in_lower_case(word: &[u8]) -> (u64, u64)
-    requires { length word.now ≤ 16 }
-    ensures { AreEnds result.0 result.1 (str_to_ascii_lowercase word.now) }
-{
-    let len = word.len();
-    if len >= 8 {
-        (
-            eight_in_lower_case(word),
-            eight_in_lower_case(&word[len - 8..]),
-        )
-    } else if len >= 4 {
-        (
-            four_in_lower_case(word),
-            four_in_lower_case(&word[len - 4..]),
-        )
-    } else {
-        let all = few_in_lower_case(word);
         (all, all)
     }
 }

@@ -1,7 +1,6 @@
 -- Sums of amounts, as a loop meets them: what was added up so far, and the amounts that are left.
 
-use Rattle.std.proofs.Common.{◌≡◌, ℕ, zero, suc, ◌+◌, ◌<◌, ◌≤◌, arith, Contains, sum, List, [], ◌∷◌, ◌++◌, Option, Some, None, length, map, drop, get_or, refl, ap, sym, ◌∙◌, zero-add, add-zero, add_assoc}
-use Rattle.std.proofs.lemmas.List.{drop_all}
+use Rattle.std.proofs.Common.{◌≡◌, ℕ, zero, suc, ◌+◌, ◌<◌, arith, Contains, sum, List, [], ◌∷◌, ◌++◌, Option, Some, None, length, map, drop, get_or, refl, ap, sym, ◌∙◌, zero-add, add_assoc}
 use Rattle.std.proofs.lemmas.List.Sums.{sum_by-cons}
 use Rattle.std.specs.List.{flat_map}
 use Rattle.strips_judge.proofs.Searches.{left}
@@ -56,15 +55,7 @@ pub record IsSummed {X : Type 0} (f : X → Option ℕ) (all : Option ℕ) (sum 
   pub rest : all ≡ added (Some sum) (sum_of (map f (drop index xs)))
 
 module _ {X : Type 0} (f : X → Option ℕ) where
-  -- at first all are left
-  pub summed_none : (xs : List X) → IsSummed f (sum_of (map f xs)) 0 xs 0
-  summed_none xs = record { rest = sym (added-nothing (sum_of (map f xs))) }
-
   module _ (all : Option ℕ) (sum : ℕ) (xs : List X) (index : ℕ) (summed : IsSummed f all sum xs index) where
-    -- at last none is
-    pub summed_all : length xs ≤ index → all ≡ Some sum
-    summed_all past = summed.rest ∙ ap (λ l. added (Some sum) (sum_of (map f l))) (drop_all index xs past) ∙ ap Some (add-zero sum)
-
     module _ (x : X) (lt : index < length xs) (is : x ≡ get_or xs index x) where
       split : all ≡ added (Some sum) (added (f x) (sum_of (map f (drop (index + 1) xs))))
       split = summed.rest ∙ ap (λ l. added (Some sum) (sum_of (map f l))) (left xs index x lt is)

@@ -15,7 +15,7 @@ use Rattle.plan_text.specs.PlanFaults.{AreTokens, offset_of, Refuses, IsFaultAt,
 use Rattle.plan_text.specs.Walks.{IsBetween}
 use Rattle.plan_text.proofs.Runs.{reading, run, run-append, run_plan}
 use Rattle.plan_text.proofs.Reached.{IsReached, reached_start, reached_on, viable_reached, plan_reached}
-use Rattle.plan_text.proofs.Steps.{plan_bad, plan_refused, plan_too_long, plan_short}
+use Rattle.plan_text.proofs.Lemmas.{plan_bad, plan_refused, plan_too_long, plan_short}
 
 -- tokens that are read lead to where reading them leads
 reads_by : (text : List ℕ) (offset : ℕ) (before ps : List Piece) (end : Reading) (o : Option Reading) → option_and_then (λ next. run next (symbols before)) o ≡ Some end → ((next : Reading) → run next (symbols before) ≡ Some end → plan_from text next (before ++ ps) ≡ plan_from text end ps) → behind text offset (λ next. plan_from text next (before ++ ps)) o ≡ plan_from text end ps

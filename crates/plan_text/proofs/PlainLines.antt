@@ -3,8 +3,9 @@
 use Rattle.std.proofs.Common.{◌≡◌, ◌≢◌, ℕ, zero, suc, ◌+◌, ◌-◌, ◌<◌, ◌≤◌, false, List, [], ◌∷◌, length, take, drop, get_or, refl, sym, ap, ◌∙◌, subst, arith, length-drop, ◌⊎◌, ⊎_elim}
 use Rattle.std.proofs.lemmas.Bool.{and_left, cases_eq, cases_lt, eq-eqb, eqb-true, ne_eqb}
 use Rattle.std.proofs.lemmas.List.{drop_all, get_or-drop, get_or-take, take_all}
+use Rattle.memchr.specs.Find.{OccursAt}
 use Rattle.plan_text.specs.Bundle.{is_separator, lines}
-use Rattle.plan_text.specs.Separators.{EndsBeforeDash, IsOnePartTo}
+use Rattle.plan_text.specs.Separators.{IsOnePartTo}
 use Rattle.plan_text.proofs.Bundles.{one_part_more, one_part_start}
 use Rattle.plan_text.proofs.Lines.{line_with_lf, line_without_lf, no_lines}
 
@@ -56,11 +57,20 @@ last_line text offset to within =
     in
     subst (IsOnePartTo text) end (one_part_more text offset size to.one_part first plain)
 
+-- an LF (10), and a dash (45) behind it
+abbrev pub lf_dash : List ℕ
+lf_dash = 10 ∷ 45 ∷ []
+
+reads_by : (text : List ℕ) (k j : ℕ) → get_or text k 0 ≡ 10 → get_or text (k + 1) 0 ≡ 45 → j < 2 → get_or text (k + j) 0 ≡ get_or lf_dash j 0
+reads_by text k zero lf dash lt = let here : k + 0 ≡ k = omega arith in ap (λ (i : ℕ). get_or text i 0) here ∙ lf
+reads_by text k (suc zero) lf dash lt = dash
+reads_by text k (suc (suc j)) lf dash lt = absurd (omega arith)
+
 -- the text up to an end is lines, and none of them but the first one can begin with a dash
 pub record IsPlainText (text : List ℕ) (end : ℕ) : Type 0 where
   pub within : end ≤ length text
   pub behind_lf : end < length text → get_or text (end - 1) 0 ≡ 10
-  pub plain : (k : ℕ) → k + 1 < end → EndsBeforeDash text k → ⊥
+  pub plain : (k : ℕ) → k + 1 < end → OccursAt text lf_dash k → ⊥
 
 -- the last line of such a text
 at_end : (text : List ℕ) (end offset : ℕ) → IsPlainText text end → PlainTo text offset end → offset < end → (end < length text) ⊎ (length text ≤ end) → IsOnePartTo text end
@@ -77,7 +87,7 @@ next_line : (text : List ℕ) (end offset reached : ℕ) → IsPlainText text en
 next_line text end offset reached whole to more lf = record {
   low = omega arith;
   one_part = line_behind text offset reached to (omega (arith, whole.within)) lf;
-  plain = λ dash. whole.plain reached more (lf, dash);
+  plain = λ dash. whole.plain reached more (record { fits = omega (arith, whole.within); reads = λ j lt. reads_by text reached j lf dash lt });
   before = λ k low high _. absurd (omega arith);
 }
 

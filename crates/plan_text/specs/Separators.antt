@@ -1,6 +1,6 @@
 -- Where the first line of a text ends, and where its first separator is.
 
-use Rattle.std.specs.Prelude.{◌≡◌, ℕ, ◌+◌, ◌<◌, ◌≤◌, List, [], ◌∷◌, ◌++◌, length, take, drop, slice_index, slice_range, Option, Some, None, IfSome}
+use Rattle.std.specs.Prelude.{◌≡◌, ℕ, ◌<◌, ◌≤◌, List, [], ◌∷◌, ◌++◌, length, take, drop, slice_range, Option, Some, None, IfSome}
 use Rattle.plan_text.specs.declared.parts.Line.{Line}
 use Rattle.plan_text.specs.declared.parts.PartEnd.{PartEnd}
 use Rattle.plan_text.specs.Bundle.{lines, parts, parts_from, parts_behind}
@@ -20,10 +20,6 @@ onto_part front (part ∷ parts) = (front ++ part) ∷ parts
 -- there is a separator
 abbrev pub IsOnePartTo : List ℕ → ℕ → Type 0
 IsOnePartTo text offset = parts text ≡ onto_part (take offset text) (parts (drop offset text))
-
--- the byte at an offset is an LF (10), and a dash (45) follows it
-abbrev pub EndsBeforeDash : List ℕ → ℕ → Type 0
-EndsBeforeDash text at = (slice_index text at ≡ 10) × (slice_index text (at + 1) ≡ 45)
 
 -- the first separator of a text divides it into the first part and the rest; without one the text is one part
 abbrev pub IsFirstSeparator : Option Line → List ℕ → Type 0

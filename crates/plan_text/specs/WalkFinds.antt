@@ -4,11 +4,11 @@ use Rattle.std.specs.Prelude.{◌≡◌, ℕ, ◌<◌, ◌≤◌, Bool, true, fa
 use Rattle.std.specs.List.{list_all}
 use Rattle.std.specs.Option.{option_copied}
 use Rattle.pddl_words.specs.Words.{is_name, folded}
-use Rattle.pddl_tokens.specs.declared.scan.Group.{Group}
+use Rattle.pddl_tokens.specs.declared.scan.ParenRange.{ParenRange}
 use Rattle.pddl_tokens.specs.declared.spans.TokenKind.{TokenKind}
 use Rattle.pddl_tokens.specs.declared.spans.TokenKind.TheVariants.{Right, Word}
 use Rattle.pddl_tokens.specs.Tokens.{Piece}
-use Rattle.pddl_tokens.specs.Groups.{IsPlain, group_pieces}
+use Rattle.pddl_tokens.specs.ParenRanges.{IsPlain, range_pieces}
 use Rattle.pddl_tokens.specs.Within.{AreWithin}
 use Rattle.strips_task.specs.declared.plans.Plan.TheVariants.{Steps, Unreadable}
 use Rattle.strips_task.specs.declared.steps.StepText.{StepText}
@@ -32,12 +32,12 @@ use Rattle.plan_text.specs.PlanReading.{Reading, plan_from, plan_of, read_on, un
 use Rattle.plan_text.specs.Walks.{Walk, RestsAt, HasPassed, GoesBehind, GoesOn, reading_behind, words_before}
 use Rattle.strips_task.specs.declared.steps.TheConstants.{MOST_STEPS}
 
--- a step may come next, and if its key is plain, this group comes next
-pub record ComesNext (walk : Walk) (group : Group) : Type 0 where
+-- a step may come next, and if its key is plain, this range comes next
+pub record ComesNext (walk : Walk) (range : ParenRange) : Type 0 where
   pub room : walk.count < MOST_STEPS
   pub rests : RestsAt walk.want walk.count
-  pub first : IsPlain group.key.now → walk.rest ≡ group_pieces group.start group.key.now ++ group.rest
-  pub within : IsPlain group.key.now → AreWithin (length walk.text) group.rest
+  pub first : IsPlain range.key.now → walk.rest ≡ range_pieces range.start range.key.now ++ range.rest
+  pub within : IsPlain range.key.now → AreWithin (length walk.text) range.rest
 
 -- a step of these words, which are names, came next and was passed; if there is a key, it spells the step
 pub record IsStepFound (old new : Walk) (words : List (List ℕ)) (key : Option (List ℕ)) : Type 0 where

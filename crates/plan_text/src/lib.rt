@@ -35,7 +35,7 @@
 //! [`PlanSteps`] walks over the steps of a plan text, keeps none of them and takes no memory. It is for callers that do something at each step,
 //! such as judging it, and need no plan. [`PlanSteps::next_step`] reads the next step and gives its words, or says that the text is at its end
 //! or unreadable. If the step is written as plain names with single spaces, it gives these bytes too, as a key. A caller that remembers
-//! what a key means gets the next key unread from [`PlanSteps::next_group`], and passes a step whose key it knows with [`PlanSteps::skip`].
+//! what a key means gets the next key unread from [`PlanSteps::next_range`], and passes a step whose key it knows with [`PlanSteps::skip`].
 //! As long as each step is taken by one of these two calls, the result at the end is the plan of the text.
 //!
 //! The contract of [`read_plan`] refers to a definition that follows the code. [`laws`] says what that definition means: the steps are those
@@ -54,7 +54,7 @@ mod want;
 
 pub use compare::{is_plan_of, same_plans};
 pub use parts::{PartEnd, Parts, part_from};
-pub use pddl_tokens::Group;
+pub use pddl_tokens::ParenRange;
 pub use read::read_plan;
 pub use step_at::{FoundStep, find_step_at};
 pub use walk::{Onward, PlanSteps, StepWords, TextStep};

@@ -3,12 +3,10 @@
 ghost use Rattle.std.specs.Prelude.{◌≡◌, ◌≤◌, length};
 ghost use Rattle.std.specs.List.{list_all};
 ghost use Rattle.plan_text.specs.Bundle.{parts, is_separator, may_follow_dashes};
-ghost use Rattle.memchr.specs.Find.{IsFirst, Nowhere};
-ghost use Rattle.plan_text.specs.Separators.{CutsLine, EndsBeforeDash, IsFirstPart, IsFirstSeparator, IsOnePartTo};
+ghost use Rattle.plan_text.specs.Separators.{CutsLine, IsFirstPart, IsFirstSeparator, IsOnePartTo};
 
-use memchr::memchr;
+use memchr::{memchr, memmem};
 use std::marker::Model;
-use std::simd::prelude::*;
 
 /// The parts of a bundle in order, as slices of it: each is the text of one plan.
 ///
@@ -128,44 +126,12 @@ fn plain_len(text: &[u8]) -> usize
 {
     match text.first() {
         Some(b'-') => 0,
-        Some(_) => match dash_line(text) {
+        Some(_) => match memmem::find(text, b"\n-") {
             Some(at) => at + 1,
             None => text.len(),
         },
         None => 0,
     }
-}
-
-/// Where the first LF is that a dash follows.
-fn dash_line(text: &[u8]) -> Option<usize>
-    ensures { IsFirst (EndsBeforeDash text.now) 0 (length text.now) result }
-{
-    let mut at = blocks_without(text);
-    'bytes: while at + 1 < text.len() {
-        if text[at] == b'\n' && text[at + 1] == b'-' {
-            return Some(at);
-        }
-        at += 1;
-    }
-    None
-}
-
-/// How many bytes at the start surely have no LF that a dash follows, 32 at a time: up to the row that has such an LF, or until so few bytes
-/// are left that a row and the byte behind it do not fit.
-fn blocks_without(text: &[u8]) -> usize
-    ensures within { result ≤ length text.now }
-    ensures before { Nowhere (EndsBeforeDash text.now) 0 result }
-{
-    let mut at = 0;
-    'rows: while text.len() - at > 32 {
-        let ends = u8x32::from_slice(&text[at..]).simd_eq(u8x32::splat(b'\n'));
-        let dashes = u8x32::from_slice(&text[at + 1..]).simd_eq(u8x32::splat(b'-'));
-        if (ends & dashes).any() {
-            return at;
-        }
-        at += 32;
-    }
-    at
 }
 
 /// How many bytes the first line has, including its LF.

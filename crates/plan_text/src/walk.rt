@@ -17,7 +17,7 @@ ghost use Rattle.strips_task.specs.declared.steps.TheConstants.{MOST_STEPS};
 
 use crate::between::{read_between, read_number};
 use crate::want::{Expected, Want};
-use pddl_tokens::{Cursor, Group, TokenKind, WordKind, line_of, word_kind};
+use pddl_tokens::{Cursor, ParenRange, TokenKind, WordKind, line_of, word_kind};
 use std::alloc::AllocError;
 use std::marker::Model;
 use strips_task::{MOST_STEPS, OpenSteps};
@@ -59,7 +59,7 @@ pub enum TextStep<'a> {
         /// Its words.
         words: StepWords<'a>,
         /// The bytes between its parentheses, if they are the names of the step with a single space between each two. A caller that remembers
-        /// what the step means may pass it with `PlanSteps::next_group` and `PlanSteps::skip` from now on.
+        /// what the step means may pass it with `PlanSteps::next_range` and `PlanSteps::skip` from now on.
         key: Option<&'a [u8]>,
     },
     /// The end of the text, which is a plan text.
@@ -196,24 +196,24 @@ impl<'a> PlanSteps<'a> {
     ///
     /// These bytes were not read yet. They are the next step only if they are known to spell one.
     #[inline(always)]
-    pub fn next_group(&self) -> Option<Group<'a>>
-        ensures { IfSome result (λ group. ComesNext self.now group) }
+    pub fn next_range(&self) -> Option<ParenRange<'a>>
+        ensures { IfSome result (λ range. ComesNext self.now range) }
     {
         if self.count < MOST_STEPS {
-            self.cursor.group()
+            self.cursor.paren_range()
         } else {
             None
         }
     }
 
-    /// Passes the next step, which the key of its group must spell.
+    /// Passes the next step, which the key of its range must spell.
     #[inline(always)]
-    pub fn skip(&mut self, group: Group<'a>)
-        requires next { ComesNext self.old group }
-        requires spelled { IsSpelled group.key.now }
-        ensures { GoesBehind self.old self.new (step_spelled group.entry.key.now) }
+    pub fn skip(&mut self, range: ParenRange<'a>)
+        requires next { ComesNext self.old range }
+        requires spelled { IsSpelled range.key.now }
+        ensures { GoesBehind self.old self.new (step_spelled range.entry.key.now) }
     {
-        self.cursor = group.rest;
+        self.cursor = range.rest;
         self.expected = self.expected.then(Want::Number);
         self.count += 1;
     }
@@ -224,9 +224,9 @@ impl<'a> PlanSteps<'a> {
     pub fn next_step(&mut self) -> TextStep<'a>
         ensures { IsFound result self.old self.new }
     {
-        if let Some(group) = self.next_group() {
-            if group.are_names() {
-                return self.take_group(group);
+        if let Some(range) = self.next_range() {
+            if range.are_names() {
+                return self.take_range(range);
             }
         } else if self.is_over() {
             return TextStep::End;
@@ -295,16 +295,16 @@ impl<'a> PlanSteps<'a> {
         }
     }
 
-    /// Passes the step that a group spells.
+    /// Passes the step that a range spells.
     #[inline(always)]
-    fn take_group(&mut self, group: Group<'a>) -> TextStep<'a>
-        requires next { ComesNext self.old group }
-        requires spelled { IsSpelled group.key.now }
+    fn take_range(&mut self, range: ParenRange<'a>) -> TextStep<'a>
+        requires next { ComesNext self.old range }
+        requires spelled { IsSpelled range.key.now }
         ensures { IsFound result self.old self.new }
     {
         let words = words_inside(&self.cursor);
-        let key = group.key;
-        self.skip(group);
+        let key = range.key;
+        self.skip(range);
         TextStep::Step {
             words,
             key: Some(key),

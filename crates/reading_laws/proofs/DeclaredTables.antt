@@ -21,7 +21,7 @@ use Rattle.pddl_reader.specs.Functions.{Vocabulary}
 use Rattle.pddl_reader.specs.Variables.{argument_types_of}
 use Rattle.reading_laws.specs.DeclaredTables.{AreDeclared, predicate_entry, function_entry, action_entry, action_tables, ArePredicatesDeclared, AreFunctionsDeclared, AreActionsDeclared}
 use Rattle.reading_laws.proofs.ThroughLists.{through_same}
-use Rattle.pddl_reader.proofs.TableSteps.{may_if}
+use Rattle.pddl_reader.proofs.TableLemmas.{may_if}
 use Rattle.reading_laws.specs.ReadTables.{CostedAction}
 
 -- steps on what states are shown as

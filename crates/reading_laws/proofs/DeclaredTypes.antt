@@ -21,11 +21,11 @@ use Rattle.pddl_syntax.specs.Syntax.{NameGroup}
 use Rattle.reading_laws.specs.DeclaredOnce.{is_same_entry, group_types, group_parents}
 use Rattle.pddl_reader.specs.Tables.{value_named}
 use Rattle.pddl_reader.specs.TypeOrder.{TypeNames, TypeParents, numbered, under, counts_as_parent, declared_under, tables_of, type_declared, parent_numbered, group_declared, object_alone, types_declared}
-use Rattle.pddl_reader.proofs.CycleSteps.{put_together}
+use Rattle.pddl_reader.proofs.CycleLemmas.{put_together}
 use Rattle.reading_laws.proofs.KeptEntries.{put_by, put, IsRoom, all_put, all_accepted}
 use Rattle.reading_laws.proofs.ThroughLists.{through_same, through_append, through_map, through_flat, through_idle, through_behind_one, through_both}
 use Rattle.strips_task.proofs.NamedEntries.{entry_at}
-use Rattle.pddl_reader.proofs.TableSteps.{value_numbered, value_unnamed}
+use Rattle.pddl_reader.proofs.TableLemmas.{value_numbered, value_unnamed}
 use Rattle.reading_laws.specs.ReadTables.{type_given}
 
 -- the names of the types, and the declared parents

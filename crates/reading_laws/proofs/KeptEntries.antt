@@ -23,7 +23,7 @@ use Rattle.reading_laws.proofs.DeclaredTables.{fresh}
 use Rattle.pddl_reader.proofs.NamedValues.{unnamed_value}
 use Rattle.reading_laws.proofs.NamedEntries.{entry_numbered}
 use Rattle.strips_task.proofs.NamedEntries.{entry_at}
-use Rattle.pddl_reader.proofs.TableSteps.{value_numbered, value_unnamed}
+use Rattle.pddl_reader.proofs.TableLemmas.{value_numbered, value_unnamed}
 
 -- an item that passes a test is found by it
 pub passes_at : {A : Type 0} (p : A → Bool) (xs : List A) (n : ℕ) (x : A) → slice_get xs n ≡ Some x → p x ≡ true → list_any p xs ≡ true

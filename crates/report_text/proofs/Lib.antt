@@ -1,4 +1,3 @@
 pub mod CostTexts
 pub mod Rendering
 pub mod RowTexts
-mod UpperCase

@@ -14,7 +14,6 @@ mod escapes;
 mod format;
 mod json;
 mod lines;
-mod lower_case;
 mod render;
 mod table;
 mod text;

@@ -20,7 +20,7 @@ use crate::format::Format;
 use crate::json::push_failure_members;
 use crate::table::push_failure_fields;
 use crate::text::Text;
-use intake_rules::{Finding, Form, SubmittedPlan};
+use intake_rules::{Finding, PlanForm, SubmittedPlan};
 use pddl_words::RowWords;
 use plan_text::{FoundStep, find_step_at};
 use std::alloc::AllocError;
@@ -262,8 +262,8 @@ pub(crate) fn push_failing_step(
 {
     let index = number.saturating_sub(1) as usize;
     match plan.form() {
-        Form::Read(plan) => push_failure_of_plan(text, format, task, plan, index, why),
-        Form::Text(bytes) => push_failure_of_text(text, format, task, bytes, index, why),
+        PlanForm::Read(plan) => push_failure_of_plan(text, format, task, plan, index, why),
+        PlanForm::Text(bytes) => push_failure_of_text(text, format, task, bytes, index, why),
     }
 }
 

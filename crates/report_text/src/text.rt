@@ -1,8 +1,9 @@
 //! Text that is made piece by piece.
 ghost use Rattle.std.specs.Prelude.{◌≡◌, ◌++◌, [], ℕ, List, OnOk, decimal};
+ghost use Rattle.std.specs.Char.{is_ascii_uppercase};
+ghost use Rattle.std.specs.List.{list_any};
 ghost use Rattle.pddl_words.specs.Words.{folded};
 
-use crate::lower_case::has_upper_case;
 use itoa::Buffer;
 use std::alloc::{AllocError, Global};
 use std::marker::Model;
@@ -87,4 +88,11 @@ impl Text {
         let Text { bytes } = self;
         bytes
     }
+}
+
+/// Whether a byte is a letter in upper case.
+fn has_upper_case(bytes: &[u8]) -> bool
+    ensures { result ≡ list_any is_ascii_uppercase bytes.now }
+{
+    bytes.iter().any(|b| b.is_ascii_uppercase())
 }

@@ -50,7 +50,7 @@ pub(crate) fn missing_ground(
     let mut found = IndexSet::with_hasher(alloc, state.seed());
     for cond in conds {
         if !holds_ground(state, cond) {
-            note(&mut found, cond.copy(alloc)?)?;
+            note(&mut found, cond.try_clone(alloc)?)?;
         }
     }
     listed(alloc, found)

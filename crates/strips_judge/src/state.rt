@@ -106,21 +106,21 @@ impl NumberedState<'_> {
         ensures same { self.new ≡ self.old }
     {
         if let Some(key) = key_of_pattern(pattern, objects) {
-            return self.look_up_few(key);
+            return self.look_up_packed(key);
         }
         ground(pattern, objects, atom)?;
-        Ok(self.number_of_long(atom))
+        Ok(self.number_of_wide(atom))
     }
 
     /// The number of the atom of a key, if it has one.
     #[inline(always)]
-    fn look_up_few(&mut self, key: AtomKey) -> Result<Option<usize>, AllocError>
+    fn look_up_packed(&mut self, key: AtomKey) -> Result<Option<usize>, AllocError>
         requires { IsKeyOf (atom_of key) key }
         ensures number { IfOk result (λ number. number ≡ number_in self.old.atoms (atom_of key)) }
         ensures same { self.new ≡ self.old }
     {
         let Some(cell) = self.cells.cell_of(key) else {
-            return Ok(self.number_of_few(key));
+            return Ok(self.number_of_packed(key));
         };
         match self.cells.number_at(cell) {
             Some(number) => Ok(Some(number as usize)),
@@ -135,7 +135,7 @@ impl NumberedState<'_> {
         ensures number { IfOk result (λ number. number ≡ number_in self.old.atoms (atom_of key)) }
         ensures same { self.new ≡ self.old }
     {
-        let Some(number) = self.number_of_few(key) else {
+        let Some(number) = self.number_of_packed(key) else {
             return Ok(None);
         };
         self.keep(key, number)?;
@@ -158,7 +158,7 @@ impl NumberedState<'_> {
 
     /// The number of the atom of a key, if it has one, by the tables.
     #[inline(always)]
-    fn number_of_few(&self, key: AtomKey) -> Option<usize>
+    fn number_of_packed(&self, key: AtomKey) -> Option<usize>
         requires { IsKeyOf (atom_of key) key }
         ensures { result ≡ number_in self.now.atoms (atom_of key) }
     {
@@ -200,14 +200,14 @@ impl NumberedState<'_> {
 
     /// The number of an atom of many objects, if it has one. Takes one or two hashes.
     #[inline(never)]
-    fn number_of_long(&self, atom: &Atom) -> Option<usize>
+    fn number_of_wide(&self, atom: &Atom) -> Option<usize>
         requires { 4 < length atom.now.args }
         ensures { result ≡ number_in self.now.atoms atom.now }
     {
         if let Some(number) = self.initial.number_of(atom) {
             return Some(number);
         }
-        match self.later.find_long(atom) {
+        match self.later.find_wide(atom) {
             Some(number) => Some(self.initial.distinct_len() + number as usize),
             None => None,
         }
@@ -218,8 +218,8 @@ impl NumberedState<'_> {
         ensures { result ≡ number_in self.now.atoms atom.now }
     {
         match AtomKey::of(atom) {
-            Some(key) => self.number_of_few(key),
-            None => self.number_of_long(atom),
+            Some(key) => self.number_of_packed(key),
+            None => self.number_of_wide(atom),
         }
     }
 
@@ -238,42 +238,42 @@ impl NumberedState<'_> {
         ensures grows { Grows self.old self.new }
     {
         if let Some(key) = key_of_pattern(pattern, objects) {
-            return self.number_few(key);
+            return self.number_packed(key);
         }
         ground(pattern, objects, atom)?;
-        self.number_long(alloc, atom)
+        self.number_wide(alloc, atom)
     }
 
     /// The number of the atom of a key. If it has none, it gets the next one.
     #[inline(always)]
-    fn number_few(&mut self, key: AtomKey) -> Result<usize, AllocError>
+    fn number_packed(&mut self, key: AtomKey) -> Result<usize, AllocError>
         requires { IsKeyOf (atom_of key) key }
         ensures number { IfOk result (λ number. number_in self.new.atoms (atom_of key) ≡ Some number) }
         ensures state { state_of self.new ≡ state_of self.old }
         ensures grows { Grows self.old self.new }
     {
-        match self.look_up_few(key)? {
+        match self.look_up_packed(key)? {
             Some(number) => Ok(number),
-            None => self.add_few(key),
+            None => self.add_packed(key),
         }
     }
 
     /// The number of an atom of many objects. If it has none, it gets the next one.
-    fn number_long(&mut self, alloc: Global, atom: &Atom) -> Result<usize, AllocError>
+    fn number_wide(&mut self, alloc: Global, atom: &Atom) -> Result<usize, AllocError>
         requires { 4 < length atom.now.args }
         ensures number { IfOk result (λ number. number_in self.new.atoms atom.now ≡ Some number) }
         ensures state { state_of self.new ≡ state_of self.old }
         ensures grows { Grows self.old self.new }
     {
-        match self.number_of_long(atom) {
+        match self.number_of_wide(atom) {
             Some(number) => Ok(number),
-            None => self.add_long(alloc, atom),
+            None => self.add_wide(alloc, atom),
         }
     }
 
     /// Gives the atom of a key, which has no number, the next one. The atom is false.
     #[inline(never)]
-    fn add_few(&mut self, key: AtomKey) -> Result<usize, AllocError>
+    fn add_packed(&mut self, key: AtomKey) -> Result<usize, AllocError>
         requires key { IsKeyOf (atom_of key) key }
         requires new { number_in self.old.atoms (atom_of key) ≡ None }
         ensures number { IfOk result (λ number. number_in self.new.atoms (atom_of key) ≡ Some number) }
@@ -282,13 +282,13 @@ impl NumberedState<'_> {
     {
         let number = self.next_number()?;
         self.bits.reserve(number as usize + 1)?;
-        self.push_few(key)?;
+        self.push_packed(key)?;
         Ok(number as usize)
     }
 
     /// Gives an atom of many objects, which has no number, the next one. The atom is false.
     #[inline(never)]
-    fn add_long(&mut self, alloc: Global, atom: &Atom) -> Result<usize, AllocError>
+    fn add_wide(&mut self, alloc: Global, atom: &Atom) -> Result<usize, AllocError>
         requires many { 4 < length atom.now.args }
         requires new { number_in self.old.atoms atom.now ≡ None }
         ensures number { IfOk result (λ number. number_in self.new.atoms atom.now ≡ Some number) }
@@ -297,7 +297,7 @@ impl NumberedState<'_> {
     {
         let number = self.next_number()?;
         self.bits.reserve(number as usize + 1)?;
-        self.push_long(atom.copy(alloc)?)?;
+        self.push_wide(atom.try_clone(alloc)?)?;
         Ok(number as usize)
     }
 
@@ -313,7 +313,7 @@ impl NumberedState<'_> {
     }
 
     /// Gives the atom of a key the next number.
-    fn push_few(&mut self, key: AtomKey) -> Result<(), AllocError>
+    fn push_packed(&mut self, key: AtomKey) -> Result<(), AllocError>
         requires key { IsKeyOf (atom_of key) key }
         requires new { number_in self.old.atoms (atom_of key) ≡ None }
         requires room { length self.old.atoms + 1 ≤ 64 * length self.old.bits }
@@ -324,12 +324,12 @@ impl NumberedState<'_> {
         ensures initial { self.new.initial ≡ self.old.initial }
     {
         mark(&mut self.marks, key.pred())?;
-        self.later.push_few(key)?;
+        self.later.push_packed(key)?;
         Ok(())
     }
 
     /// Gives an atom of many objects the next number.
-    fn push_long(&mut self, atom: Atom) -> Result<(), AllocError>
+    fn push_wide(&mut self, atom: Atom) -> Result<(), AllocError>
         requires many { 4 < length atom.args }
         requires new { number_in self.old.atoms atom ≡ None }
         requires room { length self.old.atoms + 1 ≤ 64 * length self.old.bits }
@@ -340,7 +340,7 @@ impl NumberedState<'_> {
         ensures initial { self.new.initial ≡ self.old.initial }
     {
         mark(&mut self.marks, atom.pred)?;
-        self.later.push_long(atom)?;
+        self.later.push_wide(atom)?;
         Ok(())
     }
 

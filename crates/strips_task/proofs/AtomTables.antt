@@ -28,13 +28,13 @@ abbrev IsWithin : List (Atom × ℕ) → AtomKey → Type 0
 IsWithin long entry = 4 < entry.head / 65536 → entry.objects < length long
 
 -- the atom of an entry of few objects
-atom_at-few : (long : List (Atom × ℕ)) (entry : AtomKey) → entry.head / 65536 ≤ 4 → atom_at long entry ≡ atom_of entry
-atom_at-few long entry few = ap (λ b. cond b (atom_of entry) (long_atom long entry.objects)) (le-leb (entry.head / 65536) 4 few)
+atom_at-packed : (long : List (Atom × ℕ)) (entry : AtomKey) → entry.head / 65536 ≤ 4 → atom_at long entry ≡ atom_of entry
+atom_at-packed long entry few = ap (λ b. cond b (atom_of entry) (long_atom long entry.objects)) (le-leb (entry.head / 65536) 4 few)
 
 -- an entry of few objects adds its atom
-pub atoms_of-few : (long : List (Atom × ℕ)) (entries : List AtomKey) (entry : AtomKey) → entry.head / 65536 ≤ 4
+pub atoms_of-packed : (long : List (Atom × ℕ)) (entries : List AtomKey) (entry : AtomKey) → entry.head / 65536 ≤ 4
     → atoms_of long (entries ++ entry ∷ []) ≡ atoms_of long entries ++ atom_of entry ∷ []
-atoms_of-few long entries entry few = map-append (atom_at long) entries (entry ∷ []) ∙ ap (λ a. atoms_of long entries ++ a ∷ []) (atom_at-few long entry few)
+atoms_of-packed long entries entry few = map-append (atom_at long) entries (entry ∷ []) ∙ ap (λ a. atoms_of long entries ++ a ∷ []) (atom_at-packed long entry few)
 
 -- the atom with an index stays when others come behind it
 long_atom-more : (long more : List (Atom × ℕ)) (index : ℕ) → index < length long → long_atom (long ++ more) index ≡ long_atom long index
@@ -93,9 +93,9 @@ module _ (atoms : List Atom) (slots : Known) (long : List (Atom × ℕ)) (atom :
   as_before other apart = number_in-push_other atoms atom atom other refl apart
 
   -- one atom of few objects more
-  found_few : (new : Known) → length atom.args ≤ 4 → ((other : AtomKey) → IsKnown slots other → IsKnown new other) → IsKnown new (key_of atom)
+  found_packed : (new : Known) → length atom.args ≤ 4 → ((other : AtomKey) → IsKnown slots other → IsKnown new other) → IsKnown new (key_of atom)
       → AreRight (λ key. number_in (atoms ++ atom ∷ []) (atom_of key)) new → AreKept (atoms ++ atom ∷ []) new long
-  found_few new are_few still here right =
+  found_packed new are_few still here right =
       record {
         right = right;
         few = few;
@@ -149,23 +149,23 @@ module _ (entries : List AtomKey) (slots : Known) (long : List (Atom × ℕ)) (t
   }
 
   -- an atom of few objects that is not among the slots has no number
-  pub absent_few : (key : AtomKey) → IsKeyOf (atom_of key) key → (IsKnown slots key → ⊥) → number_in (atoms_of long entries) (atom_of key) ≡ None
-  absent_few key is absent = by (number_in (atoms_of long entries) (atom_of key)) refl
+  pub absent_packed : (key : AtomKey) → IsKeyOf (atom_of key) key → (IsKnown slots key → ⊥) → number_in (atoms_of long entries) (atom_of key) ≡ None
+  absent_packed key is absent = by (number_in (atoms_of long entries) (atom_of key)) refl
     where
       by : (o : Option ℕ) → number_in (atoms_of long entries) (atom_of key) ≡ o → number_in (atoms_of long entries) (atom_of key) ≡ None
       by None none = none
       by (Some number) some = absurd (absent (subst (IsKnown slots) (sym is.key_is) (table.found.few (atom_of key) number is.few some)))
 
   -- one more entry for an atom of few objects
-  pub table_few : (new : Known) (key : AtomKey) → IsKeyOf (atom_of key) key → number_in (atoms_of long entries) (atom_of key) ≡ None
+  pub table_packed : (new : Known) (key : AtomKey) → IsKeyOf (atom_of key) key → number_in (atoms_of long entries) (atom_of key) ≡ None
       → ((number_of : AtomKey → Option ℕ) → number_of key ≡ Some (length (atoms_of long entries)) → AreRight number_of slots → AreRight number_of new)
       → IsKnown new key → ((other : AtomKey) → IsKnown slots other → IsKnown new other) → IsAtomTable (entries ++ key ∷ []) new long
-  table_few new key is none right known still =
+  table_packed new key is none right known still =
       let atoms : List Atom = atoms_of long entries in
       let few : key.head / 65536 ≤ 4 = few_said key is in
       record {
-        found = subst (λ (l : List Atom). AreKept l new long) (sym (atoms_of-few long entries key few))
-            (found_few atoms slots long (atom_of key) table.found none new is.few still (subst (IsKnown new) is.key_is known)
+        found = subst (λ (l : List Atom). AreKept l new long) (sym (atoms_of-packed long entries key few))
+            (found_packed atoms slots long (atom_of key) table.found none new is.few still (subst (IsKnown new) is.key_is known)
             (right (λ k. number_in (atoms ++ atom_of key ∷ []) (atom_of k)) (number_in-push_new atoms (atom_of key) (atom_of key) refl none)
             (right_for_more atoms slots long (atom_of key) table.found none)));
         within = All-push (IsWithin long) entries key table.within (λ many. absurd (omega (arith, few, many)));

@@ -44,26 +44,6 @@ folded_is_name (b ∷ bytes) is =
     let parts = and_parts (is_ascii_alphabetic b) (list_all is_name_byte bytes) is in
     and_from (is_ascii_alphabetic (to_ascii_lowercase b)) (list_all is_name_byte (folded bytes)) (letter_stays b parts.0) (name_bytes_stay bytes parts.1)
 
-letter_before : (b : ℕ) → is_ascii_alphabetic (to_ascii_lowercase b) ≡ true → is_ascii_alphabetic b ≡ true
-letter_before b is = grind (arith, nat_tests)
-
-name_byte_before : (b : ℕ) → is_name_byte (to_ascii_lowercase b) ≡ true → is_name_byte b ≡ true
-name_byte_before b is = grind (arith, nat_tests)
-
-name_bytes_before : (bytes : List ℕ) → list_all is_name_byte (folded bytes) ≡ true → list_all is_name_byte bytes ≡ true
-name_bytes_before [] all = refl
-name_bytes_before (b ∷ bytes) all =
-    let parts = and_parts (is_name_byte (to_ascii_lowercase b)) (list_all is_name_byte (folded bytes)) all in
-    and_from (is_name_byte b) (list_all is_name_byte bytes) (name_byte_before b parts.0) (name_bytes_before bytes parts.1)
-
--- a word is a name if it is one in lower case
-pub name_from_folded : (word : List ℕ) → is_name (folded word) ≡ true → is_name word ≡ true
-unfolding is_name
-name_from_folded [] is = absurd (true≢false (sym is))
-name_from_folded (b ∷ bytes) is =
-    let parts = and_parts (is_ascii_alphabetic (to_ascii_lowercase b)) (list_all is_name_byte (folded bytes)) is in
-    and_from (is_ascii_alphabetic b) (list_all is_name_byte bytes) (letter_before b parts.0) (name_bytes_before bytes parts.1)
-
 -- a list that is written over from its start to its end is the other list
 pub refilled : (old new : List ℕ) → length new ≡ length old → refill (length old) old new ≡ new
 refilled old new same = rw (drop_all (length new) old (omega (arith, same)), append-nil new) (take_all (length old) new (omega (arith, same)))

@@ -80,11 +80,6 @@ steps_kept words more [] h = refl
 steps_kept words more (range ∷ ranges) h =
     λ j. range_kept words more range (h 0 range (omega arith)) j ∷ steps_kept words more ranges (λ k d lt. h (suc k) d (omega arith)) j
 
-pub ranges_kept : (words more : List (List ℕ)) (ranges : List StepRange) → All (IsStepRange (length words)) ranges
-    → All (IsStepRange (length (words ++ more))) ranges
-ranges_kept words more ranges h =
-    λ k d lt. let old = h k d lt in (old.0, omega (arith, old.1, length-append words more))
-
 -- the words of a range up to the end are all words from its start on
 pub range_to_end : (words : List (List ℕ)) (first end : ℕ) → end ≡ length words → slice_range words first end ≡ drop first words
 range_to_end words first end e = take_all (end - first) (drop first words) (omega (arith, length-drop first words))

@@ -1,19 +1,11 @@
 -- What a test of a part says in the words of the definitions.
 
-use Rattle.std.proofs.Common.{◌≡◌, ℕ, Bool, false, ◌&&◌, List, [], ◌∷◌, map, refl, ap, slice_get, Some, None}
-use Rattle.std.specs.List.{list_all, zip}
+use Rattle.std.proofs.Common.{◌≡◌, ℕ, Bool, false, List, [], ◌∷◌, map, refl, ap, slice_get, Some, None}
 use Rattle.std.specs.Option.{option_map}
 use Rattle.std.specs.Map.{values_of}
 use Rattle.strips_task.specs.declared.actions.Term.TheVariants.{Param, Object}
 use Rattle.strips_task.specs.Types.{fits}
 use Rattle.strips_task.specs.WellFormed.{term_types, is_fitting}
-
--- a test of pairs whose first parts are mapped
-pub all_zip-map : {A B C : Type 0} (f : A → B) (test : B → C → Bool) (xs : List A) (ys : List C)
-    → list_all (λ p. test p.0 p.1) (zip (map f xs) ys) ≡ list_all (λ p. test (f p.0) p.1) (zip xs ys)
-all_zip-map f test [] ys = refl
-all_zip-map f test (x ∷ xs) [] = refl
-all_zip-map f test (x ∷ xs) (y ∷ ys) = ap (λ b. test (f x) y && b) (all_zip-map f test xs ys)
 
 module _ (parents : List ℕ) (objects : List (List ℕ × ℕ)) (params : List (List ℕ)) (indexes : List ℕ) where
   -- a parameter has the types that it was given

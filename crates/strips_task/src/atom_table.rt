@@ -34,9 +34,9 @@ pub enum KeptAtom<'t> {
 pub struct AtomTable {
     /// For each atom its key. If it has more than four objects, the head says so, and in place of the objects is its index among those.
     entries: Vec<AtomKey>,
-    few: KnownAtoms,
+    packed: KnownAtoms,
     /// The atoms of more than four objects with their numbers.
-    long: IndexMap<Atom, u32, Seed>,
+    wide: IndexMap<Atom, u32, Seed>,
 }
 
 impl Model for AtomTable {
@@ -46,9 +46,9 @@ impl Model for AtomTable {
 
     ghost Value = { List Atom };
 
-    ghost view = { λ t. atoms_of t.long.entries t.entries.items };
+    ghost view = { λ t. atoms_of t.wide.entries t.entries.items };
 
-    ghost invariant = { λ t. IsAtomTable t.entries.items t.few t.long.entries };
+    ghost invariant = { λ t. IsAtomTable t.entries.items t.packed t.wide.entries };
 }
 
 impl AtomTable {
@@ -58,14 +58,14 @@ impl AtomTable {
     {
         AtomTable {
             entries: Vec::new(alloc),
-            few: KnownAtoms::new(alloc, seed),
-            long: IndexMap::with_hasher(alloc, seed),
+            packed: KnownAtoms::new(alloc, seed),
+            wide: IndexMap::with_hasher(alloc, seed),
         }
     }
 
     /// The seed that the table hashes with.
     pub fn seed(&self) -> Seed {
-        *self.long.hasher()
+        *self.wide.hasher()
     }
 
     /// How many atoms there are.
@@ -86,7 +86,7 @@ impl AtomTable {
             return KeptAtom::Few(entry);
         }
         let index = entry.objects as usize;
-        KeptAtom::Many(self.long.get_index(index).unwrap().0)
+        KeptAtom::Many(self.wide.get_index(index).unwrap().0)
     }
 
     /// The number of the atom of a key. Takes one read of memory in most cases.
@@ -94,16 +94,16 @@ impl AtomTable {
     pub fn find(&self, key: AtomKey) -> Option<u32>
         ensures { (atom : Atom) → IsKeyOf atom key → result ≡ number_in self.now atom }
     {
-        self.few.find(key)
+        self.packed.find(key)
     }
 
     /// The number of an atom of more than four objects. Takes one hash.
     #[inline(never)]
-    pub fn find_long(&self, atom: &Atom) -> Option<u32>
+    pub fn find_wide(&self, atom: &Atom) -> Option<u32>
         requires { 4 < length atom.now.args }
         ensures { result ≡ number_in self.now atom.now }
     {
-        self.long.get(atom).copied()
+        self.wide.get(atom).copied()
     }
 
     /// The number of an atom. Takes no memory.
@@ -113,7 +113,7 @@ impl AtomTable {
     {
         match AtomKey::of(atom) {
             Some(key) => self.find(key),
-            None => self.find_long(atom),
+            None => self.find_wide(atom),
         }
     }
 
@@ -124,7 +124,7 @@ impl AtomTable {
         ensures { result ≤ length keys.now }
     {
         keys.iter()
-            .filter(|key| self.few.begins_free(**key))
+            .filter(|key| self.packed.begins_free(**key))
             .count()
     }
 
@@ -133,11 +133,11 @@ impl AtomTable {
         ensures { self.new ≡ self.old }
     {
         let _ = self.entries.reserve(count);
-        let _ = self.few.expect(count);
+        let _ = self.packed.expect(count);
     }
 
     /// Adds the atom of a key, which is not here, at the end, and answers its number.
-    pub fn push_few(&mut self, key: AtomKey) -> Result<u32, AllocError>
+    pub fn push_packed(&mut self, key: AtomKey) -> Result<u32, AllocError>
         requires key { IsKeyOf (atom_of key) key }
         requires new { number_in self.old (atom_of key) ≡ None }
         ensures ok { OnOk result (self.new ≡ self.old ++ atom_of key ∷ []) }
@@ -146,13 +146,13 @@ impl AtomTable {
     {
         let number = self.next_number()?;
         self.entries.reserve(1)?;
-        self.few.keep(key, number)?;
+        self.packed.keep(key, number)?;
         self.entries.push_reserved(key);
         Ok(number)
     }
 
     /// Adds an atom of more than four objects, which is not here, at the end, and answers its number. If memory runs out, the atom is given back.
-    pub fn push_long(&mut self, atom: Atom) -> Result<u32, AllocFailed<Atom>>
+    pub fn push_wide(&mut self, atom: Atom) -> Result<u32, AllocFailed<Atom>>
         requires many { 4 < length atom.args }
         requires new { number_in self.old atom ≡ None }
         ensures ok { OnOk result (self.new ≡ self.old ++ atom ∷ []) }
@@ -166,8 +166,8 @@ impl AtomTable {
         if self.entries.reserve(1).is_err() {
             return Err(AllocFailed { value: atom });
         }
-        let index = self.long.len() as u64;
-        if let Err(failed) = self.long.insert(atom, number) {
+        let index = self.wide.len() as u64;
+        if let Err(failed) = self.wide.insert(atom, number) {
             return Err(AllocFailed {
                 value: failed.value.0,
             });
@@ -182,7 +182,7 @@ impl AtomTable {
     /// Adds the atom of a key at the end, unless it is here, and answers its number. If there is no room for one atom more and no memory, it is refused
     /// even if the atom is here.
     #[inline(always)]
-    pub fn insert_few(&mut self, key: AtomKey) -> Result<u32, AllocError>
+    pub fn insert_packed(&mut self, key: AtomKey) -> Result<u32, AllocError>
         requires { IsKeyOf (atom_of key) key }
         ensures ok { OnOk result (self.new ≡ insert_key atom_eq self.old (atom_of key)) }
         ensures number { IfOk result (λ number. slice_get self.new number ≡ Some (atom_of key)) }
@@ -190,7 +190,7 @@ impl AtomTable {
     {
         let next = self.next_number()?;
         self.entries.reserve(1)?;
-        match self.few.find_or_keep(key, next)? {
+        match self.packed.find_or_keep(key, next)? {
             Some(number) => Ok(number),
             None => {
                 self.entries.push_reserved(key);
@@ -200,16 +200,16 @@ impl AtomTable {
     }
 
     /// Adds an atom of more than four objects at the end, unless it is here, and answers its number. If memory runs out, the atom is given back.
-    fn insert_long(&mut self, atom: Atom) -> Result<u32, AllocFailed<Atom>>
+    fn insert_wide(&mut self, atom: Atom) -> Result<u32, AllocFailed<Atom>>
         requires { 4 < length atom.args }
         ensures ok { OnOk result (self.new ≡ insert_key atom_eq self.old atom) }
         ensures number { IfOk result (λ number. slice_get self.new number ≡ Some atom) }
         ensures err { OnErr result (self.new ≡ self.old) }
         ensures value_returned { IfErr result (λ failed. failed.value ≡ atom) }
     {
-        match self.find_long(&atom) {
+        match self.find_wide(&atom) {
             Some(number) => Ok(number),
-            None => self.push_long(atom),
+            None => self.push_wide(atom),
         }
     }
 
@@ -221,9 +221,9 @@ impl AtomTable {
         ensures value_returned { IfErr result (λ failed. failed.value ≡ atom) }
     {
         let Some(key) = AtomKey::of(&atom) else {
-            return self.insert_long(atom);
+            return self.insert_wide(atom);
         };
-        match self.insert_few(key) {
+        match self.insert_packed(key) {
             Ok(number) => Ok(number),
             Err(AllocError) => Err(AllocFailed { value: atom }),
         }

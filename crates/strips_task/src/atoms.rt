@@ -26,7 +26,7 @@ impl Atom {
     ghost use Rattle.std.specs.Prelude.{IfOk};
 
     /// Another atom with the same predicate and arguments. Takes memory only if there are more arguments than fit in the value itself.
-    pub fn copy(&self, alloc: Global) -> Result<Atom, AllocError>
+    pub fn try_clone(&self, alloc: Global) -> Result<Atom, AllocError>
         ensures { IfOk result (λ copy. copy ≡ self.now) }
     {
         Ok(Atom {
@@ -61,11 +61,11 @@ impl GroundFormula {
     ghost use Rattle.std.specs.Prelude.{IfOk};
 
     /// The same formula with memory of its own.
-    fn copy(&self, alloc: Global) -> Result<GroundFormula, AllocError>
+    fn try_clone(&self, alloc: Global) -> Result<GroundFormula, AllocError>
         ensures { IfOk result (λ copy. copy ≡ self.now) }
     {
         Ok(match self {
-            GroundFormula::Atom(atom) => GroundFormula::Atom(atom.copy(alloc)?),
+            GroundFormula::Atom(atom) => GroundFormula::Atom(atom.try_clone(alloc)?),
             GroundFormula::Equal(left, right) => GroundFormula::Equal(*left, *right),
         })
     }
@@ -74,13 +74,13 @@ impl GroundFormula {
 impl GroundCond {
     ghost use Rattle.std.specs.Prelude.{IfOk};
 
-    /// The same condition with memory of its own. Takes memory as [`Atom::copy`] does.
-    pub fn copy(&self, alloc: Global) -> Result<GroundCond, AllocError>
+    /// The same condition with memory of its own. Takes memory as [`Atom::try_clone`] does.
+    pub fn try_clone(&self, alloc: Global) -> Result<GroundCond, AllocError>
         ensures { IfOk result (λ copy. copy ≡ self.now) }
     {
         Ok(GroundCond {
             positive: self.positive,
-            formula: self.formula.copy(alloc)?,
+            formula: self.formula.try_clone(alloc)?,
         })
     }
 }

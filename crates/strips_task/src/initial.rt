@@ -73,13 +73,13 @@ impl InitialAtoms {
 
     /// Adds the atom of a key at the end, with one hash.
     #[inline(always)]
-    pub fn push_few(&mut self, key: AtomKey) -> Result<(), AllocError>
+    pub fn push_packed(&mut self, key: AtomKey) -> Result<(), AllocError>
         requires { IsKeyOf (atom_of key) key }
         ensures ok { OnOk result (self.new ≡ self.old ++ atom_of key ∷ []) }
         ensures err { OnErr result (self.new ≡ self.old) }
     {
         self.numbers.reserve(1)?;
-        let number = self.distinct.insert_few(key)?;
+        let number = self.distinct.insert_packed(key)?;
         self.numbers.push_reserved(number);
         Ok(())
     }

@@ -9,7 +9,6 @@
 //! A name takes 24 bytes, and a slot 4. There are two to four slots for each name of the table, so 32 to 40 bytes a name. The slots of all the
 //! objects that a task can have take half a megabyte, which the cache of many a processor holds.
 ghost use Rattle.std.specs.Prelude.{◌≡◌, ◌≢◌, ◌≤◌, ◌<◌, ◌+◌, ℕ, List, Option, Some, All, IfSome, length};
-ghost use Rattle.pddl_words.specs.Words.{folded};
 ghost use Rattle.strips_task.specs.Names.{IsStoredName};
 ghost use Rattle.pddl_words.specs.ShortWords.{IsWord};
 ghost use Rattle.strips_task.specs.ShortNames.{IsNumbered, name_of};
@@ -92,33 +91,6 @@ impl ShortNames {
             → IsStoredName word.now × (number_of word.now ≡ Some number)) }
     {
         let asked = ShortWord::of(word)?;
-        self.find_short(asked)
-    }
-
-    /// The number of a word in lower case, if it is here. The word in lower case is not written anywhere.
-    #[inline(always)]
-    pub(crate) fn find_in_lower_case(&self, word: &[u8]) -> Option<usize>
-        ensures { IfSome result (λ number. (number_of : List ℕ → Option ℕ) → All (IsNumbered number_of) self.now
-            → IsStoredName (folded word.now) × (number_of (folded word.now) ≡ Some number)) }
-    {
-        let asked = ShortWord::in_lower_case(word)?;
-        self.find_short(asked)
-    }
-
-    /// The number of a word, if it is here. The name with an index and the one after it are compared with it before any other.
-    #[inline(always)]
-    pub(crate) fn find_near(&self, word: &[u8], index: usize) -> Option<usize>
-        ensures { IfSome result (λ number. (number_of : List ℕ → Option ℕ) → All (IsNumbered number_of) self.now
-            → IsStoredName word.now × (number_of word.now ≡ Some number)) }
-    {
-        let asked = ShortWord::of(word)?;
-        let names = self.names.as_slice();
-        if let Some(number) = number_at(names, index, asked) {
-            return Some(number);
-        }
-        if let Some(number) = number_at(names, index.saturating_add(1), asked) {
-            return Some(number);
-        }
         self.find_short(asked)
     }
 

@@ -75,30 +75,6 @@ impl<V> NameTable<V> {
         }
     }
 
-    /// The number of the entry with a name, as by `number_of`. It is found without a hash if it is `near` or the number after it, as is often so where
-    /// names come in the order of their entries.
-    #[inline(always)]
-    pub fn number_near(&self, word: &[u8], near: usize) -> Option<usize>
-        ensures number { result ≡ number_named self.now word.now }
-        ensures within { IfSome result (λ number. number < length self.now) }
-        ensures named { IfSome result (λ _. (is_name word.now ≡ true) × (folded word.now ≡ word.now)) }
-    {
-        match self.short_names.find_near(word, near) {
-            Some(number) => Some(number),
-            None => self.number_among_all(word),
-        }
-    }
-
-    /// The number of the entry whose name the word spells in upper or lower case, if it is among the short names. If there is none, the name may be in
-    /// the table all the same, so it is looked up in lower case by `number_of`. Takes two reads of memory for most names, and writes no bytes.
-    #[inline(always)]
-    pub fn number_of_spelling(&self, word: &[u8]) -> Option<usize>
-        ensures spelled { IfSome result (λ number. (is_name word.now ≡ true) × (number_named self.now (folded word.now) ≡ Some number)) }
-        ensures within { IfSome result (λ number. number < length self.now) }
-    {
-        self.short_names.find_in_lower_case(word)
-    }
-
     /// The number of the entry with a name, as by `number_of`. Takes one hash of the bytes.
     #[inline(never)]
     fn number_among_all(&self, word: &[u8]) -> Option<usize>

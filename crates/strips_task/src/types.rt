@@ -6,7 +6,7 @@
 ghost use Rattle.std.specs.Prelude.{◌≡◌, ◌+◌, ◌*◌, ◌<◌, ◌≤◌, ◌||◌, ◌&&◌, ◌↔◌, ◌≢◌, ℕ, List, [], ◌∷◌, ◌++◌, length, slice_index, All, IsTrue, true, nat_lt, IfOk, OnOk, OnErr, IfErr};
 ghost use Rattle.std.specs.List.{list_any};
 ghost use Rattle.bit_rows.specs.Rows.{row_has};
-ghost use Rattle.strips_task.specs.Types.{is_within, is_below, fits, IsTypeTree};
+ghost use Rattle.strips_task.specs.Types.{is_within, is_below, fits};
 ghost use Rattle.strips_task.specs.TypeTable.{IsTable, MayHaveTable, AreJoined};
 
 use bit_rows::{WORD_BITS, empty_row, has_bit, set_bit};
@@ -116,14 +116,6 @@ impl TypeList {
         let joined: [u64; ROW_WORDS] = joined_rows(parents.len(), table, sups);
         are_below_joined(parents, table, &joined, subs, sups)
     }
-
-    /// Whether the parents form a tree below `object`: it is its own parent, each parent is a type, and from every type the chain of
-    /// parents reaches `object`. Takes a walk up for each type, and no memory.
-    pub fn is_tree(&self) -> bool
-        ensures { IsTrue result ↔ IsTypeTree self.now }
-    {
-        is_tree(self.parents.as_slice())
-    }
 }
 
 /// Whether a type is below another. A type is below itself, which reads no table. Inlined, since it is called for each pair of two short lists.
@@ -228,31 +220,6 @@ fn add_words<const WORDS: usize>(joined: &mut [u64; WORDS], table: &[u64], first
     }
 }
 
-/// Whether parents form a tree below `object`.
-fn is_tree(parents: &[u16]) -> bool
-    ensures { IsTrue result ↔ IsTypeTree parents.now }
-{
-    if parents.is_empty() {
-        return false;
-    }
-    if parents[0] != 0 {
-        return false;
-    }
-    if !are_known(parents) {
-        return false;
-    }
-    all_reach_object(parents)
-}
-
-/// Whether each parent is a type.
-fn are_known(parents: &[u16]) -> bool
-    ensures { IsTrue result ↔ All (λ parent. parent < length parents.now) parents.now }
-{
-    parents
-        .iter()
-        .all(|parent| usize::from(*parent) < parents.len())
-}
-
 /// The table of all types.
 fn table_of(alloc: Global, parents: &[u16]) -> Result<Vec<u64>, AllocError>
     requires few { length parents.now ≤ 1088 }
@@ -281,18 +248,6 @@ fn mark_above(parents: &[u16], number: usize, table: &mut [u64])
         at = usize::from(parents[at]);
     }
     set_bit(table, at * ROW_BITS + number);
-}
-
-/// Whether the walk from each type over the parents meets `object`.
-fn all_reach_object(parents: &[u16]) -> bool
-    ensures { IsTrue result ↔ ((type : ℕ) → type < length parents.now → IsTrue (is_within parents.now (length parents.now) type 0)) }
-{
-    for number in 0..parents.len() {
-        if !stands_above(parents, number, 0) {
-            return false;
-        }
-    }
-    true
 }
 
 /// Whether a walk from one type over the parents meets the other.

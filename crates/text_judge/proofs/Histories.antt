@@ -1,9 +1,8 @@
 -- Which step of a plan changed an atom last, step by step.
 
-use Rattle.std.proofs.Common.{◌≡◌, ◌≢◌, ℕ, ◌+◌, ◌-◌, ◌<◌, ◌≤◌, Bool, true, false, List, [], ◌∷◌, ◌++◌, Option, Some, None, length, take, refl, inl, inr, ap, subst, sym, ◌∙◌, arith, append_assoc, length-append}
+use Rattle.std.proofs.Common.{◌≡◌, ◌≢◌, ℕ, ◌+◌, ◌-◌, ◌<◌, Bool, true, false, List, [], ◌∷◌, ◌++◌, Option, Some, None, length, take, refl, ap, subst, sym, ◌∙◌, arith, append_assoc}
 use Rattle.std.specs.Prelude.{◌&&◌, ◌||◌, MatchOption, fold, map, not}
-use Rattle.std.proofs.lemmas.Bool.{cases_lt}
-use Rattle.std.proofs.lemmas.List.{take_all, take-append-le}
+use Rattle.std.proofs.lemmas.List.{take_all}
 use Rattle.std.proofs.Math.Seq.{take-append_seam}
 use Rattle.std.proofs.lemmas.List.Sums.{fold_more}
 use Rattle.std.proofs.lemmas.Option.{get_or_from_slice_get}
@@ -31,8 +30,8 @@ use Rattle.text_judge.proofs.TakenLaws.{found_at_end}
 use Rattle.text_judge.specs.declared.history.Watch.{Watch}
 use Rattle.text_judge.specs.declared.pass.Passed.{Passed}
 use Rattle.text_judge.specs.declared.pass.Passed.TheVariants.{All, Fails, Unreadable as Faulty}
-use Rattle.text_judge.specs.History.{state_after, steps_taken, AreLastChanges, IsLastChange, Stays, LastChangesAreEffects}
-use Rattle.text_judge.specs.Passes.{with_next, EndsPass, FailsAt, GoOnOrEnd}
+use Rattle.text_judge.specs.History.{state_after, steps_taken, AreLastChanges, LastChangesAreEffects}
+use Rattle.text_judge.specs.Passes.{EndsPass, FailsAt, GoOnOrEnd}
 use Rattle.text_judge.specs.Watches.{AreWatched, EndsWatch, IsWatched}
 
 module _ (parts : TaskParts) where
@@ -45,69 +44,6 @@ module _ (parts : TaskParts) where
   ends_after end steps run =
       run_ends (is_in parts.init) end steps run
       ∙ ap (fold (after parts) (is_in parts.init)) (let all : steps ≡ take (length steps) steps = sym (take_all (length steps) steps (omega arith)) in all)
-
-  -- one step more changes no state before it
-  before_same : (steps : List StepText) (step : StepText) (atom : Atom) (k : ℕ) → k ≤ length steps
-      → state_after parts (steps ++ step ∷ []) k atom ≡ state_after parts steps k atom
-  before_same steps step atom k within = ap (λ l. fold (after parts) (is_in parts.init) l atom) (take-append-le k steps (step ∷ []) within)
-
-  -- where that step does not change the atom, none behind the same step does
-  still : (steps : List StepText) (step : StepText) (atom : Atom) (count : ℕ) → count ≤ length steps → Stays parts steps atom count
-      → state_after parts (steps ++ step ∷ []) (length (steps ++ step ∷ [])) atom ≡ state_after parts steps (length steps) atom
-      → Stays parts (steps ++ step ∷ []) atom count
-  still steps step atom count within stays same k low high =
-      let more : length (steps ++ step ∷ []) ≡ length steps + 1 = length-append steps (step ∷ []) in
-      let first : state_after parts (steps ++ step ∷ []) count atom ≡ state_after parts steps count atom = before_same steps step atom count within in
-      elim (cases_lt (length steps) k) [
-        | inl past ↦
-            let at : k ≡ length (steps ++ step ∷ []) = omega arith in
-            ap (λ n. state_after parts (steps ++ step ∷ []) n atom) at ∙ same ∙ stays (length steps) within (omega arith) ∙ sym first
-        | inr before ↦ before_same steps step atom k before ∙ stays k low before ∙ sym first
-      ]
-
-  -- and the last change is the same
-  stays_last : (steps : List StepText) (step : StepText) (atom : Atom) (last : Option ℕ) → IsLastChange parts steps atom last
-      → state_after parts (steps ++ step ∷ []) (length (steps ++ step ∷ [])) atom ≡ state_after parts steps (length steps) atom
-      → IsLastChange parts (steps ++ step ∷ []) atom last
-  stays_last steps step atom None stays same = still steps step atom 0 (omega arith) stays same
-  stays_last steps step atom (Some number) (changes, stays) same = (
-    record {
-      counted = changes.counted;
-      within = omega (arith, changes.within, length-append steps (step ∷ []));
-      differs = λ e. changes.differs (sym (before_same steps step atom (number - 1) (omega (arith, changes.within))) ∙ e
-          ∙ before_same steps step atom number changes.within);
-    },
-    still steps step atom number changes.within stays same,
-  )
-
-  pub kept : (steps : List StepText) (next : Option StepText) (atom : Atom) (watch : Watch) (holds : Bool) → IsWatched parts steps atom watch
-      → holds ≡ state_after parts (with_next steps next) (length (with_next steps next)) atom → holds ≡ watch.is_true
-      → IsWatched parts (with_next steps next) atom watch
-  kept steps None atom watch holds was now same = was
-  kept steps (Some step) atom watch holds was now same =
-      record { now = sym same ∙ now; last = stays_last steps step atom watch.last was.last (sym now ∙ same ∙ was.now) }
-
-  -- where it changes the atom, it is the last change
-  pub changed : (steps : List StepText) (next : Option StepText) (atom : Atom) (watch : Watch) (holds : Bool) (count : ℕ) → IsWatched parts steps atom watch
-      → holds ≡ state_after parts (with_next steps next) (length (with_next steps next)) atom → holds ≢ watch.is_true → count ≡ length (with_next steps next)
-      → IsWatched parts (with_next steps next) atom (record { is_true = holds; last = Some count })
-  changed steps None atom watch holds count was now apart is = absurd (apart (now ∙ sym was.now))
-  changed steps (Some step) atom watch holds count was now apart is =
-      let more : length (steps ++ step ∷ []) ≡ length steps + 1 = length-append steps (step ∷ []) in
-      let one_less : count - 1 ≡ length steps = omega (arith, is) in
-      let state : ℕ → Bool = λ n. state_after parts (steps ++ step ∷ []) n atom in
-      let old : state (count - 1) ≡ watch.is_true = ap state one_less ∙ before_same steps step atom (length steps) (omega arith) ∙ sym was.now in
-      record {
-        now = now;
-        last = (
-          record {
-            counted = omega (arith, is);
-            within = omega (arith, is);
-            differs = λ e. apart (now ∙ ap state (sym is) ∙ sym e ∙ old);
-          },
-          λ k low high. ap state (let at : k ≡ count = omega (arith, is) in at),
-        );
-      }
 
 -- what the three say of one atom: whether it was true, whether the step deletes it, and whether it adds it
 by_tests : (was deleted added : Bool) → was ≢ (was && not deleted || added)

@@ -156,13 +156,6 @@ module _ (task : CostedTask) (state : Numbered) where
           cost = subst (λ (o : Option ℕ). IsCostSoFar task.task task.costs (steps ++ step ∷ []) o) (sym is) (cost_more task.task task.costs steps step cost amount h.cost takes.adds);
         }
 
-    -- a state with the same atoms true
-    pub has_taken_still : (new : Numbered) → state_of new ≡ state_of state
-        → (steps : List StepText) → HasTaken (record { task = task; state = state; cost = cost; count = count }) steps
-        → HasTaken (record { task = task; state = new; cost = cost; count = count }) steps
-    has_taken_still new same steps h =
-        record { run = subst (λ (s : State). LeadTo task.task (is_in task.task.init) steps s) (sym same) h.run; count = h.count; cost = h.cost }
-
     -- a step that is hindered
     pub fails_here : (o : Option Why) (step : StepText) → o ≡ hindrance task.task (state_of state) step
         → IfSome o (λ why. (steps rest : List StepText) → HasTaken (record { task = task; state = state; cost = cost; count = count }) steps

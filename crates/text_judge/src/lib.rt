@@ -23,12 +23,12 @@ mod history;
 mod judge;
 pub mod laws;
 mod memo;
+mod memo_limits;
+mod memo_policy;
 mod names;
 mod pass;
-mod room;
 mod step_judge;
 mod steps;
-mod usage;
 
 pub use judge::TextJudge;
-pub use room::MOST_JUDGES;
+pub use memo_limits::MOST_JUDGES;

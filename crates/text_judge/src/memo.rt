@@ -7,7 +7,7 @@ ghost use Rattle.std.specs.Prelude.{◌≡◌, ◌+◌, ◌<◌, ◌≤◌, ◌^
 ghost use Rattle.strips_judge.specs.Codes.{code_shown};
 ghost use Rattle.text_judge.specs.Known.{known_at, IsEntry, IsEntryFor};
 
-use crate::room::Room;
+use crate::memo_limits::MemoLimits;
 use pddl_words::{KeyedHash, are_same};
 use std::alloc::{AllocError, Global};
 use std::hash::BuildHasher;
@@ -46,7 +46,7 @@ pub(crate) struct KnownStep<'m> {
 #[derive(Drop)]
 pub(crate) struct Memo {
     hash: KeyedHash,
-    room: Room,
+    limits: MemoLimits,
     /// All keys.
     bytes: Vec<u8>,
     /// All codes.
@@ -69,7 +69,7 @@ impl Model for Memo {
 
 impl Memo {
     /// No step is known. Takes no memory.
-    pub(crate) fn new(alloc: Global, seed: Seed, room: Room) -> Self
+    pub(crate) fn new(alloc: Global, seed: Seed, limits: MemoLimits) -> Self
         ensures { result ≡ [] }
     {
         Memo {
@@ -77,7 +77,7 @@ impl Memo {
                 start: seed.hash_one(&0u64),
                 by: seed.hash_one(&1u64),
             },
-            room,
+            limits,
             bytes: Vec::new(alloc),
             numbers: Vec::new(alloc),
             entries: Vec::new(alloc),
@@ -128,11 +128,11 @@ impl Memo {
             code,
             self.bytes.len(),
             self.numbers.len(),
-            self.room,
+            self.limits,
         ) else {
             return Ok(false);
         };
-        if self.entries.len() >= self.room.codes {
+        if self.entries.len() >= self.limits.codes {
             return Ok(false);
         }
         self.bytes.reserve(key.len())?;
@@ -215,25 +215,25 @@ fn entry_for(
     code: StepCode<'_>,
     bytes: usize,
     numbers: usize,
-    room: Room,
+    limits: MemoLimits,
 ) -> Option<Entry>
     ensures { IfSome result (λ entry. IsEntryFor entry bytes numbers key.now (code_shown code.entry) amount) }
 {
-    let key_start = end_of(0, bytes, room.key_bytes)?;
-    let start = end_of(0, numbers, room.numbers)?;
-    let needed_end = end_of(start, code.needed.len(), room.numbers)?;
-    let forbidden_end = end_of(needed_end, code.forbidden.len(), room.numbers)?;
-    let deleted_end = end_of(forbidden_end, code.deleted.len(), room.numbers)?;
+    let key_start = end_of(0, bytes, limits.key_bytes)?;
+    let start = end_of(0, numbers, limits.numbers)?;
+    let needed_end = end_of(start, code.needed.len(), limits.numbers)?;
+    let forbidden_end = end_of(needed_end, code.forbidden.len(), limits.numbers)?;
+    let deleted_end = end_of(forbidden_end, code.deleted.len(), limits.numbers)?;
     Some(Entry {
         hash,
         amount,
         key_start,
-        key_end: end_of(key_start, key.len(), room.key_bytes)?,
+        key_end: end_of(key_start, key.len(), limits.key_bytes)?,
         start,
         needed_end,
         forbidden_end,
         deleted_end,
-        end: end_of(deleted_end, code.added.len(), room.numbers)?,
+        end: end_of(deleted_end, code.added.len(), limits.numbers)?,
     })
 }
 

@@ -91,13 +91,13 @@ fn take_spelled(
     ensures stays { IfOk result (λ taken. taken ≡ false → walk.new ≡ walk.old) }
     ensures not { IfOk result (λ taken. taken ≡ false → (steps : List StepText) → HasTaken judge.old steps → HasTaken judge.new steps) }
 {
-    let Some(group) = walk.next_group() else {
+    let Some(range) = walk.next_range() else {
         return Ok(false);
     };
-    if !judge.take_spelled(alloc, group.key)? {
+    if !judge.take_spelled(alloc, range.key)? {
         return Ok(false);
     }
-    walk.skip(group);
+    walk.skip(range);
     Ok(true)
 }
 

@@ -14,10 +14,10 @@ ghost use Rattle.text_judge.specs.Passes.{FailsNext};
 
 use crate::amounts::{added, amount_of, cost_beside, initial_of, numbered_amount};
 use crate::memo::Memo;
+use crate::memo_limits::MemoLimits;
+use crate::memo_policy::MemoPolicy;
 use crate::names::number_names;
-use crate::room::Room;
 use crate::steps::{NewStep, take_new, take_remembered};
-use crate::usage::Usage;
 use plan_cost::{Assessment, CostScratch, CostedTask};
 use std::alloc::{AllocError, Global};
 use std::marker::Model;
@@ -38,7 +38,7 @@ const LATER_TO_LEARN: usize = 32_768;
 #[derive(Drop)]
 pub(crate) struct Judge<'t> {
     task: &'t CostedTask,
-    room: Room,
+    limits: MemoLimits,
     state: NumberedState<'t>,
     memo: Memo,
     /// The numbers of the step that is being taken.
@@ -48,7 +48,7 @@ pub(crate) struct Judge<'t> {
     cost_scratch: CostScratch,
     cost: Option<u128>,
     count: usize,
-    usage: Usage,
+    policy: MemoPolicy,
 }
 
 impl<'t> Model for Judge<'t> {
@@ -75,21 +75,21 @@ impl<'t> Judge<'t> {
         ensures begun { IfOk result (λ judge. HasTaken judge []) }
     {
         let initial = task.task.initial_atoms();
-        let room = Room::of_each(judges);
+        let limits = MemoLimits::of_each(judges);
         let objects = task.task.object_count();
-        let state = NumberedState::new(alloc, initial, objects, room.cells)?;
+        let state = NumberedState::new(alloc, initial, objects, limits.cells)?;
         Ok(Judge {
             task,
-            room,
+            limits,
             state,
-            memo: Memo::new(alloc, initial.seed(), room),
+            memo: Memo::new(alloc, initial.seed(), limits),
             numbers: Vec::new(alloc),
             code: CodeBuffer::new(alloc),
             scratch: Scratch::new(alloc),
             cost_scratch: CostScratch::new(alloc),
             cost: Some(u128::from(initial_of(alloc, task))),
             count: 0,
-            usage: Usage::new(),
+            policy: MemoPolicy::new(),
         })
     }
 
@@ -102,7 +102,7 @@ impl<'t> Judge<'t> {
         ensures begun { OnOk result (HasTaken self.new []) }
     {
         self.start_over(alloc)?;
-        self.usage.begin();
+        self.policy.begin();
         self.cost = Some(u128::from(initial_of(alloc, self.task)));
         self.count = 0;
         Ok(())
@@ -127,7 +127,7 @@ impl<'t> Judge<'t> {
     {
         let initial = self.task.task.initial_atoms();
         let objects = self.task.task.object_count();
-        let state = NumberedState::new(alloc, initial, objects, self.room.cells)?;
+        let state = NumberedState::new(alloc, initial, objects, self.limits.cells)?;
         self.memo.clear();
         self.state = state;
         Ok(())
@@ -169,11 +169,11 @@ impl<'t> Judge<'t> {
         ensures not { result ≡ false → (steps : List StepText) → HasTaken self.old steps → HasTaken self.new steps }
         ensures count { result ≡ false → self.new.count ≡ self.old.count }
     {
-        if !self.usage.asks() {
+        if !self.policy.asks() {
             return false;
         }
         let found = take_remembered(self.task, &self.memo, &mut self.state, key);
-        self.usage.note(found.is_some());
+        self.policy.note(found.is_some());
         let Some(amount) = found else {
             return false;
         };
@@ -226,7 +226,7 @@ impl<'t> Judge<'t> {
 
     /// Whether steps may be learned: only if known steps are being found, and not too many atoms have numbers.
     fn may_learn(&self) -> bool {
-        self.usage.asks() && self.state.later_len() <= LATER_TO_LEARN
+        self.policy.asks() && self.state.later_len() <= LATER_TO_LEARN
     }
 
     /// Takes a step if it is applicable, and otherwise returns why it is not.

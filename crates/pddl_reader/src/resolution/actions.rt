@@ -35,7 +35,7 @@ pub(crate) struct Effects {
 }
 
 /// The condition that an equality of an action stands for, or with `positive` false its negation.
-#[tactic(auto, using(crate::proofs::DeclarationSteps::equality_steps))]
+#[tactic(auto, using(crate::proofs::DeclarationLemmas::equality_steps))]
 fn equality_condition(
     alloc: Global,
     known: &Declared<'_>,
@@ -56,7 +56,7 @@ fn equality_condition(
 }
 
 /// The condition that a literal of an action stands for.
-#[tactic(auto, using(crate::proofs::DeclarationSteps::condition_steps))]
+#[tactic(auto, using(crate::proofs::DeclarationLemmas::condition_steps))]
 fn condition(
     alloc: Global,
     known: &Declared<'_>,
@@ -80,7 +80,7 @@ fn condition(
 }
 
 /// The conditions that literals of an action stand for.
-#[tactic(auto, using(crate::proofs::DeclarationSteps::conditions_steps))]
+#[tactic(auto, using(crate::proofs::DeclarationLemmas::conditions_steps))]
 fn conditions(
     alloc: Global,
     known: &Declared<'_>,

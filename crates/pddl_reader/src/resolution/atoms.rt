@@ -17,7 +17,7 @@ use std::alloc::Global;
 use strips_task::{Alternatives, Atom, NameTable, Pattern, Seq};
 
 /// The types of a predicate's arguments.
-#[tactic(auto, using(crate::proofs::AtomSteps::argument_types_steps))]
+#[tactic(auto, using(crate::proofs::AtomLemmas::argument_types_steps))]
 fn argument_types_of(
     predicates: &NameTable<Seq<Alternatives>>,
     number: u16,
@@ -31,7 +31,7 @@ fn argument_types_of(
 }
 
 /// The ground atom that an atom of a problem stands for.
-#[tactic(auto, using(crate::proofs::AtomSteps::ground_steps))]
+#[tactic(auto, using(crate::proofs::AtomLemmas::ground_steps))]
 pub(crate) fn ground_atom(
     alloc: Global,
     known: &Declared<'_>,
@@ -46,7 +46,7 @@ pub(crate) fn ground_atom(
 }
 
 /// The pattern that an atom of an action stands for.
-#[tactic(auto, using(crate::proofs::AtomSteps::pattern_steps))]
+#[tactic(auto, using(crate::proofs::AtomLemmas::pattern_steps))]
 pub(crate) fn pattern(
     alloc: Global,
     known: &Declared<'_>,

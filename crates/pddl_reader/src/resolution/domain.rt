@@ -81,7 +81,7 @@ impl Domain {
 }
 
 /// Declares one more predicate.
-#[tactic(auto, using(crate::proofs::DeclarationSteps::predicate_steps))]
+#[tactic(auto, using(crate::proofs::DeclarationLemmas::predicate_steps))]
 fn declare_predicate(
     alloc: Global,
     types: &NameTable<()>,
@@ -102,7 +102,7 @@ fn declare_predicate(
 }
 
 /// Declares the predicates.
-#[tactic(auto, using(crate::proofs::Through::through_steps, crate::proofs::DeclarationSteps::predicates_steps))]
+#[tactic(auto, using(crate::proofs::Through::through_steps, crate::proofs::DeclarationLemmas::predicates_steps))]
 fn predicates(
     alloc: Global,
     types: &NameTable<()>,

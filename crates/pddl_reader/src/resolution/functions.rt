@@ -32,7 +32,7 @@ fn total_cost(functions: &Predicates) -> Option<usize>
 }
 
 /// Tests that a function of this name may have these variables: `total-cost` has none.
-#[tactic(auto, using(crate::proofs::FunctionSteps::variables_steps))]
+#[tactic(auto, using(crate::proofs::FunctionLemmas::variables_steps))]
 fn check_variables(
     name: &Name,
     word: NameWord<'_>,
@@ -50,7 +50,7 @@ fn check_variables(
 }
 
 /// Declares one more function.
-#[tactic(auto, using(crate::proofs::FunctionSteps::function_steps))]
+#[tactic(auto, using(crate::proofs::FunctionLemmas::function_steps))]
 fn declare_function(
     alloc: Global,
     types: &NameTable<()>,
@@ -72,7 +72,7 @@ fn declare_function(
 }
 
 /// Declares the functions.
-#[tactic(auto, using(crate::proofs::Through::through_steps, crate::proofs::FunctionSteps::functions_steps))]
+#[tactic(auto, using(crate::proofs::Through::through_steps, crate::proofs::FunctionLemmas::functions_steps))]
 pub(crate) fn functions(
     alloc: Global,
     types: &NameTable<()>,
@@ -90,7 +90,7 @@ pub(crate) fn functions(
 }
 
 /// The amount that an increase names.
-#[tactic(auto, using(crate::proofs::FunctionSteps::amount_steps))]
+#[tactic(auto, using(crate::proofs::FunctionLemmas::amount_steps))]
 fn amount(
     alloc: Global,
     functions: &Declared<'_>,
@@ -113,7 +113,7 @@ fn amount(
 }
 
 /// Appends an increase to those of an action.
-#[tactic(auto, using(crate::proofs::FunctionSteps::increase_steps))]
+#[tactic(auto, using(crate::proofs::FunctionLemmas::increase_steps))]
 pub(crate) fn put_increase(
     alloc: Global,
     vocabulary: &Vocabulary<'_>,
@@ -136,7 +136,7 @@ pub(crate) fn put_increase(
 }
 
 /// What a task says about costs, if `total-cost` is declared.
-#[tactic(auto, using(crate::proofs::FunctionSteps::costs_steps))]
+#[tactic(auto, using(crate::proofs::FunctionLemmas::costs_steps))]
 pub(crate) fn costs(
     functions: &Predicates,
     increases: Seq<Increases>,

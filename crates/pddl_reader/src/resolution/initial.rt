@@ -30,7 +30,7 @@ pub(crate) struct InitialState {
 }
 
 /// Appends an initial atom. A negated one is looked up but not kept.
-#[tactic(auto, using(crate::proofs::InitialSteps::atom_steps))]
+#[tactic(auto, using(crate::proofs::InitialLemmas::atom_steps))]
 fn put_atom(
     alloc: Global,
     known: &Declared<'_>,
@@ -48,7 +48,7 @@ fn put_atom(
 }
 
 /// Gives a function a value, unless it has another.
-#[tactic(auto, using(crate::proofs::InitialSteps::value_steps))]
+#[tactic(auto, using(crate::proofs::InitialLemmas::value_steps))]
 fn put_value(
     alloc: Global,
     functions: &Declared<'_>,
@@ -66,7 +66,7 @@ fn put_value(
 }
 
 /// Adds what an initial literal gives.
-#[tactic(auto, using(crate::proofs::InitialSteps::literal_steps))]
+#[tactic(auto, using(crate::proofs::InitialLemmas::literal_steps))]
 fn put_initial(
     alloc: Global,
     vocabulary: &Vocabulary<'_>,
@@ -136,7 +136,7 @@ fn put_row(
 }
 
 /// What the initial literals of a problem of `size` bytes give. No answer depends on the size.
-#[tactic(auto, using(crate::proofs::Through::through_steps, crate::proofs::InitialSteps::initial_steps))]
+#[tactic(auto, using(crate::proofs::Through::through_steps, crate::proofs::InitialLemmas::initial_steps))]
 pub(crate) fn initial(
     alloc: Global,
     vocabulary: &Vocabulary<'_>,

@@ -22,7 +22,7 @@ pub(crate) fn name(alloc: Global, word: NameWord<'_>) -> Result<Name, ReadFault>
 }
 
 /// The number of the entry that a word names. A word that is written like the entry, in lower case, takes no memory.
-#[tactic(auto, using(crate::proofs::TableSteps::named_as_written))]
+#[tactic(auto, using(crate::proofs::TableLemmas::named_as_written))]
 pub(crate) fn number_of<V>(
     alloc: Global,
     table: &NameTable<V>,
@@ -47,7 +47,7 @@ pub(crate) fn is_same_name(one: &Name, other: &Name) -> bool
 
 /// Tests that one more predicate, function or action may be declared under a name. There may be as many functions, and as many actions, as
 /// predicates.
-#[tactic(auto, using(crate::proofs::TableSteps::may_steps))]
+#[tactic(auto, using(crate::proofs::TableLemmas::may_steps))]
 pub(crate) fn check_new<V>(
     table: &NameTable<V>,
     name: &Name,
@@ -65,7 +65,7 @@ pub(crate) fn check_new<V>(
 }
 
 /// Whether the predicate with a number takes `count` terms.
-#[tactic(auto, using(crate::proofs::TableSteps::argument_types_counted))]
+#[tactic(auto, using(crate::proofs::TableLemmas::argument_types_counted))]
 fn takes_terms(predicates: &NameTable<Seq<Alternatives>>, number: usize, count: usize) -> bool
     requires { number < length predicates.now }
     ensures { result ≡ takes_terms predicates.now number count }
@@ -74,7 +74,7 @@ fn takes_terms(predicates: &NameTable<Seq<Alternatives>>, number: usize, count: 
 }
 
 /// The number of the predicate of an atom, which takes as many terms as the atom has.
-#[tactic(auto, using(crate::proofs::TableSteps::number_steps))]
+#[tactic(auto, using(crate::proofs::TableLemmas::number_steps))]
 pub(crate) fn predicate_number(
     alloc: Global,
     predicates: &NameTable<Seq<Alternatives>>,

@@ -19,7 +19,7 @@ use strips_task::{MOST_OBJECTS, Name, NameTable};
 const NO_TYPE: u16 = u16::MAX;
 
 /// The number of the type that a word names, if there is one.
-#[tactic(auto, using(crate::proofs::ObjectSteps::type_steps))]
+#[tactic(auto, using(crate::proofs::ObjectLemmas::type_steps))]
 pub(crate) fn type_number(
     alloc: Global,
     types: &NameTable<()>,
@@ -36,7 +36,7 @@ pub(crate) fn type_number(
 
 /// Declares an object in a full table: one that is declared already with the same type.
 #[inline(never)]
-#[tactic(auto, using(crate::proofs::ObjectSteps::object_steps))]
+#[tactic(auto, using(crate::proofs::ObjectLemmas::object_steps))]
 fn declare_in_full(
     objects: &NameTable<u16>,
     name: &Name,
@@ -58,7 +58,7 @@ fn declare_in_full(
 }
 
 /// Declares an object with its type.
-#[tactic(auto, using(crate::proofs::ObjectSteps::object_steps))]
+#[tactic(auto, using(crate::proofs::ObjectLemmas::object_steps))]
 #[inline(always)]
 fn declare_object(
     alloc: Global,
@@ -80,7 +80,7 @@ fn declare_object(
 }
 
 /// Declares objects with one type. There is room for all of them beforehand, as far as a table may hold them.
-#[tactic(auto, using(crate::proofs::Through::through_steps, crate::proofs::ObjectSteps::named_steps))]
+#[tactic(auto, using(crate::proofs::Through::through_steps, crate::proofs::ObjectLemmas::named_steps))]
 fn declare_objects(
     alloc: Global,
     objects: &mut NameTable<u16>,
@@ -98,7 +98,7 @@ fn declare_objects(
 }
 
 /// Declares the objects of a group.
-#[tactic(auto, using(crate::proofs::ObjectSteps::group_steps))]
+#[tactic(auto, using(crate::proofs::ObjectLemmas::group_steps))]
 fn declare_group(
     alloc: Global,
     types: &NameTable<()>,
@@ -118,7 +118,7 @@ fn declare_group(
 }
 
 /// Declares the objects of all groups, after those that are declared already.
-#[tactic(auto, using(crate::proofs::Through::through_steps, crate::proofs::ObjectSteps::groups_steps))]
+#[tactic(auto, using(crate::proofs::Through::through_steps, crate::proofs::ObjectLemmas::groups_steps))]
 fn declare_groups(
     alloc: Global,
     types: &NameTable<()>,

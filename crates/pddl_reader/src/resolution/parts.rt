@@ -30,7 +30,7 @@ pub(crate) fn part_literals<'a>(part: &Option<Literals<'a>>) -> Literals<'a>
 }
 
 /// The variables of a part, none if it is not given.
-#[tactic(auto, using(pddl_syntax::proofs::VariableSteps::no_groups))]
+#[tactic(auto, using(pddl_syntax::proofs::VariableLemmas::no_groups))]
 pub(crate) fn part_variables<'a>(
     alloc: Global,
     part: &Option<VariableList<'a>>,

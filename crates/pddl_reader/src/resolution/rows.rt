@@ -28,7 +28,7 @@ const BATCH: usize = 32;
 const PARTS: usize = 8;
 
 /// The number of the predicate that a word names as it is written. Then it is a name.
-#[tactic(auto, using(crate::proofs::TableSteps::named_as_written))]
+#[tactic(auto, using(crate::proofs::TableLemmas::named_as_written))]
 #[inline(always)]
 fn predicate_as_written(known: &Declared<'_>, word: &[u8]) -> Option<u16>
     ensures { IfSome result (λ number. (is_name word.now ≡ true) × (row_number (known_form known.now) true word.now ≡ Some number)) }
@@ -40,7 +40,7 @@ fn predicate_as_written(known: &Declared<'_>, word: &[u8]) -> Option<u16>
 }
 
 /// The number of the object that a word names as it is written. Then it is a name.
-#[tactic(auto, using(crate::proofs::TableSteps::named_as_written))]
+#[tactic(auto, using(crate::proofs::TableLemmas::named_as_written))]
 #[inline(always)]
 fn object_as_written(known: &Declared<'_>, word: &[u8]) -> Option<u16>
     ensures { IfSome result (λ number. (is_name word.now ≡ true) × (row_number (known_form known.now) false word.now ≡ Some number)) }
@@ -248,7 +248,7 @@ pub(crate) fn put_keys(
     let new = list.distinct().surely_new(keys);
     list.expect(room_for(list.distinct_len(), new, expected));
     for key in keys {
-        list.push_few(*key)?;
+        list.push_packed(*key)?;
     }
     Ok(())
 }

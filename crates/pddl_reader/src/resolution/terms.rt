@@ -15,7 +15,7 @@ use std::alloc::Global;
 use strips_task::{Alternatives, NameTable, ShortSeq, Term, object_fits, term_fits};
 
 /// The number of the object that a word names.
-#[tactic(auto, using(crate::proofs::TermSteps::object_steps))]
+#[tactic(auto, using(crate::proofs::TermLemmas::object_steps))]
 fn object_number(
     alloc: Global,
     objects: &NameTable<u16>,
@@ -31,7 +31,7 @@ fn object_number(
 }
 
 /// The object that a word names, of whatever type.
-#[tactic(auto, using(crate::proofs::TermSteps::object_steps))]
+#[tactic(auto, using(crate::proofs::TermLemmas::object_steps))]
 pub(crate) fn object(alloc: Global, known: &Declared<'_>, word: Word<'_>) -> Result<u16, ReadFault>
     ensures { Gives (λ number. number) result (object_number known.now.objects.now word.entry.text.now) }
 {
@@ -42,7 +42,7 @@ pub(crate) fn object(alloc: Global, known: &Declared<'_>, word: Word<'_>) -> Res
 }
 
 /// The object that a word names, if it fits its argument.
-#[tactic(auto, using(crate::proofs::TermSteps::fitting_object_steps))]
+#[tactic(auto, using(crate::proofs::TermLemmas::fitting_object_steps))]
 fn fitting_object(
     alloc: Global,
     known: &Declared<'_>,
@@ -59,7 +59,7 @@ fn fitting_object(
 }
 
 /// The objects that words name, if each fits its argument.
-#[tactic(auto, using(crate::proofs::TermSteps::fitted_steps))]
+#[tactic(auto, using(crate::proofs::TermLemmas::fitted_steps))]
 pub(crate) fn fitting_objects(
     alloc: Global,
     known: &Declared<'_>,
@@ -78,7 +78,7 @@ pub(crate) fn fitting_objects(
 }
 
 /// The term that a word stands for in an action, of whatever type.
-#[tactic(auto, using(crate::proofs::TermSteps::term_steps))]
+#[tactic(auto, using(crate::proofs::TermLemmas::term_steps))]
 pub(crate) fn term(
     alloc: Global,
     known: &Declared<'_>,
@@ -98,7 +98,7 @@ pub(crate) fn term(
 }
 
 /// The term that a word stands for in an action, if it fits its argument.
-#[tactic(auto, using(crate::proofs::TermSteps::fitting_term_steps))]
+#[tactic(auto, using(crate::proofs::TermLemmas::fitting_term_steps))]
 fn fitting_term(
     alloc: Global,
     known: &Declared<'_>,
@@ -123,7 +123,7 @@ fn fitting_term(
 }
 
 /// The terms that words stand for in an action, if each fits its argument.
-#[tactic(auto, using(crate::proofs::TermSteps::fitted_steps))]
+#[tactic(auto, using(crate::proofs::TermLemmas::fitted_steps))]
 pub(crate) fn fitting_terms(
     alloc: Global,
     known: &Declared<'_>,

@@ -23,7 +23,7 @@ pub(crate) struct TypeTables {
 }
 
 /// Numbers a type where its name first appears.
-#[tactic(auto, using(crate::proofs::TypeSteps::number_steps))]
+#[tactic(auto, using(crate::proofs::TypeLemmas::number_steps))]
 fn number(alloc: Global, names: &mut NameTable<()>, word: NameWord<'_>) -> Result<(), ReadFault>
     ensures { Puts result (numbered names.old (folded word.entry.text.now)) names.new }
 {
@@ -61,7 +61,7 @@ fn counts_as_parent(dialect: Dialect, parent: &Name) -> bool
 }
 
 /// Declares a type under its parent, if that counts.
-#[tactic(auto, using(crate::proofs::TypeSteps::under_steps))]
+#[tactic(auto, using(crate::proofs::TypeLemmas::under_steps))]
 fn declare_under(
     alloc: Global,
     dialect: Dialect,
@@ -87,7 +87,7 @@ fn declare_under(
 }
 
 /// Declares a type of a group.
-#[tactic(auto, using(crate::proofs::TypeSteps::type_steps))]
+#[tactic(auto, using(crate::proofs::TypeLemmas::type_steps))]
 fn declare_type(
     alloc: Global,
     dialect: Dialect,
@@ -102,7 +102,7 @@ fn declare_type(
 }
 
 /// Declares types under one parent.
-#[tactic(auto, using(crate::proofs::Through::through_steps, crate::proofs::ObjectSteps::named_steps))]
+#[tactic(auto, using(crate::proofs::Through::through_steps, crate::proofs::ObjectLemmas::named_steps))]
 fn declare_types(
     alloc: Global,
     dialect: Dialect,
@@ -119,7 +119,7 @@ fn declare_types(
 }
 
 /// Declares the types of a group.
-#[tactic(auto, using(crate::proofs::TypeSteps::group_steps))]
+#[tactic(auto, using(crate::proofs::TypeLemmas::group_steps))]
 fn declare_group(
     alloc: Global,
     dialect: Dialect,
@@ -146,7 +146,7 @@ fn object_alone(alloc: Global, seed: Seed) -> Result<TypeTables, AllocError>
 }
 
 /// Declares the types of all groups.
-#[tactic(auto, using(crate::proofs::Through::through_steps, crate::proofs::ObjectSteps::groups_steps))]
+#[tactic(auto, using(crate::proofs::Through::through_steps, crate::proofs::ObjectLemmas::groups_steps))]
 fn declare_groups(
     alloc: Global,
     dialect: Dialect,
@@ -162,7 +162,7 @@ fn declare_groups(
 }
 
 /// The name of the parent of a type: `object` if the type is not declared.
-#[tactic(auto, using(crate::proofs::TypeSteps::parent_steps))]
+#[tactic(auto, using(crate::proofs::TypeLemmas::parent_steps))]
 fn parent_name<'t>(parents: &'t NameTable<Name>, name: &Name) -> &'t [u8]
     ensures { result.now ≡ parent_name parents.now name.now }
 {
@@ -173,7 +173,7 @@ fn parent_name<'t>(parents: &'t NameTable<Name>, name: &Name) -> &'t [u8]
 }
 
 /// The number of the parent of a type.
-#[tactic(auto, using(crate::proofs::TypeSteps::parent_number_steps))]
+#[tactic(auto, using(crate::proofs::TypeLemmas::parent_number_steps))]
 fn parent_number(tables: &TypeTables, name: &Name) -> u16
     requires { length tables.now.names ≤ most_types }
     ensures { result ≡ parent_number tables.now name.now }
@@ -185,7 +185,7 @@ fn parent_number(tables: &TypeTables, name: &Name) -> u16
 }
 
 /// For each type the number of its parent.
-#[tactic(auto, using(crate::proofs::TypeSteps::parents_steps))]
+#[tactic(auto, using(crate::proofs::TypeLemmas::parents_steps))]
 fn parents(alloc: Global, tables: &TypeTables) -> Result<TypeList, AllocError>
     requires { length tables.now.names ≤ most_types }
     ensures { IfOk result (λ parents. parents ≡ parents_of tables.now) }
@@ -208,7 +208,7 @@ fn is_under_itself(parents: &TypeList, number: usize) -> bool
 }
 
 /// Whether a word names a type under itself.
-#[tactic(auto, using(crate::proofs::TypeSteps::cycle_steps))]
+#[tactic(auto, using(crate::proofs::TypeLemmas::cycle_steps))]
 fn names_cycle(
     alloc: Global,
     names: &NameTable<()>,
@@ -226,7 +226,7 @@ fn names_cycle(
 }
 
 /// The first of the words that names a type under itself.
-#[tactic(auto, using(crate::proofs::TypeSteps::cycle_word_steps))]
+#[tactic(auto, using(crate::proofs::TypeLemmas::cycle_word_steps))]
 fn first_in_group<'a>(
     alloc: Global,
     names: &NameTable<()>,
@@ -246,7 +246,7 @@ fn first_in_group<'a>(
 }
 
 /// The first type that a group declares under itself, if its declarations count.
-#[tactic(auto, using(crate::proofs::TypeSteps::group_cycle_steps))]
+#[tactic(auto, using(crate::proofs::TypeLemmas::group_cycle_steps))]
 fn first_in_cycle<'a>(
     alloc: Global,
     dialect: Dialect,
@@ -266,7 +266,7 @@ fn first_in_cycle<'a>(
 }
 
 /// The first declared type, in text order, that is under itself.
-#[tactic(auto, using(crate::proofs::TypeSteps::cycle_group_steps))]
+#[tactic(auto, using(crate::proofs::TypeLemmas::cycle_group_steps))]
 fn first_under_itself<'a>(
     alloc: Global,
     dialect: Dialect,
@@ -287,7 +287,7 @@ fn first_under_itself<'a>(
 }
 
 /// The order of the types. If their parents form no tree, the fault is at the first declared type that is under itself.
-#[tactic(auto, using(crate::proofs::CycleSteps::order_steps))]
+#[tactic(auto, using(crate::proofs::CycleLemmas::order_steps))]
 fn order(
     alloc: Global,
     dialect: Dialect,
@@ -307,7 +307,7 @@ fn order(
 }
 
 /// The types that groups declare.
-#[tactic(auto, using(crate::proofs::TypeSteps::declared_steps))]
+#[tactic(auto, using(crate::proofs::TypeLemmas::declared_steps))]
 fn tables(
     alloc: Global,
     seed: Seed,
@@ -330,7 +330,7 @@ pub(crate) struct KnownTypes {
 }
 
 /// The types that the groups of a domain declare.
-#[tactic(auto, using(crate::proofs::TypeSteps::types_steps))]
+#[tactic(auto, using(crate::proofs::TypeLemmas::types_steps))]
 pub(crate) fn types(
     alloc: Global,
     seed: Seed,

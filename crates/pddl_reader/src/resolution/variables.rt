@@ -39,7 +39,7 @@ fn alternatives(
 }
 
 /// A copy of the types.
-fn copy(alloc: Global, types: &Alternatives) -> Result<Alternatives, AllocError>
+fn try_clone(alloc: Global, types: &Alternatives) -> Result<Alternatives, AllocError>
     ensures { IfOk result (λ copy. copy ≡ types.now) }
 {
     let mut numbers = Vec::new(alloc);
@@ -58,7 +58,7 @@ fn put_argument_types(
     ensures { OnOk result (argument_types.new ≡ argument_types_with argument_types.old (word_forms variables.now) types.now) }
 {
     'variables: for _ in variables {
-        argument_types.push(copy(alloc, types)?)?;
+        argument_types.push(try_clone(alloc, types)?)?;
     }
     Ok(())
 }

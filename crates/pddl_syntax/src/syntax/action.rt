@@ -18,7 +18,7 @@ use crate::walk::{Item, NameWord, Walk};
 use std::alloc::Global;
 
 /// Whether the part is given already.
-#[tactic(auto, unfolding(crate::specs::Syntax::is_part_given, crate::specs::Forms::parts_form), using(crate::proofs::ActionSteps::given_steps))]
+#[tactic(auto, unfolding(crate::specs::Syntax::is_part_given, crate::specs::Forms::parts_form), using(crate::proofs::ActionLemmas::given_steps))]
 fn is_given(parts: &ActionParts<'_>, part: ActionPart) -> bool
     ensures { result ≡ is_part_given part (parts_form parts.now) }
 {
@@ -30,7 +30,7 @@ fn is_given(parts: &ActionParts<'_>, part: ActionPart) -> bool
 }
 
 /// Reads the value of a part.
-#[tactic(auto, using(crate::proofs::ActionSteps::part_steps), unfolding(crate::specs::Forms::parts_form))]
+#[tactic(auto, using(crate::proofs::ActionLemmas::part_steps), unfolding(crate::specs::Forms::parts_form))]
 fn part<'a>(
     alloc: Global,
     dialect: Dialect,
@@ -56,7 +56,7 @@ fn part<'a>(
 }
 
 /// Reads the parts of an action.
-#[tactic(auto, using(crate::proofs::ActionSteps::parts_steps))]
+#[tactic(auto, using(crate::proofs::ActionLemmas::parts_steps))]
 fn parts<'a>(
     alloc: Global,
     dialect: Dialect,
@@ -88,7 +88,7 @@ fn parts<'a>(
 }
 
 /// Reads an action after its keyword.
-#[tactic(auto, using(crate::proofs::ActionSteps::action_steps))]
+#[tactic(auto, using(crate::proofs::ActionLemmas::action_steps))]
 pub(crate) fn action<'a>(
     alloc: Global,
     dialect: Dialect,

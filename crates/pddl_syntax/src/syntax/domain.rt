@@ -22,7 +22,7 @@ use pddl_tokens::same_folded;
 use std::alloc::Global;
 
 /// Reads the variables that a predicate or a function declares.
-#[tactic(auto, using(crate::proofs::DomainSteps::predicate_of_steps))]
+#[tactic(auto, using(crate::proofs::DomainLemmas::predicate_of_steps))]
 fn predicate_variables<'a>(
     alloc: Global,
     walk: &mut Walk<'a>,
@@ -35,7 +35,7 @@ fn predicate_variables<'a>(
 }
 
 /// Reads the declaration of a predicate or a function.
-#[tactic(auto, using(crate::proofs::DomainSteps::predicate_in_steps))]
+#[tactic(auto, using(crate::proofs::DomainLemmas::predicate_in_steps))]
 fn predicate<'a>(alloc: Global, walk: &mut Walk<'a>) -> Result<PredicateSyntax<'a>, ReadFault>
     ensures { ReadsList predicate_form result predicate_in (here walk.old.cursor) (here walk.new.cursor) }
 {
@@ -53,7 +53,7 @@ fn predicate<'a>(alloc: Global, walk: &mut Walk<'a>) -> Result<PredicateSyntax<'
 }
 
 /// Reads the declarations of predicates.
-#[tactic(auto, using(crate::proofs::DomainSteps::predicates_steps))]
+#[tactic(auto, using(crate::proofs::DomainLemmas::predicates_steps))]
 fn predicates<'a>(alloc: Global, walk: &mut Walk<'a>) -> Result<Vec<PredicateSyntax<'a>>, ReadFault>
     ensures { ReadsList (λ v. predicate_forms v.items) result (lists_of predicate_in) (here walk.old.cursor) (here walk.new.cursor) }
 {
@@ -68,7 +68,7 @@ fn predicates<'a>(alloc: Global, walk: &mut Walk<'a>) -> Result<Vec<PredicateSyn
 }
 
 /// Steps over the word `number`, which is due as the type of functions.
-#[tactic(auto, using(crate::proofs::ListSteps::word_steps))]
+#[tactic(auto, using(crate::proofs::ListLemmas::word_steps))]
 fn number_type(walk: &mut Walk<'_>) -> Result<(), ReadFault>
     ensures { ReadsFront result (behind_word number_word) (here walk.old.cursor) (here walk.new.cursor) }
 {
@@ -85,7 +85,7 @@ fn number_type(walk: &mut Walk<'_>) -> Result<(), ReadFault>
 }
 
 /// Reads the declarations of functions, in groups that `- number` may end.
-#[tactic(auto, using(crate::proofs::FunctionSteps::functions_steps))]
+#[tactic(auto, using(crate::proofs::FunctionLemmas::functions_steps))]
 fn functions<'a>(alloc: Global, walk: &mut Walk<'a>) -> Result<Vec<PredicateSyntax<'a>>, ReadFault>
     ensures { ReadsList (λ v. predicate_forms v.items) result (functions_of false) (here walk.old.cursor) (here walk.new.cursor) }
 {
@@ -111,7 +111,7 @@ fn functions<'a>(alloc: Global, walk: &mut Walk<'a>) -> Result<Vec<PredicateSynt
 }
 
 /// Whether the section is given already, if it may be given only once.
-#[tactic(auto, unfolding(crate::specs::Syntax::is_domain_section_given, crate::specs::Forms::domain_sections_form), using(crate::proofs::ActionSteps::given_steps))]
+#[tactic(auto, unfolding(crate::specs::Syntax::is_domain_section_given, crate::specs::Forms::domain_sections_form), using(crate::proofs::ActionLemmas::given_steps))]
 fn is_given(sections: &DomainSections<'_>, section: DomainSection) -> bool
     ensures { result ≡ is_domain_section_given section (domain_sections_form sections.now) }
 {
@@ -126,7 +126,7 @@ fn is_given(sections: &DomainSections<'_>, section: DomainSection) -> bool
 }
 
 /// Reads what a section holds.
-#[tactic(auto, using(crate::proofs::DomainSteps::body_steps), unfolding(crate::specs::Forms::domain_sections_form))]
+#[tactic(auto, using(crate::proofs::DomainLemmas::body_steps), unfolding(crate::specs::Forms::domain_sections_form))]
 fn section_body<'a>(
     alloc: Global,
     dialect: Dialect,
@@ -152,7 +152,7 @@ fn section_body<'a>(
 }
 
 /// Reads a section after its `(`.
-#[tactic(auto, using(crate::proofs::DomainSteps::section_steps))]
+#[tactic(auto, using(crate::proofs::DomainLemmas::section_steps))]
 fn section<'a>(
     alloc: Global,
     dialect: Dialect,
@@ -178,7 +178,7 @@ fn section<'a>(
 }
 
 /// Reads the sections of a domain.
-#[tactic(auto, using(crate::proofs::DomainSteps::sections_steps))]
+#[tactic(auto, using(crate::proofs::DomainLemmas::sections_steps))]
 fn sections<'a>(
     alloc: Global,
     dialect: Dialect,
@@ -205,7 +205,7 @@ fn sections<'a>(
 }
 
 /// Reads a domain after the first `(` of its text.
-#[tactic(auto, using(crate::proofs::DomainSteps::domain_steps))]
+#[tactic(auto, using(crate::proofs::DomainLemmas::domain_steps))]
 pub(crate) fn domain<'a>(
     alloc: Global,
     dialect: Dialect,
@@ -221,7 +221,7 @@ pub(crate) fn domain<'a>(
 }
 
 /// Reads the domain that a text without a text fault holds.
-#[tactic(auto, using(crate::proofs::DomainSteps::domain_text_steps, crate::proofs::TextSteps::trees_here))]
+#[tactic(auto, using(crate::proofs::DomainLemmas::domain_text_steps, crate::proofs::TextLemmas::trees_here))]
 pub fn domain_text<'a>(
     alloc: Global,
     dialect: Dialect,

@@ -20,7 +20,7 @@ use pddl_tokens::{Span, same_folded};
 use pddl_words::billionths;
 
 /// Steps over terms to the end of their list.
-#[tactic(auto, using(crate::proofs::FormulaSteps::term_steps))]
+#[tactic(auto, using(crate::proofs::FormulaLemmas::term_steps))]
 fn terms(walk: &mut Walk<'_>, context: Context) -> Result<(), ReadFault>
     ensures { PassesList result (are_words (is_term context)) (here walk.old.cursor) (here walk.new.cursor) }
 {
@@ -38,7 +38,7 @@ fn terms(walk: &mut Walk<'_>, context: Context) -> Result<(), ReadFault>
 }
 
 /// Steps over a function and its terms.
-#[tactic(auto, using(crate::proofs::FormulaSteps::function_steps))]
+#[tactic(auto, using(crate::proofs::FormulaLemmas::function_steps))]
 fn function(walk: &mut Walk<'_>, context: Context) -> Result<(), ReadFault>
     ensures { PassesList result (is_function (is_term context)) (here walk.old.cursor) (here walk.new.cursor) }
 {
@@ -56,7 +56,7 @@ fn function(walk: &mut Walk<'_>, context: Context) -> Result<(), ReadFault>
 }
 
 /// Steps over a term on one side of the `=` at these bytes. Only words are compared.
-#[tactic(auto, using(crate::proofs::FormulaSteps::side_steps))]
+#[tactic(auto, using(crate::proofs::FormulaLemmas::side_steps))]
 fn side<'a>(walk: &mut Walk<'a>, context: Context, equals: Span) -> Result<Word<'a>, ReadFault>
     ensures { TakesWord result (is_term context) (here walk.old.cursor) (here walk.new.cursor) }
 {
@@ -73,7 +73,7 @@ fn side<'a>(walk: &mut Walk<'a>, context: Context, equals: Span) -> Result<Word<
 }
 
 /// Steps over the two terms after the `=` at these bytes.
-#[tactic(auto, using(crate::proofs::FormulaSteps::equality_steps))]
+#[tactic(auto, using(crate::proofs::FormulaLemmas::equality_steps))]
 fn equality(walk: &mut Walk<'_>, context: Context, equals: Span) -> Result<(), ReadFault>
     ensures { PassesList result (is_equality (is_term context)) (here walk.old.cursor) (here walk.new.cursor) }
 {
@@ -83,7 +83,7 @@ fn equality(walk: &mut Walk<'_>, context: Context, equals: Span) -> Result<(), R
 }
 
 /// Reads the number, in billionths, that is all that is left of a list.
-#[tactic(auto, using(crate::proofs::FormulaSteps::number_steps))]
+#[tactic(auto, using(crate::proofs::FormulaLemmas::number_steps))]
 fn number(walk: &mut Walk<'_>) -> Result<u64, ReadFault>
     ensures { ReadsList (λ n. n) result number_of (here walk.old.cursor) (here walk.new.cursor) }
 {
@@ -101,7 +101,7 @@ fn number(walk: &mut Walk<'_>) -> Result<u64, ReadFault>
 }
 
 /// Steps over the function that is raised, which is `total-cost`.
-#[tactic(auto, using(crate::proofs::FormulaSteps::target_steps))]
+#[tactic(auto, using(crate::proofs::FormulaLemmas::target_steps))]
 fn target(walk: &mut Walk<'_>) -> Result<(), ReadFault>
     ensures { PassesList result is_target (here walk.old.cursor) (here walk.new.cursor) }
 {
@@ -118,7 +118,7 @@ fn target(walk: &mut Walk<'_>) -> Result<(), ReadFault>
 }
 
 /// Steps over the amount that is all that is left of a list.
-#[tactic(auto, using(crate::proofs::FormulaSteps::amount_steps))]
+#[tactic(auto, using(crate::proofs::FormulaLemmas::amount_steps))]
 fn amount(walk: &mut Walk<'_>, context: Context) -> Result<(), ReadFault>
     ensures { PassesList result (is_amount (is_term context)) (here walk.old.cursor) (here walk.new.cursor) }
 {
@@ -138,7 +138,7 @@ fn amount(walk: &mut Walk<'_>, context: Context) -> Result<(), ReadFault>
 }
 
 /// Steps over what follows `increase`.
-#[tactic(auto, using(crate::proofs::FormulaSteps::increase_steps))]
+#[tactic(auto, using(crate::proofs::FormulaLemmas::increase_steps))]
 fn increase(walk: &mut Walk<'_>, context: Context) -> Result<(), ReadFault>
     ensures { PassesList result (is_increase (is_term context)) (here walk.old.cursor) (here walk.new.cursor) }
 {
@@ -148,7 +148,7 @@ fn increase(walk: &mut Walk<'_>, context: Context) -> Result<(), ReadFault>
 }
 
 /// Steps over a function and its value, after `=`.
-#[tactic(auto, using(crate::proofs::FormulaSteps::value_steps))]
+#[tactic(auto, using(crate::proofs::FormulaLemmas::value_steps))]
 fn value(walk: &mut Walk<'_>, context: Context) -> Result<(), ReadFault>
     ensures { PassesList result (is_value (is_term context)) (here walk.old.cursor) (here walk.new.cursor) }
 {
@@ -159,7 +159,7 @@ fn value(walk: &mut Walk<'_>, context: Context) -> Result<(), ReadFault>
 }
 
 /// Steps over what is in the parentheses after `not`.
-#[tactic(auto, using(crate::proofs::FormulaSteps::negated_in_steps))]
+#[tactic(auto, using(crate::proofs::FormulaLemmas::negated_in_steps))]
 fn negated_in(walk: &mut Walk<'_>, scope: Scope) -> Result<(), ReadFault>
     ensures { PassesList result (is_negated_in scope) (here walk.old.cursor) (here walk.new.cursor) }
 {
@@ -179,7 +179,7 @@ fn negated_in(walk: &mut Walk<'_>, scope: Scope) -> Result<(), ReadFault>
 }
 
 /// Steps over what `not` negates.
-#[tactic(auto, using(crate::proofs::FormulaSteps::negated_steps, crate::proofs::RowSteps::negation_steps))]
+#[tactic(auto, using(crate::proofs::FormulaLemmas::negated_steps, crate::proofs::RowLemmas::negation_steps))]
 fn negated(walk: &mut Walk<'_>, scope: Scope) -> Result<(), ReadFault>
     ensures { PassesList result (is_negated scope) (here walk.old.cursor) (here walk.new.cursor) }
 {
@@ -192,7 +192,7 @@ fn negated(walk: &mut Walk<'_>, scope: Scope) -> Result<(), ReadFault>
 }
 
 /// Steps over a literal after its first word.
-#[tactic(auto, using(crate::proofs::FormulaSteps::literal_steps))]
+#[tactic(auto, using(crate::proofs::FormulaLemmas::literal_steps))]
 pub(crate) fn literal(walk: &mut Walk<'_>, scope: Scope, head: Word<'_>) -> Result<(), ReadFault>
     ensures { PassesList result (is_literal scope head.entry.text.now) (here walk.old.cursor) (here walk.new.cursor) }
 {
@@ -209,25 +209,25 @@ pub(crate) fn literal(walk: &mut Walk<'_>, scope: Scope, head: Word<'_>) -> Resu
 
 /// Steps over the atom that follows, if it is written as names with a single space between each two, of which the first is not reserved. Returns
 /// whether it is.
-#[tactic(auto, using(crate::proofs::RowSteps::row_steps))]
+#[tactic(auto, using(crate::proofs::RowLemmas::row_steps))]
 #[inline(always)]
 pub(crate) fn pass_row(walk: &mut Walk<'_>) -> bool
     ensures passed { IsTrue result → PassesAtom (here walk.old.cursor) (here walk.new.cursor) }
     ensures other { result ≡ false → here walk.new.cursor ≡ here walk.old.cursor }
 {
-    let Some(group) = walk.next_group() else {
+    let Some(range) = walk.next_range() else {
         return false;
     };
-    if !group.are_names() || !heads_atom(group.key) {
+    if !range.are_names() || !heads_atom(range.key) {
         return false;
     }
-    walk.pass(group);
+    walk.pass(range);
     true
 }
 
 /// Steps over what is in the parentheses of a formula or an effect.
 #[cycle(formulas)]
-#[tactic(auto, using(crate::proofs::FormulaSteps::formula_steps))]
+#[tactic(auto, using(crate::proofs::FormulaLemmas::formula_steps))]
 pub(crate) fn formula(walk: &mut Walk<'_>, scope: Scope) -> Result<(), ReadFault>
     ensures { PassesList result (is_formula scope) (here walk.old.cursor) (here walk.new.cursor) }
 {
@@ -245,7 +245,7 @@ pub(crate) fn formula(walk: &mut Walk<'_>, scope: Scope) -> Result<(), ReadFault
 
 /// Steps over the formulas after `and`.
 #[cycle(formulas)]
-#[tactic(auto, using(crate::proofs::FormulaSteps::conjunct_steps, crate::proofs::RowSteps::atom_steps))]
+#[tactic(auto, using(crate::proofs::FormulaLemmas::conjunct_steps, crate::proofs::RowLemmas::atom_steps))]
 fn conjuncts(walk: &mut Walk<'_>, scope: Scope) -> Result<(), ReadFault>
     ensures { PassesList result (are_conjuncts scope) (here walk.old.cursor) (here walk.new.cursor) }
 {

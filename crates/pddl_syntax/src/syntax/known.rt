@@ -20,7 +20,7 @@ use pddl_words::billionths;
 use std::alloc::Global;
 
 /// Steps over the word that follows.
-#[tactic(auto, using(crate::proofs::FormulaSteps::side_steps))]
+#[tactic(auto, using(crate::proofs::FormulaLemmas::side_steps))]
 fn word<'a>(walk: &mut Walk<'a>) -> Word<'a>
     requires { IsSome (leading_word is_any (here walk.old.cursor).top) }
     ensures { Passes result (here walk.old.cursor) (here walk.new.cursor) }
@@ -32,7 +32,7 @@ fn word<'a>(walk: &mut Walk<'a>) -> Word<'a>
 }
 
 /// Steps over the name that follows.
-#[tactic(auto, using(crate::proofs::KnownSteps::name_steps))]
+#[tactic(auto, using(crate::proofs::KnownLemmas::name_steps))]
 fn name<'a>(walk: &mut Walk<'a>) -> NameWord<'a>
     requires { IsSome (leading_name (here walk.old.cursor).top) }
     ensures { PassesName result (here walk.old.cursor) (here walk.new.cursor) }
@@ -44,7 +44,7 @@ fn name<'a>(walk: &mut Walk<'a>) -> NameWord<'a>
 }
 
 /// Steps into the list that follows.
-#[tactic(auto, using(crate::proofs::LevelSteps::list_steps))]
+#[tactic(auto, using(crate::proofs::LevelLemmas::list_steps))]
 fn enter(walk: &mut Walk<'_>)
     requires { IsTrue (begins_with_list (here walk.old.cursor).top) }
     ensures { Opens (here walk.old.cursor) (here walk.new.cursor) }
@@ -55,7 +55,7 @@ fn enter(walk: &mut Walk<'_>)
 }
 
 /// Steps out of a list of which nothing is left.
-#[tactic(auto, using(crate::proofs::ListSteps::end_steps))]
+#[tactic(auto, using(crate::proofs::ListLemmas::end_steps))]
 fn leave(walk: &mut Walk<'_>)
     requires { IsSome (end_of (here walk.old.cursor).top) }
     ensures { Rereads tt end_of (here walk.old.cursor) (here walk.new.cursor) }
@@ -66,7 +66,7 @@ fn leave(walk: &mut Walk<'_>)
 }
 
 /// Reads the terms of an atom or a function.
-#[tactic(auto, using(crate::proofs::KnownSteps::term_steps))]
+#[tactic(auto, using(crate::proofs::KnownLemmas::term_steps))]
 fn terms<'a>(alloc: Global, walk: &mut Walk<'a>) -> Result<Terms<'a>, ReadFault>
     requires { IsSome (words_of is_any (here walk.old.cursor).top) }
     ensures { ReadsAgain (λ v. word_forms v.items) result (words_of is_any) (here walk.old.cursor) (here walk.new.cursor) }
@@ -82,7 +82,7 @@ fn terms<'a>(alloc: Global, walk: &mut Walk<'a>) -> Result<Terms<'a>, ReadFault>
 }
 
 /// Reads an atom after its predicate.
-#[tactic(auto, using(crate::proofs::KnownSteps::atom_steps))]
+#[tactic(auto, using(crate::proofs::KnownLemmas::atom_steps))]
 fn atom<'a>(
     alloc: Global,
     walk: &mut Walk<'a>,
@@ -96,7 +96,7 @@ fn atom<'a>(
 }
 
 /// Reads a function and its terms.
-#[tactic(auto, using(crate::proofs::KnownSteps::function_steps))]
+#[tactic(auto, using(crate::proofs::KnownLemmas::function_steps))]
 fn function<'a>(alloc: Global, walk: &mut Walk<'a>) -> Result<AtomSyntax<'a>, ReadFault>
     requires { IsSome (function_in is_any (here walk.old.cursor).top) }
     ensures { ReadsAgain atom_form result (function_in is_any) (here walk.old.cursor) (here walk.new.cursor) }
@@ -106,7 +106,7 @@ fn function<'a>(alloc: Global, walk: &mut Walk<'a>) -> Result<AtomSyntax<'a>, Re
 }
 
 /// Reads the two terms after `=`.
-#[tactic(auto, using(crate::proofs::KnownSteps::side_steps))]
+#[tactic(auto, using(crate::proofs::KnownLemmas::side_steps))]
 fn equality<'a>(walk: &mut Walk<'a>) -> EqualitySyntax<'a>
     requires { IsSome (equality_of is_any (here walk.old.cursor).top) }
     ensures { Rereads (equality_form result) (equality_of is_any) (here walk.old.cursor) (here walk.new.cursor) }
@@ -118,7 +118,7 @@ fn equality<'a>(walk: &mut Walk<'a>) -> EqualitySyntax<'a>
 }
 
 /// Reads the number, in billionths, that is all that is left of a list, and its span.
-#[tactic(auto, using(crate::proofs::KnownSteps::number_steps))]
+#[tactic(auto, using(crate::proofs::KnownLemmas::number_steps))]
 fn number(walk: &mut Walk<'_>) -> (u64, Span)
     requires { IsSome (number_of (here walk.old.cursor).top) }
     ensures { Rereads result.0 number_of (here walk.old.cursor) (here walk.new.cursor) }
@@ -132,7 +132,7 @@ fn number(walk: &mut Walk<'_>) -> (u64, Span)
 }
 
 /// Reads an amount.
-#[tactic(auto, using(crate::proofs::KnownSteps::amount_steps))]
+#[tactic(auto, using(crate::proofs::KnownLemmas::amount_steps))]
 fn amount<'a>(alloc: Global, walk: &mut Walk<'a>) -> Result<AmountSyntax<'a>, ReadFault>
     requires { IsSome (amount_of is_any (here walk.old.cursor).top) }
     ensures { ReadsAgain amount_form result (amount_of is_any) (here walk.old.cursor) (here walk.new.cursor) }
@@ -148,7 +148,7 @@ fn amount<'a>(alloc: Global, walk: &mut Walk<'a>) -> Result<AmountSyntax<'a>, Re
 }
 
 /// Reads the name of the function that is raised.
-#[tactic(auto, using(crate::proofs::KnownSteps::target_steps))]
+#[tactic(auto, using(crate::proofs::KnownLemmas::target_steps))]
 fn target<'a>(walk: &mut Walk<'a>) -> Word<'a>
     requires { IsSome (target_of (here walk.old.cursor).top) }
     ensures { Rereads tt target_of (here walk.old.cursor) (here walk.new.cursor) }
@@ -159,7 +159,7 @@ fn target<'a>(walk: &mut Walk<'a>) -> Word<'a>
 }
 
 /// Reads what follows the word `increase` at these bytes.
-#[tactic(auto, using(crate::proofs::KnownSteps::increase_steps))]
+#[tactic(auto, using(crate::proofs::KnownLemmas::increase_steps))]
 fn increase<'a>(
     alloc: Global,
     walk: &mut Walk<'a>,
@@ -179,7 +179,7 @@ fn increase<'a>(
 }
 
 /// Reads a function and its value, after `=`.
-#[tactic(auto, using(crate::proofs::KnownSteps::value_steps))]
+#[tactic(auto, using(crate::proofs::KnownLemmas::value_steps))]
 fn value<'a>(alloc: Global, walk: &mut Walk<'a>) -> Result<ValueSyntax<'a>, ReadFault>
     requires { IsSome (value_of is_any (here walk.old.cursor).top) }
     ensures { ReadsAgain value_form result (value_of is_any) (here walk.old.cursor) (here walk.new.cursor) }
@@ -195,7 +195,7 @@ fn value<'a>(alloc: Global, walk: &mut Walk<'a>) -> Result<ValueSyntax<'a>, Read
 }
 
 /// Reads what is in the parentheses after `not`.
-#[tactic(auto, using(crate::proofs::KnownSteps::negated_in_steps))]
+#[tactic(auto, using(crate::proofs::KnownLemmas::negated_in_steps))]
 fn negated_in<'a>(
     alloc: Global,
     walk: &mut Walk<'a>,
@@ -223,7 +223,7 @@ fn negated_in<'a>(
 }
 
 /// Reads what `not` negates.
-#[tactic(auto, using(crate::proofs::KnownSteps::negated_steps))]
+#[tactic(auto, using(crate::proofs::KnownLemmas::negated_steps))]
 fn negated<'a>(
     alloc: Global,
     walk: &mut Walk<'a>,
@@ -239,7 +239,7 @@ fn negated<'a>(
 }
 
 /// Reads a literal after its first word.
-#[tactic(auto, using(crate::proofs::KnownSteps::literal_steps))]
+#[tactic(auto, using(crate::proofs::KnownLemmas::literal_steps))]
 pub(crate) fn literal<'a>(
     alloc: Global,
     walk: &mut Walk<'a>,

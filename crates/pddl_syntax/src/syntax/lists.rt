@@ -12,7 +12,7 @@ use crate::walk::{Item, NameWord, Walk};
 use pddl_tokens::same_folded;
 
 /// Steps into the list that is due.
-#[tactic(auto, using(crate::proofs::ListSteps::first_list_steps))]
+#[tactic(auto, using(crate::proofs::ListLemmas::first_list_steps))]
 pub(crate) fn enter_list(walk: &mut Walk<'_>) -> Result<(), ReadFault>
     ensures { Enters result first_list (here walk.old.cursor) (here walk.new.cursor) }
 {
@@ -24,7 +24,7 @@ pub(crate) fn enter_list(walk: &mut Walk<'_>) -> Result<(), ReadFault>
 }
 
 /// Steps out of a list of which nothing is left.
-#[tactic(auto, using(crate::proofs::ListSteps::end_steps))]
+#[tactic(auto, using(crate::proofs::ListLemmas::end_steps))]
 pub(crate) fn leave_list(walk: &mut Walk<'_>) -> Result<(), ReadFault>
     ensures { ReadsList (λ _. tt) result end_of (here walk.old.cursor) (here walk.new.cursor) }
 {
@@ -36,7 +36,7 @@ pub(crate) fn leave_list(walk: &mut Walk<'_>) -> Result<(), ReadFault>
 }
 
 /// Steps over the word that must be here.
-#[tactic(auto, using(crate::proofs::ListSteps::word_steps))]
+#[tactic(auto, using(crate::proofs::ListLemmas::word_steps))]
 pub(crate) fn expect_word(walk: &mut Walk<'_>, expected: &[u8]) -> Result<(), ReadFault>
     ensures { ReadsFront result (behind_word expected.now) (here walk.old.cursor) (here walk.new.cursor) }
 {
@@ -53,7 +53,7 @@ pub(crate) fn expect_word(walk: &mut Walk<'_>, expected: &[u8]) -> Result<(), Re
 }
 
 /// Reads the name that is all that is left of a list.
-#[tactic(auto, using(crate::proofs::ListSteps::name_steps))]
+#[tactic(auto, using(crate::proofs::ListLemmas::name_steps))]
 pub(crate) fn lone_name<'a>(walk: &mut Walk<'a>) -> Result<NameWord<'a>, ReadFault>
     ensures { ReadsList name_form result lone_name (here walk.old.cursor) (here walk.new.cursor) }
 {
@@ -71,7 +71,7 @@ pub(crate) fn lone_name<'a>(walk: &mut Walk<'a>) -> Result<NameWord<'a>, ReadFau
 }
 
 /// Reads the first list of a definition, which gives its kind and its name.
-#[tactic(auto, using(crate::proofs::ListSteps::header_steps))]
+#[tactic(auto, using(crate::proofs::ListLemmas::header_steps))]
 pub(crate) fn header<'a>(walk: &mut Walk<'a>, kind: &[u8]) -> Result<NameWord<'a>, ReadFault>
     ensures { ReadsList name_form result (header_of kind.now) (here walk.old.cursor) (here walk.new.cursor) }
 {

@@ -15,7 +15,7 @@ use crate::syntax::LiteralSyntax;
 use crate::syntax::formula::formula;
 use crate::syntax::known::literal;
 use crate::walk::{Item, Walk};
-use pddl_tokens::Group;
+use pddl_tokens::ParenRange;
 use std::alloc::Global;
 use std::marker::Model;
 
@@ -45,7 +45,7 @@ impl<'a> Model for Literals<'a> {
 
 impl<'a> Literals<'a> {
     /// No literals.
-    #[tactic(auto, using(crate::proofs::LiteralSteps::start_steps))]
+    #[tactic(auto, using(crate::proofs::LiteralLemmas::start_steps))]
     pub fn none() -> Self
         ensures { result ≡ [] }
     {
@@ -60,7 +60,7 @@ impl<'a> Literals<'a> {
     }
 
     /// The literals in what is left of the list that the walk is in.
-    #[tactic(auto, using(crate::proofs::LiteralSteps::start_steps))]
+    #[tactic(auto, using(crate::proofs::LiteralLemmas::start_steps))]
     pub(crate) fn within(walk: Walk<'a>, scope: Scope) -> Self
         requires { IsSome (literals_in scope (here walk.cursor).top) }
         ensures { literals_in scope (here walk.entry.cursor).top ≡ Some result }
@@ -91,14 +91,14 @@ impl<'a> Literals<'a> {
         if self.depth != 1 {
             return None;
         }
-        let group = self.walk.next_group()?;
-        if !heads_atom(group.key) {
+        let range = self.walk.next_range()?;
+        if !heads_atom(range.key) {
             return None;
         }
         Some(AtomRow {
             walk: self.walk.fork(),
             scope: self.scope,
-            group,
+            range,
         })
     }
 
@@ -113,7 +113,7 @@ impl<'a> Literals<'a> {
     }
 
     /// The next literal, or `None` if none follows. The only fault is running out of memory, and no literal follows it.
-    #[tactic(auto, using(crate::proofs::LiteralSteps::next_steps))]
+    #[tactic(auto, using(crate::proofs::LiteralLemmas::next_steps))]
     pub fn next(&mut self, alloc: Global) -> Result<Option<LiteralSyntax<'a>>, ReadFault>
         ensures { TakesNext result self.old self.new }
     {
@@ -128,7 +128,7 @@ impl<'a> Literals<'a> {
 pub struct AtomRow<'a> {
     walk: Walk<'a>,
     scope: Scope,
-    group: Group<'a>,
+    range: ParenRange<'a>,
 }
 
 impl<'a> Model for AtomRow<'a> {
@@ -140,10 +140,10 @@ impl<'a> Model for AtomRow<'a> {
 
     ghost Value = { RowAhead };
 
-    ghost view = { λ r. record { bytes = r.group.key.now; before = unwrap_or (remaining r.scope 1 (here r.walk.cursor)) [] } };
+    ghost view = { λ r. record { bytes = r.range.key.now; before = unwrap_or (remaining r.scope 1 (here r.walk.cursor)) [] } };
 
-    ghost invariant = { λ r. IsSome (remaining r.scope 1 (here r.walk.cursor)) × ComesNext r.walk.cursor r.group
-        × (is_name (atom_spelled r.group.key.now).predicate ≡ true → heads_atom r.group.key.now ≡ true) };
+    ghost invariant = { λ r. IsSome (remaining r.scope 1 (here r.walk.cursor)) × ComesNext r.walk.cursor r.range
+        × (is_name (atom_spelled r.range.key.now).predicate ≡ true → heads_atom r.range.key.now ≡ true) };
 }
 
 impl<'a> AtomRow<'a> {
@@ -152,7 +152,7 @@ impl<'a> AtomRow<'a> {
     pub fn bytes(&self) -> &'a [u8]
         ensures { result.now ≡ self.now.bytes }
     {
-        self.group.key
+        self.range.key
     }
 
     /// The literals after it, if its words spell it.
@@ -162,7 +162,7 @@ impl<'a> AtomRow<'a> {
         ensures { self.entry.before ≡ atom_literal true (atom_spelled self.entry.bytes) ∷ result }
     {
         let mut walk = self.walk;
-        walk.pass(self.group);
+        walk.pass(self.range);
         Literals {
             walk,
             scope: self.scope,
@@ -172,7 +172,7 @@ impl<'a> AtomRow<'a> {
 }
 
 /// Reads the next literal. `depth` of the lists around the walk belong to what is read.
-#[tactic(auto, using(crate::proofs::LiteralSteps::reading_steps))]
+#[tactic(auto, using(crate::proofs::LiteralLemmas::reading_steps))]
 fn next_literal<'a>(
     alloc: Global,
     walk: &mut Walk<'a>,
@@ -206,7 +206,7 @@ fn next_literal<'a>(
 }
 
 /// Steps over a formula or an effect, and keeps its literals.
-#[tactic(auto, using(crate::proofs::LiteralSteps::formula_steps))]
+#[tactic(auto, using(crate::proofs::LiteralLemmas::formula_steps))]
 pub(crate) fn kept_literals<'a>(
     walk: &mut Walk<'a>,
     scope: Scope,

@@ -22,7 +22,7 @@ use pddl_tokens::Span;
 use std::alloc::Global;
 
 /// Steps over an initial atom, which may be negated, or the value of a function.
-#[tactic(auto, using(crate::proofs::ProblemSteps::init_item_steps))]
+#[tactic(auto, using(crate::proofs::ProblemLemmas::init_item_steps))]
 fn init_item(dialect: Dialect, walk: &mut Walk<'_>) -> Result<(), ReadFault>
     ensures { PassesList result (is_init_item dialect) (here walk.old.cursor) (here walk.new.cursor) }
 {
@@ -35,7 +35,7 @@ fn init_item(dialect: Dialect, walk: &mut Walk<'_>) -> Result<(), ReadFault>
 }
 
 /// Steps over the initial atoms and values.
-#[tactic(auto, using(crate::proofs::ProblemSteps::init_steps, crate::proofs::RowSteps::atom_steps))]
+#[tactic(auto, using(crate::proofs::ProblemLemmas::init_steps, crate::proofs::RowLemmas::atom_steps))]
 fn init_items(dialect: Dialect, walk: &mut Walk<'_>) -> Result<(), ReadFault>
     ensures { PassesList result (are_initial dialect) (here walk.old.cursor) (here walk.new.cursor) }
 {
@@ -52,7 +52,7 @@ fn init_items(dialect: Dialect, walk: &mut Walk<'_>) -> Result<(), ReadFault>
 }
 
 /// Steps over the initial atoms and values, and keeps them.
-#[tactic(auto, using(crate::proofs::LiteralSteps::initial_steps))]
+#[tactic(auto, using(crate::proofs::LiteralLemmas::initial_steps))]
 fn init<'a>(dialect: Dialect, walk: &mut Walk<'a>) -> Result<Literals<'a>, ReadFault>
     ensures { ReadsList (λ l. l) result (lists_of (init_item_in dialect)) (here walk.old.cursor) (here walk.new.cursor) }
 {
@@ -63,7 +63,7 @@ fn init<'a>(dialect: Dialect, walk: &mut Walk<'a>) -> Result<Literals<'a>, ReadF
 }
 
 /// Reads the goal.
-#[tactic(auto, using(crate::proofs::ProblemSteps::goal_steps))]
+#[tactic(auto, using(crate::proofs::ProblemLemmas::goal_steps))]
 fn goal<'a>(dialect: Dialect, walk: &mut Walk<'a>) -> Result<Literals<'a>, ReadFault>
     ensures { ReadsList (λ l. l) result (goal_of dialect) (here walk.old.cursor) (here walk.new.cursor) }
 {
@@ -75,7 +75,7 @@ fn goal<'a>(dialect: Dialect, walk: &mut Walk<'a>) -> Result<Literals<'a>, ReadF
 }
 
 /// Whether the section is given already.
-#[tactic(auto, unfolding(crate::specs::Syntax::is_problem_section_given, crate::specs::Forms::problem_sections_form), using(crate::proofs::ActionSteps::given_steps))]
+#[tactic(auto, unfolding(crate::specs::Syntax::is_problem_section_given, crate::specs::Forms::problem_sections_form), using(crate::proofs::ActionLemmas::given_steps))]
 fn is_given(sections: &ProblemSections<'_>, section: ProblemSection) -> bool
     ensures { result ≡ is_problem_section_given section (problem_sections_form sections.now) }
 {
@@ -91,7 +91,7 @@ fn is_given(sections: &ProblemSections<'_>, section: ProblemSection) -> bool
 }
 
 /// Reads what a section holds.
-#[tactic(auto, using(crate::proofs::ProblemSteps::body_steps), unfolding(crate::specs::Forms::problem_sections_form))]
+#[tactic(auto, using(crate::proofs::ProblemLemmas::body_steps), unfolding(crate::specs::Forms::problem_sections_form))]
 fn section_body<'a>(
     alloc: Global,
     dialect: Dialect,
@@ -124,7 +124,7 @@ fn section_body<'a>(
 }
 
 /// Reads a section after its `(`.
-#[tactic(auto, using(crate::proofs::ProblemSteps::section_steps))]
+#[tactic(auto, using(crate::proofs::ProblemLemmas::section_steps))]
 fn section<'a>(
     alloc: Global,
     dialect: Dialect,
@@ -150,7 +150,7 @@ fn section<'a>(
 }
 
 /// Reads the sections of a problem, and the span of the `)` after them.
-#[tactic(auto, using(crate::proofs::ProblemSteps::sections_steps))]
+#[tactic(auto, using(crate::proofs::ProblemLemmas::sections_steps))]
 fn sections<'a>(
     alloc: Global,
     dialect: Dialect,
@@ -178,7 +178,7 @@ fn sections<'a>(
 }
 
 /// Reads a problem after the first `(` of its text.
-#[tactic(auto, using(crate::proofs::ProblemSteps::problem_steps))]
+#[tactic(auto, using(crate::proofs::ProblemLemmas::problem_steps))]
 pub(crate) fn problem<'a>(
     alloc: Global,
     dialect: Dialect,
@@ -215,7 +215,7 @@ pub(crate) fn problem<'a>(
 }
 
 /// Reads the problem that a text without a text fault holds.
-#[tactic(auto, using(crate::proofs::ProblemSteps::problem_text_steps, crate::proofs::TextSteps::trees_here))]
+#[tactic(auto, using(crate::proofs::ProblemLemmas::problem_text_steps, crate::proofs::TextLemmas::trees_here))]
 pub fn problem_text<'a>(
     alloc: Global,
     dialect: Dialect,

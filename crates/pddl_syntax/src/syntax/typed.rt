@@ -18,7 +18,7 @@ use pddl_tokens::Span;
 use std::alloc::Global;
 
 /// Reads the keywords of `:requirements`, and keeps none of them.
-#[tactic(auto, using(crate::proofs::TypedSteps::keyword_steps))]
+#[tactic(auto, using(crate::proofs::TypedLemmas::keyword_steps))]
 pub(crate) fn keywords(walk: &mut Walk<'_>) -> Result<(), ReadFault>
     ensures { ReadsList (λ _. tt) result keywords_of (here walk.old.cursor) (here walk.new.cursor) }
 {
@@ -47,7 +47,7 @@ pub(crate) fn object() -> NameWord<'static>
 }
 
 /// Steps over the name that is due as the type of names.
-#[tactic(auto, using(crate::proofs::TypedSteps::leading_steps))]
+#[tactic(auto, using(crate::proofs::TypedLemmas::leading_steps))]
 fn name_type<'a>(walk: &mut Walk<'a>) -> Result<NameWord<'a>, ReadFault>
     ensures { TakesName result (here walk.old.cursor) (here walk.new.cursor) }
 {
@@ -64,7 +64,7 @@ fn name_type<'a>(walk: &mut Walk<'a>) -> Result<NameWord<'a>, ReadFault>
 }
 
 /// Reads the groups of a list of typed names.
-#[tactic(auto, using(crate::proofs::TypedSteps::typed_steps))]
+#[tactic(auto, using(crate::proofs::TypedLemmas::typed_steps))]
 pub(crate) fn typed_names<'a>(
     alloc: Global,
     walk: &mut Walk<'a>,

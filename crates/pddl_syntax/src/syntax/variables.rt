@@ -16,7 +16,7 @@ use std::alloc::Global;
 use std::marker::Model;
 
 /// Reads the names of a choice of types, at least one.
-#[tactic(auto, using(crate::proofs::WordSteps::names_steps))]
+#[tactic(auto, using(crate::proofs::WordLemmas::names_steps))]
 fn names<'a>(alloc: Global, walk: &mut Walk<'a>) -> Result<Names<'a>, ReadFault>
     ensures { ReadsList (λ v. name_forms v.items) result names_of (here walk.old.cursor) (here walk.new.cursor) }
 {
@@ -41,7 +41,7 @@ fn names<'a>(alloc: Global, walk: &mut Walk<'a>) -> Result<Names<'a>, ReadFault>
 }
 
 /// Reads a choice of types after its `(`.
-#[tactic(auto, using(crate::proofs::WordSteps::either_steps))]
+#[tactic(auto, using(crate::proofs::WordLemmas::either_steps))]
 fn either<'a>(alloc: Global, walk: &mut Walk<'a>) -> Result<Names<'a>, ReadFault>
     ensures { ReadsList (λ v. name_forms v.items) result either_in (here walk.old.cursor) (here walk.new.cursor) }
 {
@@ -50,7 +50,7 @@ fn either<'a>(alloc: Global, walk: &mut Walk<'a>) -> Result<Names<'a>, ReadFault
 }
 
 /// Steps over the types of variables, which are due.
-#[tactic(auto, using(crate::proofs::VariableSteps::typing_steps))]
+#[tactic(auto, using(crate::proofs::VariableLemmas::typing_steps))]
 fn alternatives<'a>(alloc: Global, walk: &mut Walk<'a>) -> Result<Names<'a>, ReadFault>
     ensures { TakesTypes result (here walk.old.cursor) (here walk.new.cursor) }
 {
@@ -69,7 +69,7 @@ fn alternatives<'a>(alloc: Global, walk: &mut Walk<'a>) -> Result<Names<'a>, Rea
 }
 
 /// The type `object` alone.
-#[tactic(auto, using(crate::proofs::TypedSteps::no_names, crate::proofs::TypedSteps::name_forms_pushed))]
+#[tactic(auto, using(crate::proofs::TypedLemmas::no_names, crate::proofs::TypedLemmas::name_forms_pushed))]
 fn object_alone<'a>(alloc: Global) -> Result<Names<'a>, ReadFault>
     ensures { GivesObject result }
 {
@@ -99,7 +99,7 @@ impl<'a> Model for VariableList<'a> {
 
 impl<'a> VariableList<'a> {
     /// The list that the walk has before it.
-    #[tactic(auto, using(crate::proofs::VariableSteps::list_steps))]
+    #[tactic(auto, using(crate::proofs::VariableLemmas::list_steps))]
     fn within(walk: Walk<'a>) -> Self
         requires { IsSome (typed_variables [] (here walk.cursor).top) }
         ensures { typed_variables [] (here walk.entry.cursor).top ≡ Some result }
@@ -108,7 +108,7 @@ impl<'a> VariableList<'a> {
     }
 
     /// Its groups, which are read again. The only fault is running out of memory.
-    #[tactic(auto, using(crate::proofs::VariableSteps::list_steps))]
+    #[tactic(auto, using(crate::proofs::VariableLemmas::list_steps))]
     pub fn groups(&self, alloc: Global) -> Result<Vec<VariableGroup<'a>>, ReadFault>
         ensures { GivesAgain (λ v. variable_groups v.items) result self.now }
     {
@@ -118,7 +118,7 @@ impl<'a> VariableList<'a> {
 }
 
 /// Steps over a list of typed variables, and keeps where it begins.
-#[tactic(auto, using(crate::proofs::VariableSteps::list_steps))]
+#[tactic(auto, using(crate::proofs::VariableLemmas::list_steps))]
 pub(crate) fn kept_variables<'a>(
     alloc: Global,
     walk: &mut Walk<'a>,
@@ -131,7 +131,7 @@ pub(crate) fn kept_variables<'a>(
 }
 
 /// Reads the groups of a list of typed variables.
-#[tactic(auto, using(crate::proofs::VariableSteps::typed_steps))]
+#[tactic(auto, using(crate::proofs::VariableLemmas::typed_steps))]
 fn typed_variables<'a>(
     alloc: Global,
     walk: &mut Walk<'a>,

@@ -2,7 +2,7 @@ use Rattle.std.proofs.Common.{◌≡◌, map, ap, sym, subst, ◌∙◌, arith, 
 use Rattle.intake_rules.specs.declared.finding.Finding.{Finding}
 use Rattle.judge_bench.specs.Findings.{by_planner, findings_of}
 use Rattle.intake_rules.specs.Findings.{right_finding}
-use Rattle.judge_bench.specs.Kept.{Numbered}
+use Rattle.judge_bench.specs.Bookkeeping.{Numbered}
 use Rattle.judge_bench.proofs.JobsOf.{numbered_from_zero}
 use Rattle.judge_bench.proofs.Results.{if_ok_more}
 use Rattle.judge_bench.proofs.running.run_in_scope.Goals as goal

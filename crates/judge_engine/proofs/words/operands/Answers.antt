@@ -2,7 +2,7 @@ use Rattle.std.proofs.Common.{◌≡◌, [], ◌∷◌, map, ap, sym, ◌∙◌,
 use Rattle.std.specs.String.{string_bytes}
 use Rattle.judge_engine.specs.CommandLine.{operands_from}
 use Rattle.std.proofs.lemmas.List.{map-append, nil_from_length}
-use Rattle.judge_engine.proofs.OperandSteps.{operands_in_none, one_more}
+use Rattle.judge_engine.proofs.OperandLemmas.{operands_in_none, one_more}
 use Rattle.judge_engine.proofs.words.operands.Goals as goal
 
 pub words-preserved-in-Continue-branch-2 : goal.words-preserved-in-Continue-branch-2

@@ -1,7 +1,7 @@
 use Rattle.std.proofs.Common.{map, ap, sym, ◌∙◌}
 use Rattle.std.specs.String.{string_bytes}
 use Rattle.judge_engine.specs.CommandLine.{value_of}
-use Rattle.judge_engine.proofs.ValueSteps.{value_in_none}
+use Rattle.judge_engine.proofs.ValueLemmas.{value_in_none}
 use Rattle.std.proofs.lemmas.List.{nil_from_length}
 use Rattle.judge_engine.proofs.words.value_of.Goals as goal
 

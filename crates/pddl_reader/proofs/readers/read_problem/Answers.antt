@@ -1,4 +1,4 @@
-use Rattle.pddl_reader.proofs.TextSteps.{problem_default}
+use Rattle.pddl_reader.proofs.TextLemmas.{problem_default}
 use Rattle.pddl_reader.proofs.readers.read_problem.Goals as goal
 
 pub returns-clause-task : goal.returns-clause-task

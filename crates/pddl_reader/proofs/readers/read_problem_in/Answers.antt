@@ -1,5 +1,5 @@
 use Rattle.std.proofs.lemmas.Result.{err_from_is_err_and}
-use Rattle.pddl_reader.proofs.TextSteps.{problem_fault}
+use Rattle.pddl_reader.proofs.TextLemmas.{problem_fault}
 use Rattle.pddl_reader.proofs.readers.read_problem_in.Goals as goal
 
 pub returns-in_err-check_text-clause-task : goal.returns-in_err-check_text-clause-task

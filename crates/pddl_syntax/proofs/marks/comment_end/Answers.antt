@@ -1,8 +1,8 @@
 use Rattle.std.proofs.Common.{◌≡◌, ◌∙◌, ap, arith, drop}
 use Rattle.std.specs.List.{prefix_len}
 use Rattle.pddl_tokens.specs.Cut.{is_comment_byte}
-use Rattle.pddl_tokens.proofs.Steps.{rest_whole}
-use Rattle.pddl_syntax.proofs.MarkSteps.{semicolon_mark}
+use Rattle.pddl_tokens.proofs.Lemmas.{rest_whole}
+use Rattle.pddl_syntax.proofs.MarkLemmas.{semicolon_mark}
 use Rattle.pddl_syntax.proofs.marks.comment_end.Goals as goal
 
 pub returns-clause-same : goal.returns-clause-same

@@ -1,5 +1,5 @@
 use Rattle.std.proofs.Common.{◌≡◌, ◌∙◌, ap, sym, arith, length, Some, []}
-use Rattle.pddl_tokens.proofs.Steps.{end_step}
+use Rattle.pddl_tokens.proofs.Lemmas.{end_step}
 use Rattle.pddl_syntax.specs.Trees.{fault_from}
 use Rattle.pddl_syntax.proofs.Depths.{fault_at_end, fault_inside}
 use Rattle.pddl_syntax.proofs.text.check_rest.Goals as goal

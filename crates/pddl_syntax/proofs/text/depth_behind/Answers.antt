@@ -1,7 +1,7 @@
 use Rattle.std.proofs.Common.{◌<◌, ◌≤◌, ◌∙◌, ap, sym, arith, length, Some}
-use Rattle.pddl_tokens.specs.Front.{pieces_at}
+use Rattle.pddl_tokens.specs.Lexeme.{pieces_at}
 use Rattle.pddl_syntax.specs.Trees.{fault_from}
-use Rattle.pddl_syntax.proofs.MarkSteps.{plain_mark, left_mark, left_deep_mark, right_mark, right_outside_mark, bad_mark}
+use Rattle.pddl_syntax.proofs.MarkLemmas.{plain_mark, left_mark, left_deep_mark, right_mark, right_outside_mark, bad_mark}
 use Rattle.pddl_syntax.proofs.text.depth_behind.Goals as goal
 
 pub returns-in-Left-clause-fault : goal.returns-in-Left-clause-fault

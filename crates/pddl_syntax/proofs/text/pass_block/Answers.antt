@@ -2,7 +2,7 @@ use Rattle.std.proofs.Common.{◌+◌, ◌<◌, ◌∙◌, ap, sym, refl, arith,
 use Rattle.std.proofs.lemmas.Result.{err_from_is_err_and}
 use Rattle.std.specs.Int.{trailing_zeros}
 use Rattle.pddl_syntax.specs.Trees.{fault_from}
-use Rattle.pddl_syntax.proofs.BlockSteps.{block_marked, lowest_within, to_lowest, to_end, marked_behind}
+use Rattle.pddl_syntax.proofs.BlockLemmas.{block_marked, lowest_within, to_lowest, to_end, marked_behind}
 use Rattle.pddl_syntax.proofs.text.pass_block.Goals as goal
 
 pub marks-init : goal.marks-init
@@ -11,7 +11,7 @@ marks-init c = record {
   depth = c.requires.depth;
   from = omega arith;
   within = omega arith;
-  marked = block_marked c.args.text.now c.args.at c.special_bits-special.result c.special_bits-special.ensures.plain c.special_bits-special.ensures.within;
+  marked = block_marked c.args.text.now c.args.at c.special_bits-special.result c.special_bits-special.ensures.bits c.special_bits-special.ensures.within;
 }
 
 pub bounds-text-place : goal.bounds-text-place

@@ -1,6 +1,6 @@
 use Rattle.std.proofs.Common.{◌≡◌, ◌+◌, ◌-◌, ◌≤◌}
 use Rattle.pddl_syntax.specs.Trees.{fault_after}
-use Rattle.pddl_syntax.proofs.BlockSteps.{AreMarked}
+use Rattle.pddl_syntax.proofs.BlockLemmas.{AreMarked}
 use Rattle.pddl_syntax.proofs.text.pass_block.Given as goal
 
 abbrev pub invariant-marks : goal.invariant-marks

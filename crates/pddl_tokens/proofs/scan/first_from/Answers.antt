@@ -1,5 +1,5 @@
 use Rattle.std.proofs.Common.{◌<◌, length, sym, ◌∙◌, arith}
-use Rattle.pddl_tokens.proofs.Steps.{end_step, line_end_step, blank_step, comment_step, left_step, right_step, word_step, bad_step}
+use Rattle.pddl_tokens.proofs.Lemmas.{end_step, line_end_step, blank_step, comment_step, left_step, right_step, word_step, bad_step}
 use Rattle.pddl_tokens.proofs.scan.first_from.Goals as goal
 
 pub returns-then-at-text : goal.returns-then-at-text

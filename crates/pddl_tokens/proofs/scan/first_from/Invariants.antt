@@ -1,5 +1,5 @@
 use Rattle.std.proofs.Common.{◌≡◌, ◌-◌, ◌≤◌, length}
-use Rattle.pddl_tokens.specs.Front.{pieces_at}
+use Rattle.pddl_tokens.specs.Lexeme.{pieces_at}
 use Rattle.pddl_tokens.proofs.scan.first_from.Given as goal
 
 -- what was skipped holds no piece

@@ -1,5 +1,5 @@
 use Rattle.std.proofs.Common.{◌≡◌, ◌-◌, ◌≤◌, length}
-use Rattle.pddl_tokens.specs.Front.{pieces_at}
+use Rattle.pddl_tokens.specs.Lexeme.{pieces_at}
 use Rattle.pddl_tokens.proofs.scan.skip_blanks.Given as goal
 
 -- no piece begins among the blanks up to here

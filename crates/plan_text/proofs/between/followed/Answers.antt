@@ -1,4 +1,4 @@
-use Rattle.plan_text.proofs.Steps.{bracket_refused, stamp_follows}
+use Rattle.plan_text.proofs.Lemmas.{bracket_refused, stamp_follows}
 use Rattle.plan_text.specs.PlanSteps.{reading}
 use Rattle.plan_text.proofs.between.followed.Goals as goal
 

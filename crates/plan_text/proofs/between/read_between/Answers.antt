@@ -1,4 +1,4 @@
-use Rattle.plan_text.proofs.Steps.{right_outside}
+use Rattle.plan_text.proofs.Lemmas.{right_outside}
 use Rattle.plan_text.proofs.between.read_between.Goals as goal
 
 pub returns-in-Right : goal.returns-in-Right

@@ -1,4 +1,4 @@
-use Rattle.plan_text.proofs.Steps.{read_by, step_begins, none_open, opening_reads, left_refused}
+use Rattle.plan_text.proofs.Lemmas.{read_by, step_begins, none_open, opening_reads, left_refused}
 use Rattle.plan_text.specs.declared.want.Want.TheVariants.{Step, Number}
 use Rattle.plan_text.proofs.between.read_left.Goals as goal
 

@@ -1,4 +1,4 @@
-use Rattle.plan_text.proofs.Steps.{read_by, none_open, word_refused}
+use Rattle.plan_text.proofs.Lemmas.{read_by, none_open, word_refused}
 use Rattle.plan_text.specs.declared.want.Want.TheVariants.{Step, Number}
 use Rattle.plan_text.proofs.between.read_number.Goals as goal
 

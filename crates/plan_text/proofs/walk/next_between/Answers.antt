@@ -1,5 +1,5 @@
 use Rattle.std.proofs.Common.{sym, ◌∙◌}
-use Rattle.plan_text.proofs.WalkSteps.{number_read, way_at, way_opens, way_refused, way_bad, way_ends}
+use Rattle.plan_text.proofs.WalkLemmas.{number_read, way_at, way_opens, way_refused, way_bad, way_ends}
 use Rattle.plan_text.proofs.walk.next_between.Goals as goal
 
 pub returns-then-not-takes_name : goal.returns-then-not-takes_name

@@ -1,4 +1,4 @@
-use Rattle.plan_text.proofs.WalkSteps.{way_rests, way_starts}
+use Rattle.plan_text.proofs.WalkLemmas.{way_rests, way_starts}
 use Rattle.plan_text.proofs.walk.open_step.Goals as goal
 
 pub tokens-init : goal.tokens-init

@@ -1,5 +1,5 @@
 use Rattle.std.proofs.Common.{length}
-use Rattle.plan_text.proofs.WalkSteps.{IsOnTheWay}
+use Rattle.plan_text.proofs.WalkLemmas.{IsOnTheWay}
 use Rattle.plan_text.proofs.walk.open_step.Given as goal
 
 abbrev pub invariant-tokens : goal.invariant-tokens

@@ -1,4 +1,4 @@
-use Rattle.plan_text.proofs.WalkSteps.{step_starts, step_goes_on, step_closes, step_refused, step_bad, step_ends}
+use Rattle.plan_text.proofs.WalkLemmas.{step_starts, step_goes_on, step_closes, step_refused, step_bad, step_ends}
 use Rattle.plan_text.proofs.walk.pass_words.Goals as goal
 
 pub words-init : goal.words-init

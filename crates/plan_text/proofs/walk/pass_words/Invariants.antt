@@ -1,5 +1,5 @@
 use Rattle.std.proofs.Common.{length}
-use Rattle.plan_text.proofs.WalkSteps.{IsInStep}
+use Rattle.plan_text.proofs.WalkLemmas.{IsInStep}
 use Rattle.plan_text.proofs.walk.pass_words.Given as goal
 
 abbrev pub invariant-words : goal.invariant-words

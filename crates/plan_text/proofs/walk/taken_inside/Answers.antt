@@ -1,5 +1,5 @@
 use Rattle.std.proofs.Common.{sym, ◌∙◌}
-use Rattle.plan_text.proofs.WalkSteps.{left_inside, right_inside, word_inside}
+use Rattle.plan_text.proofs.WalkLemmas.{left_inside, right_inside, word_inside}
 use Rattle.plan_text.proofs.walk.taken_inside.Goals as goal
 
 pub returns-in-Left : goal.returns-in-Left

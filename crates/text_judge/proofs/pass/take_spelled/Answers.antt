@@ -4,4 +4,4 @@ use Rattle.text_judge.proofs.pass.take_spelled.Goals as goal
 
 pub returns-clause-taken : goal.returns-clause-taken
 returns-clause-taken c = λ t steps passed taken.
-    (Some (step_spelled c.in-Some.group.key.now), c.skip.ensures.passed steps passed, c.in_ok-take_spelled.ensures.taken c.if-not-branch.false steps taken)
+    (Some (step_spelled c.in-Some.range.key.now), c.skip.ensures.passed steps passed, c.in_ok-take_spelled.ensures.taken c.if-not-branch.false steps taken)

@@ -3,7 +3,7 @@ use Rattle.bench_rule.specs.declared.views.View.{View}
 use Rattle.judge_bench.specs.Findings.{by_planner}
 use Rattle.intake_rules.specs.Findings.{right_finding}
 use Rattle.judge_bench.specs.Keeping.{KeptFindings}
-use Rattle.judge_bench.specs.Kept.{Numbered}
+use Rattle.judge_bench.specs.Bookkeeping.{Numbered}
 use Rattle.judge_bench.proofs.Emissions.{all_emitted, unmoved}
 use Rattle.judge_bench.proofs.OwnersRun.{all_known}
 use Rattle.judge_bench.proofs.collector.Collector.finish.Goals as goal

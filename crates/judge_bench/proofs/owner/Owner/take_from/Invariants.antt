@@ -1,5 +1,5 @@
 use Rattle.std.proofs.Common.{◌≡◌}
-use Rattle.judge_bench.specs.Kept.{NoneWaitsAmong}
+use Rattle.judge_bench.specs.Bookkeeping.{NoneWaitsAmong}
 use Rattle.judge_bench.specs.Seats.{SitsAt}
 use Rattle.judge_bench.proofs.owner.Owner.take_from.Given as goal
 

@@ -1,6 +1,6 @@
 use Rattle.std.proofs.Common.{◌≡◌, ◌∙◌, ap, sym, slice_get, Some}
 use Rattle.std.proofs.lemmas.Bool.{eqb-true}
-use Rattle.pddl_reader.proofs.TableSteps.{argument_types_at, argument_types_counted}
+use Rattle.pddl_reader.proofs.TableLemmas.{argument_types_at, argument_types_counted}
 use Rattle.pddl_reader.proofs.resolution.atoms.argument_types_of.Goals as goal
 
 pub returns : goal.returns

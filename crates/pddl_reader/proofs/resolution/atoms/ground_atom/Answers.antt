@@ -1,6 +1,6 @@
 use Rattle.std.proofs.lemmas.Result.{err_from_is_err_and}
 use Rattle.pddl_reader.specs.Resolved.{known_form}
-use Rattle.pddl_reader.proofs.AtomSteps.{ground_unfit, ground_fit}
+use Rattle.pddl_reader.proofs.AtomLemmas.{ground_unfit, ground_fit}
 use Rattle.pddl_reader.proofs.resolution.atoms.ground_atom.Goals as goal
 
 pub returns-in_err-args : goal.returns-in_err-args

@@ -1,6 +1,6 @@
 use Rattle.std.proofs.lemmas.Result.{err_from_is_err_and}
 use Rattle.pddl_reader.specs.Resolved.{known_form, parameters_form}
-use Rattle.pddl_reader.proofs.AtomSteps.{pattern_unfit, pattern_fit}
+use Rattle.pddl_reader.proofs.AtomLemmas.{pattern_unfit, pattern_fit}
 use Rattle.pddl_reader.proofs.resolution.atoms.pattern.Goals as goal
 
 pub returns-in_err-terms : goal.returns-in_err-terms

@@ -3,7 +3,7 @@ use Rattle.std.specs.Map.{keys_of}
 use Rattle.pddl_words.specs.Words.{folded}
 use Rattle.pddl_reader.specs.Declarations.{may_declare}
 use Rattle.pddl_syntax.specs.Forms.{predicate_form}
-use Rattle.pddl_reader.proofs.DeclarationSteps.{may_declare_length, predicate_declared}
+use Rattle.pddl_reader.proofs.DeclarationLemmas.{may_declare_length, predicate_declared}
 use Rattle.pddl_reader.proofs.resolution.domain.declare_predicate.Goals as goal
 
 pub returns-clause-within : goal.returns-clause-within

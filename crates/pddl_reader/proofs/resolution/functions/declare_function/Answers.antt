@@ -4,8 +4,8 @@ use Rattle.pddl_words.specs.Words.{folded}
 use Rattle.pddl_reader.specs.Declarations.{may_declare}
 use Rattle.pddl_reader.specs.Domain.{may_have}
 use Rattle.pddl_syntax.specs.Forms.{predicate_form}
-use Rattle.pddl_reader.proofs.DeclarationSteps.{may_declare_length}
-use Rattle.pddl_reader.proofs.FunctionSteps.{function_declared}
+use Rattle.pddl_reader.proofs.DeclarationLemmas.{may_declare_length}
+use Rattle.pddl_reader.proofs.FunctionLemmas.{function_declared}
 use Rattle.pddl_reader.proofs.resolution.functions.declare_function.Goals as goal
 
 pub returns-clause-within : goal.returns-clause-within

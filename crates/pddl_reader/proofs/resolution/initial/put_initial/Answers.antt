@@ -1,6 +1,6 @@
 use Rattle.pddl_syntax.specs.Forms.{atom_form, value_form}
 use Rattle.pddl_reader.specs.Resolved.{vocabulary_form}
-use Rattle.pddl_reader.proofs.InitialSteps.{atom_put, value_put}
+use Rattle.pddl_reader.proofs.InitialLemmas.{atom_put, value_put}
 use Rattle.pddl_reader.proofs.resolution.initial.put_initial.Goals as goal
 
 pub returns-in-Atom : goal.returns-in-Atom

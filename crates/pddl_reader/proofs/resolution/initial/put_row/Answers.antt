@@ -4,7 +4,7 @@ use Rattle.pddl_syntax.specs.Optional.{through}
 use Rattle.pddl_reader.specs.Problem.{with_initial, given_atoms}
 use Rattle.pddl_reader.specs.Resolved.{vocabulary_form}
 use Rattle.pddl_reader.specs.Rows.{BeginWithAtoms}
-use Rattle.pddl_reader.proofs.InitialSteps.{through_atoms}
+use Rattle.pddl_reader.proofs.InitialLemmas.{through_atoms}
 use Rattle.pddl_reader.proofs.resolution.initial.put_row.Goals as goal
 
 pub returns-clause-same : goal.returns-clause-same

@@ -3,7 +3,7 @@ use Rattle.strips_task.specs.AtomKeys.{atom_of}
 use Rattle.pddl_syntax.specs.Optional.{through}
 use Rattle.pddl_reader.specs.Problem.{with_initial, given_atoms}
 use Rattle.pddl_reader.specs.Resolved.{vocabulary_form}
-use Rattle.pddl_reader.proofs.InitialSteps.{through_atoms}
+use Rattle.pddl_reader.proofs.InitialLemmas.{through_atoms}
 use Rattle.pddl_reader.proofs.resolution.initial.put_rows.Goals as goal
 
 pub returns-clause-same : goal.returns-clause-same

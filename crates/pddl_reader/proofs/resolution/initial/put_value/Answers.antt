@@ -1,7 +1,7 @@
 use Rattle.std.proofs.Common.{sym, ◌∙◌}
 use Rattle.pddl_syntax.specs.Forms.{value_form}
 use Rattle.pddl_reader.specs.Resolved.{known_form}
-use Rattle.pddl_reader.proofs.InitialSteps.{value_first, value_again, value_another}
+use Rattle.pddl_reader.proofs.InitialLemmas.{value_first, value_again, value_another}
 use Rattle.pddl_reader.proofs.resolution.initial.put_value.Goals as goal
 
 pub returns-in-First : goal.returns-in-First

@@ -1,5 +1,5 @@
 use Rattle.std.proofs.Common.{nat_eq, sym, ◌∙◌, ap}
-use Rattle.pddl_reader.proofs.TableSteps.{argument_types_counted}
+use Rattle.pddl_reader.proofs.TableLemmas.{argument_types_counted}
 use Rattle.pddl_reader.proofs.resolution.names.takes_terms.Goals as goal
 
 pub returns : goal.returns

@@ -5,7 +5,7 @@ use Rattle.pddl_words.specs.Words.{is_name}
 use Rattle.pddl_reader.specs.Resolved.{known_form}
 use Rattle.pddl_reader.specs.Rows.{row_number, row_numbers}
 use Rattle.strips_task.proofs.NamedRows.{none_yet, none_yet-length, names_more}
-use Rattle.pddl_reader.proofs.RowSteps.{numbers_more}
+use Rattle.pddl_reader.proofs.RowLemmas.{numbers_more}
 use Rattle.pddl_reader.proofs.resolution.rows.find_numbers.Goals as goal
 
 pub words-preserved : goal.words-preserved

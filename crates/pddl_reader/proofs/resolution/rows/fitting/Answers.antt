@@ -10,7 +10,7 @@ use Rattle.strips_task.specs.WellFormed.{is_fitting, term_types}
 use Rattle.strips_task.proofs.AtomEquality.{both_hold}
 use Rattle.pddl_reader.specs.Resolved.{known_form}
 use Rattle.pddl_reader.specs.Rows.{row_numbers}
-use Rattle.pddl_reader.proofs.RowSteps.{row_ground}
+use Rattle.pddl_reader.proofs.RowLemmas.{row_ground}
 use Rattle.pddl_reader.proofs.resolution.rows.fitting.Goals as goal
 
 pub returns : goal.returns

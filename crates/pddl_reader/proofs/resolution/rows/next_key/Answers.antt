@@ -4,7 +4,7 @@ use Rattle.strips_task.specs.AtomKeys.{atom_of}
 use Rattle.pddl_syntax.specs.Rows.{atom_spelled}
 use Rattle.pddl_reader.specs.Declarations.{ground_of}
 use Rattle.pddl_reader.specs.Resolved.{known_form}
-use Rattle.pddl_reader.proofs.RowSteps.{one_atom}
+use Rattle.pddl_reader.proofs.RowLemmas.{one_atom}
 use Rattle.pddl_reader.proofs.resolution.rows.next_key.Goals as goal
 
 pub returns-clause-taken : goal.returns-clause-taken

@@ -6,7 +6,7 @@ use Rattle.strips_task.specs.declared.atom_keys.AtomKey.{AtomKey}
 use Rattle.strips_task.specs.AtomKeys.{IsKeyOf, atom_of}
 use Rattle.pddl_reader.specs.Resolved.{known_form}
 use Rattle.pddl_reader.specs.Rows.{BeginWithAtoms}
-use Rattle.pddl_reader.proofs.RowSteps.{atoms_more}
+use Rattle.pddl_reader.proofs.RowLemmas.{atoms_more}
 use Rattle.pddl_reader.proofs.resolution.rows.next_keys.Goals as goal
 
 pub rows-preserved : goal.rows-preserved

@@ -2,7 +2,7 @@ use Rattle.std.proofs.Common.{◌≡◌, ◌∙◌, ap, sym}
 use Rattle.pddl_syntax.specs.declared.fault.FaultKind.TheVariants.{WrongType, OutOfMemory}
 use Rattle.pddl_syntax.specs.declared.fault.ReadFault.{ReadFault}
 use Rattle.pddl_reader.specs.Resolved.{known_form}
-use Rattle.pddl_reader.proofs.TermSteps.{object_unfit, object_fit}
+use Rattle.pddl_reader.proofs.TermLemmas.{object_unfit, object_fit}
 use Rattle.pddl_reader.proofs.resolution.terms.fitting_object.Goals as goal
 
 pub returns-then-not-object_fits : goal.returns-then-not-object_fits

@@ -3,7 +3,7 @@ use Rattle.strips_task.specs.WellFormed.{is_fitting, term_types}
 use Rattle.pddl_syntax.specs.declared.fault.FaultKind.TheVariants.{WrongType, OutOfMemory}
 use Rattle.pddl_syntax.specs.declared.fault.ReadFault.{ReadFault}
 use Rattle.pddl_reader.specs.Resolved.{known_form, parameters_form}
-use Rattle.pddl_reader.proofs.TermSteps.{term_unfit, term_fit}
+use Rattle.pddl_reader.proofs.TermLemmas.{term_unfit, term_fit}
 use Rattle.pddl_reader.proofs.resolution.terms.fitting_term.Goals as goal
 
 pub returns-then-not-term_fits : goal.returns-then-not-term_fits

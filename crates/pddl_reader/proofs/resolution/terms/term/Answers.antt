@@ -2,7 +2,7 @@ use Rattle.std.proofs.Common.{◌≡◌, ◌∙◌, sym, Some}
 use Rattle.pddl_syntax.specs.Forms.{word_forms}
 use Rattle.pddl_reader.specs.Resolved.{known_form, parameters_form}
 use Rattle.pddl_reader.specs.Variables.{parameter_number}
-use Rattle.pddl_reader.proofs.TermSteps.{variable_known, constant_known}
+use Rattle.pddl_reader.proofs.TermLemmas.{variable_known, constant_known}
 use Rattle.pddl_reader.proofs.resolution.terms.term.Goals as goal
 
 pub returns-then-not-is_variable : goal.returns-then-not-is_variable

@@ -3,7 +3,7 @@ use Rattle.std.specs.Str.{bytes_eq}
 use Rattle.pddl_words.specs.Words.{folded}
 use Rattle.strips_task.specs.Names.{number_named}
 use Rattle.pddl_reader.specs.TypeOrder.{counts_as_parent}
-use Rattle.pddl_reader.proofs.TypeSteps.{under_again, under_otherwise}
+use Rattle.pddl_reader.proofs.TypeLemmas.{under_again, under_otherwise}
 use Rattle.pddl_reader.proofs.resolution.types.declare_under.Goals as goal
 
 pub returns-then-is_same_name : goal.returns-then-is_same_name

@@ -1,6 +1,6 @@
 use Rattle.std.proofs.Common.{◌≡◌, ◌∙◌, sym, Some}
 use Rattle.strips_task.specs.Names.{number_named}
-use Rattle.pddl_reader.proofs.TypeSteps.{parent_named}
+use Rattle.pddl_reader.proofs.TypeLemmas.{parent_named}
 use Rattle.pddl_reader.proofs.resolution.types.parent_name.Goals as goal
 
 pub returns-in-Some : goal.returns-in-Some

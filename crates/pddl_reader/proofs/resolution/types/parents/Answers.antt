@@ -1,5 +1,5 @@
 use Rattle.std.proofs.Common.{◌∙◌, sym}
-use Rattle.pddl_reader.proofs.TypeSteps.{parents_start, parents_item}
+use Rattle.pddl_reader.proofs.TypeLemmas.{parents_start, parents_item}
 use Rattle.pddl_reader.proofs.resolution.types.parents.Goals as goal
 
 pub types-init : goal.types-init

@@ -1,5 +1,5 @@
 use Rattle.pddl_syntax.specs.Forms.{name_groups}
-use Rattle.pddl_reader.proofs.TypeSteps.{declared_all, few_declared}
+use Rattle.pddl_reader.proofs.TypeLemmas.{declared_all, few_declared}
 use Rattle.pddl_reader.proofs.resolution.types.tables.Goals as goal
 
 pub returns-clause-few : goal.returns-clause-few

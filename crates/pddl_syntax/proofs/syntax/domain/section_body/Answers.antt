@@ -1,7 +1,7 @@
 use Rattle.std.proofs.Common.{◌∙◌, ap, sym, Some}
 use Rattle.pddl_syntax.specs.Forms.{action_syntax_form, domain_sections_form}
 use Rattle.pddl_syntax.specs.Levels.{here}
-use Rattle.pddl_syntax.proofs.DomainSteps.{action_body, with_action_form}
+use Rattle.pddl_syntax.proofs.DomainLemmas.{action_body, with_action_form}
 use Rattle.pddl_syntax.proofs.syntax.domain.section_body.Goals as goal
 
 pub returns-in_ok-push-in-Action : goal.returns-in_ok-push-in-Action

@@ -3,7 +3,7 @@ use Rattle.pddl_syntax.specs.declared.heads.LiteralHead.TheVariants.{Atom}
 use Rattle.pddl_syntax.specs.Heads.{literal_head}
 use Rattle.pddl_syntax.specs.Levels.{here}
 use Rattle.pddl_syntax.specs.Trees.{begins_with_list}
-use Rattle.pddl_syntax.proofs.KnownSteps.{atom_named}
+use Rattle.pddl_syntax.proofs.KnownLemmas.{atom_named}
 use Rattle.pddl_syntax.proofs.syntax.known.literal.Goals as goal
 
 pub new-requires : goal.new-requires

@@ -3,7 +3,7 @@ use Rattle.pddl_syntax.specs.Heads.{is_and}
 use Rattle.pddl_syntax.specs.Levels.{here}
 use Rattle.pddl_syntax.specs.Trees.{Trees}
 use Rattle.pddl_syntax.specs.Remaining.{literals_left}
-use Rattle.pddl_syntax.proofs.LiteralSteps.{literal_there}
+use Rattle.pddl_syntax.proofs.LiteralLemmas.{literal_there}
 use Rattle.pddl_syntax.proofs.syntax.literals.next_literal.Goals as goal
 
 pub literal-requires : goal.literal-requires

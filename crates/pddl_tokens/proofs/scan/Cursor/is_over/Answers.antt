@@ -1,5 +1,5 @@
 use Rattle.std.proofs.Common.{sym, ◌∙◌, eqb-true}
-use Rattle.pddl_tokens.proofs.Steps.{end_step}
+use Rattle.pddl_tokens.proofs.Lemmas.{end_step}
 use Rattle.pddl_tokens.proofs.scan.Cursor.is_over.Goals as goal
 
 pub returns : goal.returns

@@ -1,7 +1,7 @@
 use Rattle.std.proofs.Common.{◌<◌, ◌+◌, length, sym, ◌∙◌, arith}
 use Rattle.pddl_tokens.specs.Tokens.{span}
 use Rattle.pddl_tokens.proofs.PlainRows.{class_by}
-use Rattle.pddl_tokens.proofs.Steps.{word_step}
+use Rattle.pddl_tokens.proofs.Lemmas.{word_step}
 use Rattle.pddl_tokens.proofs.scan.Cursor.word.Goals as goal
 
 pub returns : goal.returns

@@ -3,7 +3,7 @@ use Rattle.strips_task.specs.declared.plans.Plan.TheVariants.{Steps}
 use Rattle.strips_task.specs.declared.steps.StepText.{StepText}
 use Rattle.plan_text.specs.PlanReading.{plan_of}
 use Rattle.plan_text.specs.Walks.{Walk, HasPassed}
-use Rattle.plan_text.proofs.WalkSteps.{ends_here}
+use Rattle.plan_text.proofs.WalkLemmas.{ends_here}
 use Rattle.plan_text.proofs.walk.PlanSteps.is_over.Goals as goal
 
 pub returns-in-End : goal.returns-in-End

@@ -2,7 +2,7 @@ use Rattle.std.proofs.Common.{refl, ap, sym, ◌∙◌, subst, length, arith}
 use Rattle.pddl_tokens.specs.Within.{AreWithin}
 use Rattle.pddl_tokens.proofs.Within.{pieces_within}
 use Rattle.plan_text.specs.PlanReading.{plan_from, nothing_read}
-use Rattle.plan_text.proofs.Steps.{plan_short, plan_too_long}
+use Rattle.plan_text.proofs.Lemmas.{plan_short, plan_too_long}
 use Rattle.plan_text.proofs.walk.PlanSteps.new.Goals as goal
 
 pub invariant_of-result : goal.invariant_of-result

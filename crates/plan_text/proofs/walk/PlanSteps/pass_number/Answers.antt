@@ -1,6 +1,6 @@
 use Rattle.std.proofs.Common.{sym, ◌∙◌}
 use Rattle.pddl_tokens.specs.declared.spans.TokenKind.TheVariants.{Word}
-use Rattle.plan_text.proofs.WalkSteps.{goes_on_behind, number_read}
+use Rattle.plan_text.proofs.WalkLemmas.{goes_on_behind, number_read}
 use Rattle.plan_text.proofs.walk.PlanSteps.pass_number.Goals as goal
 
 pub invariant_of-self : goal.invariant_of-self

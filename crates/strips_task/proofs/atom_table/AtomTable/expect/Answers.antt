@@ -6,5 +6,5 @@ use Rattle.strips_task.proofs.atom_table.AtomTable.expect.Goals as goal
 
 pub invariant_of-self : goal.invariant_of-self
 invariant_of-self c =
-    subst (λ (l : List AtomKey). IsAtomTable l c.expect.new.self c.self.inside.long.entries) (sym c.reserve.ensures.items)
-    (table_more c.self.inside.entries.items c.self.inside.few c.self.inside.long.entries c.self.invariant c.expect.new.self c.expect.ensures.right c.expect.ensures.still)
+    subst (λ (l : List AtomKey). IsAtomTable l c.expect.new.self c.self.inside.wide.entries) (sym c.reserve.ensures.items)
+    (table_more c.self.inside.entries.items c.self.inside.packed c.self.inside.wide.entries c.self.invariant c.expect.new.self c.expect.ensures.right c.expect.ensures.still)

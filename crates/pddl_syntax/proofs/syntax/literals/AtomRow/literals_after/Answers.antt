@@ -4,19 +4,19 @@ use Rattle.pddl_syntax.specs.Remaining.{remaining}
 use Rattle.pddl_syntax.specs.Syntax.{atom_literal}
 use Rattle.pddl_syntax.specs.Rows.{RowAhead, atom_spelled, is_atom_row}
 use Rattle.pddl_syntax.proofs.AtomRows.{atom_row_is_plain, first_of_atom_row}
-use Rattle.pddl_syntax.proofs.RowSteps.{row_goes_on, row_first, less_ahead}
+use Rattle.pddl_syntax.proofs.RowLemmas.{row_goes_on, row_first, less_ahead}
 use Rattle.pddl_syntax.proofs.syntax.literals.AtomRow.literals_after.Goals as goal
 
 pub pass-requires-clause-spelled : goal.pass-requires-clause-spelled
 pass-requires-clause-spelled c =
-    let row = c.self.inside.group.key.now in
+    let row = c.self.inside.range.key.now in
     let spelled : is_atom_row row ≡ true = ap is_atom_row (ap (λ (r : RowAhead). r.bytes) c.self.view_is) ∙ c.requires in
     atom_row_is_plain row spelled
 
 pub invariant_of-result : goal.invariant_of-result
 invariant_of-result c =
     let inside = c.self.inside in
-    let row = inside.group.key.now in
+    let row = inside.range.key.now in
     let spelled : is_atom_row row ≡ true = ap is_atom_row (ap (λ (r : RowAhead). r.bytes) c.self.view_is) ∙ c.requires in (
       row_goes_on inside.scope row (here inside.walk.cursor) (here c.pass.new.self.cursor) (c.self.invariant.2 (first_of_atom_row row spelled)) c.pass.ensures c.self.invariant.0,
       omega (arith, inside.walk.short, less_ahead row (here inside.walk.cursor) (here c.pass.new.self.cursor) c.pass.ensures),
@@ -25,7 +25,7 @@ invariant_of-result c =
 pub returns : goal.returns
 returns c =
     let inside = c.self.inside in
-    let row = inside.group.key.now in
+    let row = inside.range.key.now in
     let bytes = ap (λ (r : RowAhead). r.bytes) c.self.view_is in
     let spelled : is_atom_row row ≡ true = ap is_atom_row bytes ∙ c.requires in
     sym (ap (λ (r : RowAhead). r.before) c.self.view_is)

@@ -2,7 +2,7 @@ use Rattle.std.proofs.Common.{List, [], subst, unwrap_or}
 use Rattle.pddl_syntax.specs.Levels.{here}
 use Rattle.pddl_syntax.specs.Remaining.{TakesNext, remaining}
 use Rattle.pddl_syntax.specs.Syntax.{LiteralForm}
-use Rattle.pddl_syntax.proofs.LiteralSteps.{taken}
+use Rattle.pddl_syntax.proofs.LiteralLemmas.{taken}
 use Rattle.pddl_syntax.proofs.syntax.literals.Literals.next.Goals as goal
 
 pub returns : goal.returns

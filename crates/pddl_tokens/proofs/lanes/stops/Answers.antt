@@ -1,5 +1,0 @@
-use Rattle.pddl_tokens.proofs.NameLanes.{stops_mask}
-use Rattle.pddl_tokens.proofs.lanes.stops.Goals as goal
-
-pub returns : goal.returns
-returns c = stops_mask c.args.before c.args.bytes c.fits-before.0 c.fits-bytes.0 c.fits-bytes.1
