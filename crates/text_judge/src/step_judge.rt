@@ -22,7 +22,7 @@ use plan_cost::{Assessment, CostScratch, CostedTask};
 use std::alloc::{AllocError, Global};
 use std::marker::Model;
 use strips_judge::{Atom, CodeBuffer, NumberedState, Scratch, Why, judge_goal, take_step};
-use strips_task::StepView;
+use strips_task::{StepView, WordList};
 
 /// How many atoms besides the initial ones may have numbers that are kept from one plan to the next, with all that was learned.
 pub(crate) const MOST_LATER: usize = 131_072;
@@ -41,6 +41,8 @@ pub(crate) struct Judge<'t> {
     limits: MemoLimits,
     state: NumberedState<'t>,
     memo: Memo,
+    /// Room for a name in lower case.
+    name: WordList,
     /// The numbers of the step that is being taken.
     numbers: Vec<u16>,
     code: CodeBuffer,
@@ -83,6 +85,7 @@ impl<'t> Judge<'t> {
             limits,
             state,
             memo: Memo::new(alloc, initial.seed(), limits),
+            name: WordList::new(alloc),
             numbers: Vec::new(alloc),
             code: CodeBuffer::new(alloc),
             scratch: Scratch::new(alloc),
@@ -182,7 +185,7 @@ impl<'t> Judge<'t> {
         true
     }
 
-    /// Takes the step that a row spells in lower case, if its names are known and it is applicable, and otherwise changes no atom. Returns whether it did.
+    /// Takes the step that a row spells, if its names are known and it is applicable, and otherwise changes no atom. Returns whether it did.
     /// Learns a step that has a code while there is room.
     ///
     /// Takes a few reads of memory for each name and for each atom, fewer for those that were looked up before, and memory for what is new. If memory runs
@@ -195,7 +198,7 @@ impl<'t> Judge<'t> {
             → HasTaken self.new (steps ++ step_spelled row.now ∷ [])) }
         ensures not { IfOk result (λ taken. taken ≡ false → (steps : List StepText) → HasTaken self.old steps → HasTaken self.new steps) }
     {
-        if !number_names(&self.task.task, row, &mut self.numbers)? {
+        if !number_names(&self.task.task, row, &mut self.name, &mut self.numbers)? {
             return Ok(false);
         }
         let may_learn = self.may_learn();

@@ -1,4 +1,4 @@
-use Rattle.std.proofs.Common.{◌≡◌, true, false, [], ◌∷◌, ◌++◌, Some, eqb, map, length, ap, sym, ◌∙◌, rules, tests, arith}
+use Rattle.std.proofs.Common.{◌≡◌, ℕ, true, false, [], ◌∷◌, ◌++◌, Option, Some, IfSome, eqb, map, length, ap, sym, subst, ◌∙◌, rules, tests, arith}
 use Rattle.std.specs.List.{list_all}
 use Rattle.std.specs.Vec.{vec_len}
 use Rattle.std.proofs.lemmas.List.{append_assoc, append-nil}
@@ -17,13 +17,13 @@ words-preserved c =
     let items = c.words.numbers.items in
     let len : vec_len c.words.numbers ≡ length items = search rules in
     let empty : c.is_empty.result ≡ none_yet items = c.is_empty.ensures ∙ ap (λ n. eqb n 0) len ∙ none_yet-length items in
-    let found = c.in-Some-number_of.ensures in
-    let named : number_by parts (none_yet items) (folded word) ≡ Some c.in-Some-number_of.number = ap (λ e. number_by parts e (folded word)) (sym empty) ∙ found.1 in
+    let found = subst (λ (o : Option ℕ). IfSome o (λ number. (is_name word ≡ true) × (number_by parts c.is_empty.result (folded word) ≡ Some number))) c.in-Some-2.is c.in_ok-number.ensures in
+    let named : number_by parts (none_yet items) (folded word) ≡ Some c.in-Some-2.number = ap (λ e. number_by parts e (folded word)) (sym empty) ∙ found.1 in
     record {
       passed = passed ++ word ∷ [];
       words = c.words.invariant.words ∙ ap (λ ws. passed ++ ws) c.in-Some.ensures ∙ sym (append_assoc passed (word ∷ []) c.next.new.self);
       names = names_more passed word c.words.invariant.names found.0;
-      numbered = numbered_more parts passed items word c.in-Some-number_of.number c.words.invariant.numbered named ∙ ap (map Some) (sym c.in_ok-push-in-Some-number_of.ensures.items);
+      numbered = numbered_more parts passed items word c.in-Some-2.number c.words.invariant.numbered named ∙ ap (map Some) (sym c.in_ok-push-in-Some-2.ensures.items);
     }
 
 pub returns-clause-spelled : goal.returns-clause-spelled

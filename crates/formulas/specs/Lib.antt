@@ -1,0 +1,13 @@
+pub mod Equality
+pub mod EqualityLaws
+pub mod Grounding
+pub mod Hashing
+pub mod Heights
+pub mod Laws
+pub mod Meaning
+pub mod Nodes
+pub mod Opposite
+pub mod Tree
+pub mod TreeCode
+pub mod Variables
+pub mod Within
