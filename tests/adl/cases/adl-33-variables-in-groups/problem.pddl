@@ -1,0 +1,5 @@
+(define (problem t-1)
+  (:domain t)
+  (:objects d - u e - v f - w g)
+  (:init (p) (q d) (r d) (s c e))
+  (:goal ()))

@@ -1,0 +1,10 @@
+(define (domain t)
+  (:types u v - w w none)
+  (:constants c - u)
+  (:predicates (p) (q ?x) (r ?x - u) (s ?x - u ?y - v) (k ?x ?y))
+  (:action a
+    :parameters (?x - u ?y - v)
+    :precondition
+      (exists (?v1 ?v2 ?v3 ?v4 ?v5 ?v6 ?v7 ?v8 ?v9 ?v10 ?v11 ?v12 ?v13 ?v14 ?v15 ?v16 ?v17 ?v18 ?v19 ?v20 ?v21 ?v22 ?v23 ?v24 ?v25 ?v26 ?v27 ?v28 ?v29 ?v30 ?v31 ?v32 ?v1) (p))
+    :effect
+      ()))

@@ -1,0 +1,1 @@
+(define (problem q) (:domain t) (:goal (p)))

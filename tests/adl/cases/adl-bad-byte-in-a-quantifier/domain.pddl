@@ -1,0 +1,4 @@
+(define (domain t)
+  (:action a
+    :precondition (forall ?x (when)))
+  (:action b :effect ()))

@@ -1,0 +1,11 @@
+(define (domain room)
+  (:types s - sup sup pair single none)
+  (:predicates (p) (q ?x))
+  (:action a
+    :parameters (?l)
+    :precondition (exists (?a ?b ?c ?d ?e ?f - s) (p))
+    :effect ())
+  (:action b
+    :precondition (and
+      (exists (?a ?b ?c ?d ?e ?f - s) (p))
+      (forall (?z - single) (p)))))

@@ -1,0 +1,7 @@
+(define (problem room-1)
+  (:domain room)
+  (:objects a b c d e f g h i j k l m n o t - s x y - pair z - single)
+  (:init (p))
+  (:goal (or (exists (?a ?b ?c ?d ?e - s ?f ?g ?h - pair) (p))
+    (not (exists (?a ?b ?c - pair ?d ?e ?f ?g ?h - s) (p)))
+    (imply (p) (exists (?z ?y - single) (p))))))

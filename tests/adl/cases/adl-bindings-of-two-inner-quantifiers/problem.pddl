@@ -1,0 +1,9 @@
+(define (problem room-1)
+  (:domain room)
+  (:objects a b c d e f g h i j k l m n o t - s x y - pair z - single)
+  (:init (p))
+  (:goal (exists (?a - pair) (and
+    (exists (?b ?c ?d ?e ?f - s) (p))
+    (exists (?b ?c ?d ?e ?f - s) (p))
+    (exists (?b ?c ?d ?e - s ?f ?g - pair ?h - single) (p))
+    (exists (?b ?c ?d ?e ?f - s ?g ?h ?i - pair) (p))))))

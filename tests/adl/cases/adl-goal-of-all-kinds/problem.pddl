@@ -1,0 +1,6 @@
+(define (problem t-1)
+  (:domain t)
+  (:objects d - u e - v f - w g)
+  (:init (p) (q d) (r d) (s c e))
+  (:goal (and (or (q c)) (p) (imply (p) (q c)) (not (or (p))) (exists (?z - v) (q ?z))
+    (forall (?z - u) (q ?z)) (not (q d)) (= c d))))

@@ -1,0 +1,5 @@
+(define (problem t-1)
+  (:domain t)
+  (:objects b c)
+  (:init (increase c))
+  (:goal (forall (?x) (increase ?x))))

@@ -1,0 +1,1 @@
+(define (domain t) (:predicates (p)) (:functions (total-cost)) (:action a :effect (when (p) (increase (total-cost) 1))))

@@ -1,0 +1,1 @@
+(define (domain t) (:predicates (p)) (:action a :effect (or (p) (p))))

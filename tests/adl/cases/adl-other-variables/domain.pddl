@@ -1,0 +1,10 @@
+(define (domain t)
+  (:types u v - w w none)
+  (:constants c - u)
+  (:predicates (p) (q ?x) (r ?x - u) (s ?x - u ?y - v) (k ?x ?y))
+  (:action a
+    :parameters (?x - u ?y - v)
+    :precondition
+      (and (exists (?z) (k ?z ?z)) (exists (?w) (k ?w ?w)) (exists (?z) (k ?z ?z)))
+    :effect
+      ()))

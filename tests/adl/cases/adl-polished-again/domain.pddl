@@ -1,0 +1,10 @@
+(define (domain shop)
+  (:types part surface - object)
+  (:constants polished rough - surface)
+  (:predicates (has ?p - part ?s - surface) (busy))
+  (:action polish
+    :parameters (?p - part)
+    :precondition (not (busy))
+    :effect (and (busy) (has ?p polished)
+      (forall (?s - surface) (when (has ?p ?s) (not (has ?p ?s))))))
+  (:action wait :effect (not (busy))))

@@ -1,0 +1,5 @@
+(define (problem shop-1)
+  (:domain shop)
+  (:objects bolt nut - part)
+  (:init (has bolt rough) (has nut polished))
+  (:goal (and (forall (?p - part) (has ?p polished)) (not (exists (?p - part) (has ?p rough))))))

@@ -1,0 +1,5 @@
+(define (domain t)
+  (:predicates (p))
+  (:action a
+    :effect (when (nope) (p))
+    :precondition (or (nix))))

@@ -1,0 +1,13 @@
+(define (domain t)
+  (:types u v - w w none)
+  (:constants c - u)
+  (:predicates (p) (q ?x) (r ?x - u) (s ?x - u ?y - v) (k ?x ?y))
+  (:action a
+    :parameters (?x - u ?y - v)
+    :precondition
+      (AND (OR (Q ?X)
+           ( R   ?x ) ) (ForAll ( ?Z -  U
+) (Q ?z)) ; and so on
+        (Imply(P)(Q ?X)))
+    :effect
+      ()))

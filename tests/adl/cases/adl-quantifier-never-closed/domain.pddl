@@ -1,0 +1,4 @@
+(define (domain t)
+  (:predicates (p))
+  (:action a
+    :precondition (forall (?x (p))))

@@ -1,0 +1,5 @@
+(define (problem shift-1)
+  (:domain shift)
+  (:objects c1 c2 c3 c4 - cell)
+  (:init (next c1 c2) (next c2 c3) (next c3 c4) (next c4 c1) (on c1) (on c2))
+  (:goal (and (on c1) (on c4) (forall (?a - cell) (imply (on ?a) (or (= ?a c1) (= ?a c4)))))))

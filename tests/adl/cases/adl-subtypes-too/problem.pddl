@@ -1,0 +1,5 @@
+(define (problem t-1)
+  (:domain t)
+  (:objects d - u e - v f - w g)
+  (:init (p) (q d) (r d) (s c e))
+  (:goal (and (forall (?z - w) (or (= ?z c) (= ?z d) (= ?z e) (= ?z f))) (exists (?z - w) (= ?z f)) (exists (?z - w) (= ?z e)))))

@@ -1,0 +1,5 @@
+(define (problem t-1)
+  (:domain t)
+  (:objects b c - u)
+  (:init (= (d b) 2) (= (total-cost) 1))
+  (:goal (exists (?x - u) (p ?x))))

@@ -1,0 +1,1 @@
+(define (domain t) (:predicates (p ?x)) (:action a :precondition (forall (?x) (p ?y))))

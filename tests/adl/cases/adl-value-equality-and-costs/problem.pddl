@@ -1,0 +1,6 @@
+(define (problem t-1)
+  (:domain t)
+  (:objects b c - u)
+  (:init (= (total-cost) 3))
+  (:goal (p b))
+  (:metric minimize (total-cost)))

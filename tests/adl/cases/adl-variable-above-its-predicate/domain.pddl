@@ -1,0 +1,1 @@
+(define (domain t) (:types u) (:predicates (p ?x - u)) (:action a :precondition (forall (?x) (p ?x))))

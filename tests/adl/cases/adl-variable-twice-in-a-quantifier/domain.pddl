@@ -1,0 +1,1 @@
+(define (domain t) (:predicates (p)) (:action a :precondition (exists (?x ?x) (p))))
