@@ -10,7 +10,7 @@ use std::alloc::{AllocError, Global};
 use std::marker::Model;
 
 /// A set of numbers, each kept as one bit. Contracts see the words.
-#[derive(Debug, Drop)]
+#[derive(Drop)]
 pub struct Row {
     words: Vec<u64>,
 }

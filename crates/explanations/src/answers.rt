@@ -67,7 +67,7 @@ pub fn explain(
 }
 
 /// Which text is refused, and why.
-#[derive(Clone, Copy, Debug)]
+#[derive(Clone, Copy)]
 pub enum Refused {
     /// The domain is.
     Domain(ReadFault),

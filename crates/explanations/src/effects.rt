@@ -5,10 +5,18 @@ use std::alloc::{AllocError, Global};
 use strips_task::{Action, Atom, InitialAtoms, Pattern, Seed, ShortSeq, StepView, Task, Term};
 
 /// The atoms that are true: the initial ones, and what was changed since.
-#[derive(Drop)]
 pub(crate) struct World<'t> {
     initial: &'t InitialAtoms,
     changed: IndexMap<Atom, bool, Seed>,
+}
+
+impl Drop for World<'_> {
+    fn drop(self) {
+        let Self {
+            initial: _,
+            changed: _,
+        } = self;
+    }
 }
 
 impl<'t> World<'t> {

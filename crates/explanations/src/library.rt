@@ -8,10 +8,18 @@ use crate::positions::bytes_at;
 use std::alloc::{AllocError, Global};
 
 /// A file and the names that it declares.
-#[derive(Drop)]
 pub(crate) struct Known<'a> {
     file: SourceText<'a>,
     outline: Outline,
+}
+
+impl Drop for Known<'_> {
+    fn drop(self) {
+        let Self {
+            file: _,
+            outline: _,
+        } = self;
+    }
 }
 
 impl<'a> Known<'a> {
@@ -24,11 +32,20 @@ impl<'a> Known<'a> {
 }
 
 /// The domain and the problem with their names. If the domain is refused, the problem is empty.
-#[derive(Drop)]
 pub(crate) struct Library<'a> {
     domain: Known<'a>,
     problem: Known<'a>,
     budget: Budget,
+}
+
+impl Drop for Library<'_> {
+    fn drop(self) {
+        let Self {
+            domain: _,
+            problem: _,
+            budget: _,
+        } = self;
+    }
 }
 
 /// A name that was found.

@@ -16,12 +16,22 @@ use strips_task::{Action, Formula, Task};
 const MOST_WARNINGS: usize = 100;
 
 /// A text that is read, with its pieces, its names and its literals.
-#[derive(Drop)]
 pub(crate) struct ReadText<'a> {
     pub(crate) file: SourceText<'a>,
     pub(crate) pieces: Pieces<'a>,
     pub(crate) outline: Outline,
     pub(crate) literals: Literals,
+}
+
+impl Drop for ReadText<'_> {
+    fn drop(self) {
+        let Self {
+            file: _,
+            pieces: _,
+            outline: _,
+            literals: _,
+        } = self;
+    }
 }
 
 impl<'a> ReadText<'a> {

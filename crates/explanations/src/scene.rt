@@ -20,13 +20,23 @@ pub(crate) struct Refusal<'a> {
 }
 
 /// A refusal, with the pieces of its text and the names that are known there.
-#[derive(Drop)]
 pub(crate) struct Scene<'a> {
     pub(crate) refusal: Refusal<'a>,
     pub(crate) pieces: Pieces<'a>,
     /// The number of the piece at which the fault is.
     pub(crate) number: usize,
     pub(crate) library: Library<'a>,
+}
+
+impl Drop for Scene<'_> {
+    fn drop(self) {
+        let Self {
+            refusal: _,
+            pieces: _,
+            number: _,
+            library: _,
+        } = self;
+    }
 }
 
 impl<'a> Scene<'a> {

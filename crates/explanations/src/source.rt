@@ -5,7 +5,7 @@ use pddl_reader::Dialect;
 use report_text::Text;
 
 /// A file, with its name as it was given.
-#[derive(Clone, Copy, Debug)]
+#[derive(Clone, Copy)]
 pub struct SourceText<'a> {
     /// The name, which the explanation names the file by.
     pub name: &'a [u8],
@@ -14,7 +14,7 @@ pub struct SourceText<'a> {
 }
 
 /// How an explanation is written.
-#[derive(Clone, Copy, Debug, PartialEq, Eq)]
+#[derive(Clone, Copy, PartialEq, Eq)]
 pub enum ExplanationFormat {
     /// As a text for people.
     Text,
@@ -25,7 +25,7 @@ pub enum ExplanationFormat {
 }
 
 /// How much is said of plans in the phrases of `validate`.
-#[derive(Clone, Copy, Debug, PartialEq, Eq)]
+#[derive(Clone, Copy, PartialEq, Eq)]
 pub enum Phrases {
     /// A line for each plan: its value, or `failed`.
     Values,
@@ -36,7 +36,7 @@ pub enum Phrases {
 }
 
 /// How to explain.
-#[derive(Clone, Copy, Debug)]
+#[derive(Clone, Copy)]
 pub struct Options {
     /// The language of domain and problem.
     pub dialect: Dialect,
@@ -51,7 +51,7 @@ pub struct Options {
 }
 
 /// What is explained.
-#[derive(Debug, Drop)]
+#[derive(Drop)]
 pub struct Explanation {
     /// The text or the records, whose lines end with LF.
     pub text: Text,

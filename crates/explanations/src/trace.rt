@@ -12,7 +12,6 @@ use std::alloc::{AllocError, Global};
 use strips_task::{Action, Atom, OpenSteps, StepView, Task};
 
 /// What a walk over the steps of a plan keeps.
-#[derive(Drop)]
 struct Trace<'t> {
     task: &'t CostedTask,
     world: World<'t>,
@@ -20,6 +19,18 @@ struct Trace<'t> {
     scratch: CostScratch,
     /// What the steps cost so far.
     cost: Cost,
+}
+
+impl Drop for Trace<'_> {
+    fn drop(self) {
+        let Self {
+            task: _,
+            world: _,
+            step: _,
+            scratch: _,
+            cost: _,
+        } = self;
+    }
 }
 
 /// Adds what each of the first steps of a plan changes.

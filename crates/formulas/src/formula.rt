@@ -8,7 +8,7 @@ use strips_task::Seq;
 /// A formula of PDDL (PDDL 2.1, Fox and Long 2003, section 2). [`Formula::new`] makes one of its parts, and [`Formula::node`] shows them. Contracts see a
 /// tree without addresses in memory, so a copy is the same as the original.
 #[cycle(formula)]
-#[derive(Debug, Drop)]
+#[derive(Drop)]
 pub struct Formula {
     node: Node,
 }
@@ -17,7 +17,7 @@ pub struct Formula {
 ///
 /// A literal has its sign in the node itself, and needs no memory of its own for an atom of at most four arguments.
 #[cycle(formula)]
-#[derive(Debug, Drop)]
+#[derive(Drop)]
 pub enum Node {
     /// An atom that has to be true (`true`) or false.
     Atom(bool, Pattern),

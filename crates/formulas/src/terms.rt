@@ -3,7 +3,7 @@
 use strips_task::ShortSeq;
 
 /// An argument of an atom, or a side of an equality.
-#[derive(Clone, Copy, Debug)]
+#[derive(Clone, Copy)]
 pub enum Term {
     /// A parameter of the action, by its index, counted from 0.
     Param(u16),
@@ -22,7 +22,7 @@ impl Default for Term {
 }
 
 /// A predicate applied to terms.
-#[derive(Debug, Drop)]
+#[derive(Drop)]
 pub struct Pattern {
     /// The number of the predicate.
     pub pred: u16,

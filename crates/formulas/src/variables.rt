@@ -4,7 +4,7 @@ use strips_task::{Alternatives, Name, Seq};
 
 /// Variables of a quantifier that share their types, such as `?x ?y - block` or `?z - (either a b)`. A quantifier keeps its groups as they were written,
 /// because conditions are printed.
-#[derive(Debug, Drop)]
+#[derive(Drop)]
 pub struct VariableGroup {
     /// The names of the variables in order, without their question marks.
     pub names: Seq<Name>,

@@ -27,7 +27,6 @@ use strips_judge::Plan;
 const WAITING_WORDS: usize = 1024;
 
 /// The desk of one thread. Contracts see its task, the number of its slots, and what it knows.
-#[derive(Drop)]
 pub struct Desk {
     task: Snapshot<CostedTask>,
     limit: u32,
@@ -35,6 +34,18 @@ pub struct Desk {
     planners: Vec<Planner>,
     /// For each slot a bit, which is set while the job of the slot waits.
     waiting: [u64; WAITING_WORDS],
+}
+
+impl Drop for Desk {
+    fn drop(self) {
+        let Self {
+            task: _,
+            limit: _,
+            table: _,
+            planners: _,
+            waiting: _,
+        } = self;
+    }
 }
 
 impl Model for Desk {

@@ -13,7 +13,7 @@ pub(crate) struct Slot {
 }
 
 /// A planner.
-#[derive(Clone, Copy, Debug, Drop)]
+#[derive(Clone, Copy, Drop)]
 pub(crate) struct Planner {
     /// Whether no plan of it is accepted any more.
     pub(crate) closed: bool,

@@ -12,13 +12,18 @@ use std::sync::Arc;
 use strips_task::Plan;
 
 /// A plan that was handed in. Contracts see its content, however it is kept.
-#[derive(Debug, Drop)]
 pub struct SubmittedPlan {
     kept: KeptPlan,
 }
 
+impl Drop for SubmittedPlan {
+    fn drop(self) {
+        let Self { kept: _ } = self;
+    }
+}
+
 /// What is kept of a plan.
-#[derive(Debug, Drop)]
+#[derive(Drop)]
 enum KeptPlan {
     /// The plan, which may have other owners as well.
     Read(Arc<Plan>),
@@ -27,7 +32,7 @@ enum KeptPlan {
 }
 
 /// A plan in the form in which it is kept.
-#[derive(Clone, Copy, Debug)]
+#[derive(Clone, Copy)]
 pub enum PlanForm<'a> {
     /// The plan itself.
     Read(&'a Plan),

@@ -7,7 +7,7 @@ use std::marker::Model;
 use std::sync::Arc;
 
 /// A range of bytes that may have other owners as well. Contracts see the bytes of the range.
-#[derive(Debug, Drop)]
+#[derive(Drop)]
 pub struct SharedText {
     bytes: Arc<Vec<u8>>,
     start: u32,

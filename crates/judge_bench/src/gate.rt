@@ -12,7 +12,7 @@ pub trait Gate {
 }
 
 /// The gate that holds no job.
-#[derive(Debug, Drop)]
+#[derive(Drop)]
 pub struct Open;
 
 impl Gate for Open {

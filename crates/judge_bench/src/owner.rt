@@ -21,7 +21,6 @@ use std::marker::Model;
 
 /// The seat of the owner: it accepts plans, gives seats out, emits findings, and may judge as a worker does. Contracts see at which bench it is, and
 /// what it knows.
-#[derive(Drop)]
 pub struct Owner {
     seat: BenchSeat,
     /// Whose each job is.
@@ -32,6 +31,19 @@ pub struct Owner {
     seats_out: u32,
     /// The first slot at which the owner tries to take a job.
     first: u32,
+}
+
+impl Drop for Owner {
+    fn drop(self) {
+        let Self {
+            seat: _,
+            planners: _,
+            cursors: _,
+            closed: _,
+            seats_out: _,
+            first: _,
+        } = self;
+    }
 }
 
 impl Model for Owner {

@@ -8,7 +8,7 @@ use std::marker::Model;
 use std::sync::Arc;
 
 /// A planner's name and the bytes of its file. Contracts see the two lists of bytes.
-#[derive(Debug, Drop)]
+#[derive(Drop)]
 pub struct Bundle {
     /// The planner's name, as reports show it.
     pub name: String,

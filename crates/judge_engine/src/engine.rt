@@ -71,7 +71,7 @@ pub fn judge_bytes<R: Threads + Wait + Sync, G: Gate + Sync>(
 }
 
 /// What a run is given.
-#[derive(Clone, Copy, Debug)]
+#[derive(Clone, Copy)]
 pub struct RunInput<'a> {
     /// The dialect of the domain and the problem.
     pub dialect: Dialect,

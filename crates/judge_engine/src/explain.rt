@@ -14,7 +14,7 @@ use report_text::{Text, push_json_string};
 use std::alloc::{AllocError, AllocFailed, Global};
 
 /// What is explained, whether all is well, and if no plan was judged, why.
-#[derive(Debug, Drop)]
+#[derive(Drop)]
 pub(crate) struct Explained<'a> {
     pub(crate) report: Report,
     pub(crate) all_valid: bool,
@@ -22,7 +22,7 @@ pub(crate) struct Explained<'a> {
 }
 
 /// Why the files are not read.
-#[derive(Debug, Drop)]
+#[derive(Drop)]
 enum Unread<'a> {
     /// The file with this name cannot be read.
     Absent(&'a str, Absence),
@@ -78,7 +78,7 @@ pub(crate) fn explain_files<'a, S: Sources>(
 }
 
 /// A file that was read, with its name.
-#[derive(Debug, Drop)]
+#[derive(Drop)]
 struct NamedText {
     name: String,
     bytes: Vec<u8>,

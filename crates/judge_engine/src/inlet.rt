@@ -83,7 +83,7 @@ pub trait Inlet {
 }
 
 /// A reader of the standard library as an inlet. Any error of the reader is [`Failed`], an interrupted read too.
-#[derive(Debug, Drop)]
+#[derive(Drop)]
 pub struct Feed<R> {
     reader: R,
     failed: bool,

@@ -12,7 +12,7 @@ use report_text::{Text, push_json_string};
 use std::alloc::{AllocError, AllocFailed, Global};
 
 /// Why a run over files stops without a report.
-#[derive(Clone, Copy, Debug)]
+#[derive(Clone, Copy)]
 pub(crate) enum Stop<'a> {
     /// The file with this name cannot be read.
     Unreadable(&'a str, Absence),

@@ -38,7 +38,7 @@ pub trait Outlet {
 }
 
 /// A writer of the standard library as an outlet. Any error of the writer is [`Failed`].
-#[derive(Debug, Drop)]
+#[derive(Drop)]
 pub struct Sink<W> {
     writer: W,
     failed: bool,

@@ -16,7 +16,7 @@ use std::alloc::AllocError;
 use strips_judge::Verdict;
 
 /// What the last line of a planner sums up.
-#[derive(Clone, Copy, Debug)]
+#[derive(Clone, Copy)]
 pub(crate) struct Tally {
     /// How many plans there are.
     pub(crate) plans: usize,
@@ -29,7 +29,7 @@ pub(crate) struct Tally {
 }
 
 /// How far a report is: at which planner, and the sum of those of its plans that are in the report.
-#[derive(Clone, Copy, Debug)]
+#[derive(Clone, Copy)]
 pub(crate) struct ReportPosition {
     /// The planner, counted from 0.
     pub(crate) planner: u32,

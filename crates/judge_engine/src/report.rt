@@ -4,9 +4,14 @@ ghost use Rattle.std.specs.Prelude.{◌≡◌, ℕ, List};
 use std::marker::Model;
 
 /// A whole report. Contracts see the list of its bytes.
-#[derive(Debug, Drop)]
 pub struct Report {
     bytes: Vec<u8>,
+}
+
+impl Drop for Report {
+    fn drop(self) {
+        let Self { bytes: _ } = self;
+    }
 }
 
 impl Model for Report {

@@ -7,7 +7,7 @@ use pddl_reader::Dialect;
 use report_text::Format;
 
 /// What a command line asks for.
-#[derive(Debug, Drop)]
+#[derive(Drop)]
 pub(crate) enum Request<'a> {
     /// Judge the plans of planners.
     Judge(JudgeRequest<'a>),
@@ -48,7 +48,7 @@ fn count_input(texts: &[&str], others: &[&str]) -> usize {
 }
 
 /// A run over files.
-#[derive(Debug, Drop)]
+#[derive(Drop)]
 pub struct JudgeRequest<'a> {
     /// The name of the file of the domain.
     pub domain: &'a str,
@@ -67,7 +67,7 @@ pub struct JudgeRequest<'a> {
 }
 
 /// What is to be explained or validated.
-#[derive(Debug, Drop)]
+#[derive(Drop)]
 pub struct ExplainRequest<'a> {
     /// The name of the file of the domain.
     pub domain: &'a str,
@@ -86,7 +86,7 @@ pub struct ExplainRequest<'a> {
 }
 
 /// The files of a replay.
-#[derive(Debug, Drop)]
+#[derive(Drop)]
 pub struct ReplayRequest<'a> {
     /// The name of the file of the domain.
     pub domain: &'a str,

@@ -31,8 +31,8 @@ pub fn read_problem(alloc: Global, domain: Domain, text: &[u8]) -> Result<Task, 
     ensures task { Gives (λ task. task) result (problem_of_text domain text.now) }
     ensures fault { (e : read_fault.ReadFault) → text_fault text.now ≡ Some e → result ≡ Err e }
 {
-    let CostedTask { task, costs: _ } = read_problem_in(alloc, Dialect::Strips, domain, text)?;
-    Ok(task)
+    let costed = read_problem_in(alloc, Dialect::Strips, domain, text)?;
+    Ok(costed.into_task())
 }
 
 /// Reads a domain as [`read_domain`] does, in a dialect. With [`Dialect::Ipc`] it may declare functions (PDDL 2.1, Fox and Long 2003,

@@ -1,7 +1,7 @@
 //! Which language a text is read as.
 
 /// The language of a text.
-#[derive(Clone, Copy, Debug, PartialEq, Eq)]
+#[derive(Clone, Copy, PartialEq, Eq)]
 pub enum Dialect {
     /// STRIPS with types: only literals of predicates.
     Strips,

@@ -14,7 +14,7 @@ use pddl_tokens::{WordKind, same_folded, word_kind};
 use pddl_words::first_word_len;
 
 /// What a word heads where a formula, an effect, an initial atom, a function or the declaration of a predicate or a function is due.
-#[derive(Clone, Copy, Debug)]
+#[derive(Clone, Copy)]
 pub(crate) enum FormulaHead {
     And,
     Not,
@@ -25,7 +25,7 @@ pub(crate) enum FormulaHead {
 }
 
 /// What a word heads where a literal is due.
-#[derive(Clone, Copy, Debug)]
+#[derive(Clone, Copy)]
 pub(crate) enum LiteralHead {
     /// An atom: the word names its predicate.
     Atom,
@@ -43,7 +43,7 @@ pub(crate) enum LiteralHead {
 }
 
 /// Where a literal is.
-#[derive(Clone, Copy, Debug)]
+#[derive(Clone, Copy)]
 pub(crate) enum Context {
     Precondition,
     Effect,
@@ -52,14 +52,14 @@ pub(crate) enum Context {
 }
 
 /// Where a literal is, and in a text of which dialect.
-#[derive(Clone, Copy, Debug)]
+#[derive(Clone, Copy)]
 pub(crate) struct Scope {
     pub(crate) dialect: Dialect,
     pub(crate) context: Context,
 }
 
 /// The sections of a domain.
-#[derive(Clone, Copy, Debug)]
+#[derive(Clone, Copy)]
 pub(crate) enum DomainSection {
     Requirements,
     Types,
@@ -70,7 +70,7 @@ pub(crate) enum DomainSection {
 }
 
 /// The parts of an action.
-#[derive(Clone, Copy, Debug)]
+#[derive(Clone, Copy)]
 pub(crate) enum ActionPart {
     Parameters,
     Precondition,
@@ -78,7 +78,7 @@ pub(crate) enum ActionPart {
 }
 
 /// The sections of a problem.
-#[derive(Clone, Copy, Debug)]
+#[derive(Clone, Copy)]
 pub(crate) enum ProblemSection {
     Domain,
     Requirements,

@@ -7,7 +7,7 @@ ghost use Rattle.pddl_tokens.specs.Lexeme.{pieces_at};
 ghost use Rattle.pddl_syntax.specs.Marks.{mark_of};
 
 /// What a byte outside comments means to the check of parentheses.
-#[derive(Clone, Copy, Debug, PartialEq, Eq)]
+#[derive(Clone, Copy, PartialEq, Eq)]
 pub(crate) enum Mark {
     /// A blank, or a byte of a word.
     Plain,

@@ -15,7 +15,7 @@ ghost use Rattle.pddl_syntax.specs.Rows.{ComesNext, PassesRow};
 use pddl_tokens::{Cursor, ParenRange, Span, TokenKind};
 
 /// A word of a text with its span.
-#[derive(Clone, Copy, Debug)]
+#[derive(Clone, Copy)]
 pub struct Word<'a> {
     pub span: Span,
     pub text: &'a [u8],
@@ -31,7 +31,7 @@ impl<'a> Default for Word<'a> {
 }
 
 /// A word that is a name.
-#[derive(Clone, Copy, Debug)]
+#[derive(Clone, Copy)]
 pub struct NameWord<'a> {
     pub span: Span,
     pub text: &'a [u8],
@@ -63,7 +63,7 @@ impl<'a> NameWord<'a> {
 }
 
 /// What a walk meets next.
-#[derive(Clone, Copy, Debug)]
+#[derive(Clone, Copy)]
 pub(crate) enum Item<'a> {
     /// A word.
     Text(Word<'a>),

@@ -5,7 +5,7 @@ ghost use Rattle.pddl_tokens.specs.Bytes.{class_of, is_word_byte};
 ghost use Rattle.pddl_tokens.specs.Cut.{is_blank_class};
 
 /// What a byte means outside comments.
-#[derive(Clone, Copy, Debug, PartialEq, Eq)]
+#[derive(Clone, Copy, PartialEq, Eq)]
 pub(crate) enum ByteClass {
     LineEnd,
     Blank,

@@ -21,7 +21,7 @@ use std::marker::Model;
 const LANES: usize = 32;
 
 /// A walk over the tokens of a text, one pass over its bytes. A contract sees it as the pieces that are still to come.
-#[derive(Debug, Drop)]
+#[derive(Drop)]
 pub struct Cursor<'a> {
     text: &'a [u8],
     at: usize,
@@ -89,7 +89,7 @@ impl<'a> Cursor<'a> {
 }
 
 /// A `(`, and what is between it and the first `)` after it.
-#[derive(Debug, Drop)]
+#[derive(Drop)]
 pub struct ParenRange<'a> {
     /// The offset of the `(`.
     pub start: u32,
@@ -158,7 +158,7 @@ fn all_go_on(list: &[u8], at: usize) -> bool
 }
 
 /// A word, and a cursor after it.
-#[derive(Debug, Drop)]
+#[derive(Drop)]
 pub struct NextWord<'a> {
     /// Its bytes.
     pub text: &'a [u8],

@@ -10,7 +10,7 @@ pub struct Span {
 }
 
 /// What a token is.
-#[derive(Clone, Copy, Debug, PartialEq, Eq)]
+#[derive(Clone, Copy, PartialEq, Eq)]
 pub enum TokenKind {
     /// `(`
     Left,
@@ -21,7 +21,7 @@ pub enum TokenKind {
 }
 
 /// A token of a text.
-#[derive(Clone, Copy, Debug)]
+#[derive(Clone, Copy)]
 pub struct Token<'a> {
     pub kind: TokenKind,
     /// Where the token is in the text.
@@ -31,11 +31,11 @@ pub struct Token<'a> {
 }
 
 /// A text has 2^31 bytes or more.
-#[derive(Clone, Copy, Debug, PartialEq, Eq)]
+#[derive(Clone, Copy, PartialEq, Eq)]
 pub struct TooLong;
 
 /// A byte that may only be in comments.
-#[derive(Clone, Copy, Debug, PartialEq, Eq)]
+#[derive(Clone, Copy, PartialEq, Eq)]
 pub struct BadByte {
     /// Its offset in the text.
     pub at: u32,

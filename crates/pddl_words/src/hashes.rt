@@ -8,7 +8,7 @@ use crate::vectors::eight;
 const WORD: usize = 8;
 
 /// A hash that depends on two numbers. Nobody who does not know them can choose bytes with the same hash.
-#[derive(Clone, Copy, Debug)]
+#[derive(Clone, Copy)]
 pub struct KeyedHash {
     /// What it begins with.
     pub start: u64,

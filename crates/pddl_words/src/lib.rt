@@ -42,7 +42,7 @@ pub use same_bytes::are_same;
 pub use short_words::ShortWord;
 
 /// What a word may stand for, judged by its spelling alone.
-#[derive(Clone, Copy, Debug, PartialEq, Eq)]
+#[derive(Clone, Copy, PartialEq, Eq)]
 pub enum WordKind {
     /// A letter, then letters, digits, `-` and `_`.
     Name,

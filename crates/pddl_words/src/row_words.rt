@@ -7,7 +7,7 @@ use crate::vectors::{front_of_8, front_of_16};
 use std::marker::Model;
 
 /// The words that are left of a row. Contracts see the list of them.
-#[derive(Debug, Drop)]
+#[derive(Drop)]
 pub struct RowWords<'a> {
     rest: &'a [u8],
     is_over: bool,

@@ -9,7 +9,7 @@ use crate::vectors::eight;
 const MOST_BYTES: usize = 16;
 
 /// A word of 1 to 16 bytes, or none.
-#[derive(Clone, Copy, Debug)]
+#[derive(Clone, Copy)]
 pub struct ShortWord {
     /// The first bytes as a number: eight, or four if there are fewer than eight, or all if there are fewer than four.
     pub front: u64,

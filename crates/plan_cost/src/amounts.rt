@@ -9,7 +9,7 @@ use strips_task::{Seq, ShortSeq, Term};
 pub const MOST_INCREASES: usize = 32;
 
 /// By how much an effect increases the total cost.
-#[derive(Debug, Drop)]
+#[derive(Drop)]
 pub enum Amount {
     /// A number of billionths.
     Number(u64),
@@ -24,9 +24,14 @@ pub enum Amount {
 
 /// The amounts by which an action increases the total cost, in the order of the text, at most [`MOST_INCREASES`]. Contracts see the list
 /// of them.
-#[derive(Debug, Drop)]
 pub struct Increases {
     amounts: Seq<Amount>,
+}
+
+impl Drop for Increases {
+    fn drop(self) {
+        let Self { amounts: _ } = self;
+    }
 }
 
 impl Model for Increases {

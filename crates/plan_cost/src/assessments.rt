@@ -10,7 +10,7 @@ use strips_judge::{Verdict, judge};
 use strips_task::Plan;
 
 /// What is found about a plan.
-#[derive(Debug, Drop)]
+#[derive(Drop)]
 pub struct Assessment {
     /// Whether the plan is valid, and if not, why.
     pub verdict: Verdict,

@@ -15,7 +15,7 @@ const UNDEFINED: u64 = u64::MAX - 1;
 const HALF: u128 = 1 << 64;
 
 /// A [`Cost`] in 16 bytes, half of what a [`Cost`] takes, for keeping the costs of many plans. Contracts see the cost.
-#[derive(Debug, Drop)]
+#[derive(Drop)]
 pub struct CompactCost {
     high: u64,
     low: u64,

@@ -6,7 +6,6 @@ use std::alloc::Global;
 use strips_task::{Atom, Seed, Seq, ShortSeq, Task};
 
 /// What a task says about costs, if its domain declares `total-cost`.
-#[derive(Debug, Drop)]
 pub struct Costs {
     /// The number of the function `total-cost`.
     pub total_cost: u16,
@@ -14,6 +13,16 @@ pub struct Costs {
     pub increases: Seq<Increases>,
     /// The values that the problem gives to functions. That of `total-cost` is the cost before the first step.
     pub values: FunctionValues,
+}
+
+impl Drop for Costs {
+    fn drop(self) {
+        let Self {
+            total_cost: _,
+            increases: _,
+            values: _,
+        } = self;
+    }
 }
 
 impl Costs {
@@ -56,7 +65,6 @@ impl Costs {
 }
 
 /// A task, and what it says about costs.
-#[derive(Debug, Drop)]
 pub struct CostedTask {
     /// The task itself.
     pub task: Task,
@@ -64,8 +72,26 @@ pub struct CostedTask {
     pub costs: Option<Costs>,
 }
 
+impl CostedTask {
+    ghost use Rattle.std.specs.Prelude.{◌≡◌};
+
+    /// The task itself, without what it says about costs.
+    pub fn into_task(self) -> Task
+        ensures { result ≡ self.task }
+    {
+        let Self { task, costs: _ } = self;
+        task
+    }
+}
+
+impl Drop for CostedTask {
+    fn drop(self) {
+        let Self { task: _, costs: _ } = self;
+    }
+}
+
 /// What a plan costs.
-#[derive(Clone, Copy, Debug, PartialEq, Eq)]
+#[derive(Clone, Copy, PartialEq, Eq)]
 pub enum Cost {
     /// The domain declares no `total-cost`, or the plan is not valid.
     NotCounted,

@@ -17,10 +17,18 @@ use std::alloc::{AllocError, Global};
 use strips_task::{Atom, Plan, ShortSeq, StepList, StepView, Task};
 
 /// What steps share, so that a step takes no memory of its own. No answer depends on what it holds.
-#[derive(Drop)]
 pub struct CostScratch {
     objects: Vec<u16>,
     function: Atom,
+}
+
+impl Drop for CostScratch {
+    fn drop(self) {
+        let Self {
+            objects: _,
+            function: _,
+        } = self;
+    }
 }
 
 impl CostScratch {

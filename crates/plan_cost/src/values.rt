@@ -11,7 +11,7 @@ use std::marker::Model;
 use strips_task::{Atom, Seed};
 
 /// What a function had before [`FunctionValues::give`].
-#[derive(Clone, Copy, Debug, PartialEq, Eq)]
+#[derive(Clone, Copy, PartialEq, Eq)]
 pub enum Given {
     /// No value: this is its first.
     First,
@@ -22,9 +22,14 @@ pub enum Given {
 }
 
 /// Ground functions and their values in billionths, in the order in which they were given. Contracts see the list of these pairs.
-#[derive(Debug, Drop)]
 pub struct FunctionValues {
     values: IndexMap<Atom, u64, Seed>,
+}
+
+impl Drop for FunctionValues {
+    fn drop(self) {
+        let Self { values: _ } = self;
+    }
 }
 
 impl Model for FunctionValues {

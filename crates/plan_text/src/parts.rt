@@ -13,7 +13,7 @@ use std::marker::Model;
 /// A line of three dashes, followed by nothing but spaces, tabs and CRs, separates two plans. So a bundle with n such lines has n + 1
 /// parts, and an empty bundle has one. All parts together cost one pass over the bundle, and no memory. Contracts see the list of the
 /// parts that are left.
-#[derive(Debug, Drop)]
+#[derive(Drop)]
 pub struct Parts<'a> {
     rest: Option<&'a [u8]>,
 }
@@ -62,7 +62,7 @@ impl<'a> Iterator for Parts<'a> {
 }
 
 /// Where a part of a bundle ends, and where the next part begins, if there is one.
-#[derive(Clone, Copy, Debug)]
+#[derive(Clone, Copy)]
 pub struct PartEnd {
     /// The offset after the last byte of the part.
     pub end: usize,

@@ -6,7 +6,7 @@ ghost use Rattle.plan_text.specs.StepAt.{step_at, IsWhere};
 use crate::walk::{PlanSteps, StepWords, TextStep};
 
 /// A step where it is written in a plan text.
-#[derive(Debug, Drop)]
+#[derive(Drop)]
 pub struct FoundStep<'a> {
     /// Its words.
     pub words: StepWords<'a>,

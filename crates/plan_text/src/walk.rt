@@ -23,7 +23,7 @@ use std::marker::Model;
 use strips_task::{MOST_STEPS, OpenSteps};
 
 /// A walk over the steps of a plan text. It keeps none of them, and takes no memory.
-#[derive(Debug, Drop)]
+#[derive(Drop)]
 pub struct PlanSteps<'a> {
     text: &'a [u8],
     cursor: Cursor<'a>,
@@ -52,7 +52,7 @@ impl<'a> Model for PlanSteps<'a> {
 }
 
 /// What a walk finds next.
-#[derive(Debug, Drop)]
+#[derive(Drop)]
 pub enum TextStep<'a> {
     /// A step, which the walk has passed.
     Step {
@@ -72,7 +72,7 @@ pub enum TextStep<'a> {
 }
 
 /// How a walk goes on.
-#[derive(Debug, Drop)]
+#[derive(Drop)]
 pub enum Onward<'a> {
     /// It has passed a stamp or a number in brackets, and no step.
     Number,
@@ -81,7 +81,7 @@ pub enum Onward<'a> {
 }
 
 /// The words of a step as they are in its text. Contracts see those that are left.
-#[derive(Debug, Drop)]
+#[derive(Drop)]
 pub struct StepWords<'a> {
     cursor: Cursor<'a>,
 }

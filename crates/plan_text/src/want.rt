@@ -4,7 +4,7 @@ ghost use Rattle.std.specs.Prelude.{◌≡◌};
 ghost use Rattle.plan_text.specs.Wants.{takes_name};
 
 /// What may come next.
-#[derive(Clone, Copy, Debug, PartialEq, Eq)]
+#[derive(Clone, Copy, PartialEq, Eq)]
 pub(crate) enum Want {
     /// A step, or the end.
     Step,
@@ -28,7 +28,7 @@ impl Want {
 }
 
 /// What may come next, and how large the next stamp must be.
-#[derive(Clone, Copy, Debug, PartialEq, Eq)]
+#[derive(Clone, Copy, PartialEq, Eq)]
 pub(crate) struct Expected {
     pub(crate) want: Want,
     /// The least value of the next stamp, in billionths: one more than that of the last stamp, and 0 before the first.

@@ -1,7 +1,7 @@
 //! The formats of a report.
 
 /// How a report is written.
-#[derive(Clone, Copy, Debug, PartialEq, Eq)]
+#[derive(Clone, Copy, PartialEq, Eq)]
 pub enum Format {
     /// Lines for people: one for each plan, and one for each planner.
     Lines,

@@ -9,7 +9,7 @@ use std::alloc::{AllocError, Global};
 use std::marker::Model;
 
 /// Bytes to which pieces are added at the end. Contracts see the list of them.
-#[derive(Debug, Drop)]
+#[derive(Drop)]
 pub struct Text {
     bytes: Vec<u8>,
 }

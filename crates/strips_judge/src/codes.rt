@@ -23,7 +23,7 @@ use std::marker::Model;
 use strips_task::{Action, Atom, Cond, Formula, Pattern};
 
 /// What a step asks of the state and does to it, by the numbers of its atoms in a [`NumberedState`].
-#[derive(Clone, Copy, Debug)]
+#[derive(Clone, Copy)]
 pub struct StepCode<'c> {
     /// The atoms that must be true.
     pub needed: &'c [u32],
@@ -36,12 +36,22 @@ pub struct StepCode<'c> {
 }
 
 /// Room for one code, used again for each step. Contracts see the code.
-#[derive(Debug, Drop)]
 pub struct CodeBuffer {
     needed: Vec<u32>,
     forbidden: Vec<u32>,
     deleted: Vec<u32>,
     added: Vec<u32>,
+}
+
+impl Drop for CodeBuffer {
+    fn drop(self) {
+        let Self {
+            needed: _,
+            forbidden: _,
+            deleted: _,
+            added: _,
+        } = self;
+    }
 }
 
 impl Model for CodeBuffer {

@@ -24,10 +24,18 @@ use strips_task::{Action, Atom, Plan, ShortSeq, StepList, StepView, Task};
 const MOST_CELLS: usize = 32_768;
 
 /// Room that all steps use, so that a step takes no memory of its own. No answer depends on what it holds.
-#[derive(Drop)]
 pub struct Scratch {
     pub(crate) objects: Vec<u16>,
     pub(crate) atom: Atom,
+}
+
+impl Drop for Scratch {
+    fn drop(self) {
+        let Self {
+            objects: _,
+            atom: _,
+        } = self;
+    }
 }
 
 impl Scratch {

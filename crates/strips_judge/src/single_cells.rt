@@ -14,12 +14,21 @@ use strips_task::AtomKey;
 const MOST_OBJECTS: usize = 65_536;
 
 /// The cells. Contracts see how far they go, and the cells as a list: in each is 0, or one more than the number of its atom.
-#[derive(Debug, Drop)]
 pub(crate) struct SingleCells {
     objects: usize,
     /// How many cells there are at most.
     most: usize,
     cells: Vec<u32>,
+}
+
+impl Drop for SingleCells {
+    fn drop(self) {
+        let Self {
+            objects: _,
+            most: _,
+            cells: _,
+        } = self;
+    }
 }
 
 impl Model for SingleCells {

@@ -23,7 +23,6 @@ use std::marker::Model;
 use strips_task::{Atom, AtomKey, AtomTable, InitialAtoms, Pattern, Seed};
 
 /// A set of ground atoms of a task, each with a number. Contracts see the initial atoms of the task, the atoms that have numbers and the bits.
-#[derive(Drop)]
 pub struct NumberedState<'t> {
     initial: &'t InitialAtoms,
     /// The atoms that came up later, in the order of their numbers.
@@ -33,6 +32,18 @@ pub struct NumberedState<'t> {
     /// The numbers of atoms of one object that were looked up.
     cells: SingleCells,
     bits: Row,
+}
+
+impl Drop for NumberedState<'_> {
+    fn drop(self) {
+        let Self {
+            initial: _,
+            later: _,
+            marks: _,
+            cells: _,
+            bits: _,
+        } = self;
+    }
 }
 
 impl<'t> Model for NumberedState<'t> {

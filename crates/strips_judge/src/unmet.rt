@@ -8,9 +8,14 @@ use strips_task::{CondList, GroundCond};
 /// Conditions that do not hold. Contracts see the list of them.
 ///
 /// The list lies elsewhere, so that a verdict takes 24 bytes, whatever it says. A run keeps one for each plan.
-#[derive(Debug, Drop)]
 pub struct Unmet {
     conds: Box<CondList>,
+}
+
+impl Drop for Unmet {
+    fn drop(self) {
+        let Self { conds: _ } = self;
+    }
 }
 
 impl Model for Unmet {

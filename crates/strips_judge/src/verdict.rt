@@ -2,7 +2,7 @@
 use crate::unmet::Unmet;
 
 /// Whether a plan is valid, and if not, why.
-#[derive(Debug, Drop)]
+#[derive(Drop)]
 pub enum Verdict {
     /// Each step is applicable in its turn, and the goal holds after the last.
     Valid {
@@ -29,7 +29,7 @@ pub enum Verdict {
 }
 
 /// Why a step is not applicable. If there are several reasons, only the first in this order is reported.
-#[derive(Debug, Drop)]
+#[derive(Drop)]
 pub enum Why {
     /// No action of the task has the name.
     UnknownAction,

@@ -6,7 +6,7 @@
 use crate::{Seq, ShortSeq};
 
 /// An argument of an atom inside an action.
-#[derive(Clone, Copy, Debug, PartialEq, Eq)]
+#[derive(Clone, Copy, PartialEq, Eq)]
 pub enum Term {
     /// A parameter of the action, by its index, counted from 0.
     Param(u16),
@@ -22,7 +22,7 @@ impl Default for Term {
 }
 
 /// A predicate applied to terms.
-#[derive(Debug, Drop)]
+#[derive(Drop)]
 pub struct Pattern {
     /// The number of the predicate.
     pub pred: u16,
@@ -31,7 +31,7 @@ pub struct Pattern {
 }
 
 /// What a condition of an action asks about: an atomic formula of PDDL (PDDL 2.1, Fox and Long 2003, section 2).
-#[derive(Debug, Drop)]
+#[derive(Drop)]
 pub enum Formula {
     /// A predicate applied to terms.
     Atom(Pattern),
@@ -40,7 +40,7 @@ pub enum Formula {
 }
 
 /// A formula that must be true (`positive`) or false before the action.
-#[derive(Debug, Drop)]
+#[derive(Drop)]
 pub struct Cond {
     /// Whether the formula must be true.
     pub positive: bool,
@@ -52,7 +52,7 @@ pub struct Cond {
 pub type Alternatives = Seq<u16>;
 
 /// An action without its name (PDDL 2.1, Fox and Long 2003, level 1).
-#[derive(Debug, Drop)]
+#[derive(Drop)]
 pub struct Action {
     /// For each parameter, the types that its object may have.
     pub params: Seq<Alternatives>,

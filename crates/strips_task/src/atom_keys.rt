@@ -8,7 +8,7 @@ ghost use Rattle.strips_task.specs.AtomKeys.{IsKeyOf, atom_of, objects_of};
 use crate::Atom;
 
 /// The key of an atom of at most four objects.
-#[derive(Clone, Copy, Debug)]
+#[derive(Clone, Copy)]
 pub struct AtomKey {
     /// The objects as the digits of a number to the base 2^16, the first one last. There is a 0 for each of the four that the atom does not have.
     pub objects: u64,

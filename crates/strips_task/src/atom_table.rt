@@ -21,7 +21,7 @@ use std::marker::Model;
 const MANY: u32 = 5 * 65_536;
 
 /// An atom of a table.
-#[derive(Clone, Copy, Debug)]
+#[derive(Clone, Copy)]
 pub enum KeptAtom<'t> {
     /// The key of an atom of at most four objects.
     Few(AtomKey),
@@ -30,13 +30,22 @@ pub enum KeptAtom<'t> {
 }
 
 /// Distinct atoms in the order in which they were added. Contracts see the list of them.
-#[derive(Debug, Drop)]
 pub struct AtomTable {
     /// For each atom its key. If it has more than four objects, the head says so, and in place of the objects is its index among those.
     entries: Vec<AtomKey>,
     packed: KnownAtoms,
     /// The atoms of more than four objects with their numbers.
     wide: IndexMap<Atom, u32, Seed>,
+}
+
+impl Drop for AtomTable {
+    fn drop(self) {
+        let Self {
+            entries: _,
+            packed: _,
+            wide: _,
+        } = self;
+    }
 }
 
 impl Model for AtomTable {

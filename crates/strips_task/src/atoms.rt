@@ -14,7 +14,7 @@ use std::alloc::{AllocError, Global};
 use std::hash::{Hash, Hasher};
 
 /// A predicate applied to objects, all by number.
-#[derive(Debug, Drop)]
+#[derive(Drop)]
 pub struct Atom {
     /// The number of the predicate.
     pub pred: u16,
@@ -40,7 +40,7 @@ impl Atom {
 pub type AtomList = Seq<Atom>;
 
 /// What a ground condition asks about: an atomic formula of PDDL whose terms are all objects (PDDL 2.1, Fox and Long 2003, section 2).
-#[derive(Debug, Drop, Hash)]
+#[derive(Drop, Hash)]
 pub enum GroundFormula {
     /// An atom, which is true in some states and false in others.
     Atom(Atom),
@@ -49,7 +49,7 @@ pub enum GroundFormula {
 }
 
 /// A ground formula that must be true (`positive`) or false.
-#[derive(Debug, Drop)]
+#[derive(Drop)]
 pub struct GroundCond {
     /// Whether the formula must be true.
     pub positive: bool,

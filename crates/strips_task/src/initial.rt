@@ -15,11 +15,19 @@ use std::alloc::{AllocError, AllocFailed, Global};
 use std::marker::Model;
 
 /// The initial atoms in the order of the text, repeats kept. Contracts see the list of them.
-#[derive(Debug, Drop)]
 pub struct InitialAtoms {
     distinct: AtomTable,
     /// For each atom of the text its number in the table.
     numbers: Vec<u32>,
+}
+
+impl Drop for InitialAtoms {
+    fn drop(self) {
+        let Self {
+            distinct: _,
+            numbers: _,
+        } = self;
+    }
 }
 
 impl Model for InitialAtoms {

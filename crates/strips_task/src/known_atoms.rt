@@ -17,7 +17,7 @@ use std::marker::Model;
 const FIRST_SLOTS: usize = 16;
 
 /// A slot for an atom and its number.
-#[derive(Clone, Copy, Debug)]
+#[derive(Clone, Copy)]
 pub(crate) struct Slot {
     /// The objects of the atom's key.
     objects: u64,
@@ -41,7 +41,6 @@ impl Slot {
 }
 
 /// Atoms of at most four objects with their numbers. Contracts see the secret numbers and the slots.
-#[derive(Debug, Drop)]
 pub(crate) struct KnownAtoms {
     /// A secret number that is mixed with the objects of a key.
     objects_by: u64,
@@ -49,6 +48,17 @@ pub(crate) struct KnownAtoms {
     head_by: u64,
     slots: Vec<Slot>,
     taken: usize,
+}
+
+impl Drop for KnownAtoms {
+    fn drop(self) {
+        let Self {
+            objects_by: _,
+            head_by: _,
+            slots: _,
+            taken: _,
+        } = self;
+    }
 }
 
 impl Model for KnownAtoms {

@@ -21,7 +21,7 @@ const INLINE: usize = 22;
 
 /// A name in lower case, seen by contracts as the list of its bytes. They are always a name of PDDL, which is a letter and then letters, digits,
 /// `-` and `_`.
-#[derive(Debug, Drop)]
+#[derive(Drop)]
 pub struct Name {
     bytes: SmallVec<u8, INLINE>,
 }
@@ -87,7 +87,7 @@ impl Hash for Name {
 }
 
 /// A borrowed word in lower case, to look up a name in a table. Making one takes no memory.
-#[derive(Clone, Copy, Debug)]
+#[derive(Clone, Copy)]
 pub struct NameKey<'a> {
     /// The bytes of the word. They are compared as they are.
     pub bytes: &'a [u8],

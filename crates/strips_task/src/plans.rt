@@ -3,7 +3,7 @@
 use crate::StepList;
 
 /// What a planner's text holds: steps, or a text that is no plan.
-#[derive(Debug, Drop)]
+#[derive(Drop)]
 pub enum Plan {
     /// The steps of a plan text.
     Steps(StepList),

@@ -7,7 +7,7 @@
 use std::hash::{BuildHasher, FoldHasher, Hasher, RandomState};
 
 /// What the tables of a run hash with. Tables with the same seed give a key the same hash.
-#[derive(Clone, Copy, Debug)]
+#[derive(Clone, Copy)]
 pub struct Seed {
     begun: FoldHasher,
 }

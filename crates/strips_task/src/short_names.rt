@@ -24,7 +24,7 @@ const WAYS: usize = 8;
 const FIRST_SLOTS: usize = 23;
 
 /// A name and the number of its entry.
-#[derive(Clone, Copy, Debug)]
+#[derive(Clone, Copy)]
 pub(crate) struct Numbered {
     front: u64,
     back: u64,
@@ -48,7 +48,7 @@ impl Numbered {
 }
 
 /// A slot for the index of a name.
-#[derive(Clone, Copy, Debug)]
+#[derive(Clone, Copy)]
 struct Slot {
     /// The low bits of the name's hash.
     tag: u16,
@@ -57,11 +57,16 @@ struct Slot {
 }
 
 /// Names of at most 16 bytes with the numbers of their entries. Contracts see the list of them.
-#[derive(Debug, Drop)]
 pub(crate) struct ShortNames {
     names: Vec<Numbered>,
     /// None, or a power of two that a hash can choose and seven more, so that there are eight from each of those on.
     slots: Vec<Slot>,
+}
+
+impl Drop for ShortNames {
+    fn drop(self) {
+        let Self { names: _, slots: _ } = self;
+    }
 }
 
 impl Model for ShortNames {

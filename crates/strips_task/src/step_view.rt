@@ -4,7 +4,7 @@ ghost use Rattle.std.specs.Prelude.{◌≡◌, ◌<◌, ◌≤◌, length, slice
 use crate::WordList;
 
 /// A view of one step of a plan, which copies nothing.
-#[derive(Clone, Copy, Debug)]
+#[derive(Clone, Copy)]
 pub struct StepView<'a> {
     words: &'a WordList,
     first: usize,

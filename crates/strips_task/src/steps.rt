@@ -17,7 +17,7 @@ use std::marker::Model;
 pub const MOST_STEPS: usize = 1_000_000;
 
 /// One step of a plan: the names of the action and of its arguments, in lower case.
-#[derive(Debug, Drop)]
+#[derive(Drop)]
 pub struct StepText {
     /// The action's name.
     pub action: Name,
@@ -26,17 +26,25 @@ pub struct StepText {
 }
 
 /// Where the words of a step are: from the index `first` up to but not including `end`.
-#[derive(Clone, Copy, Debug, PartialEq, Eq)]
+#[derive(Clone, Copy, PartialEq, Eq)]
 pub struct StepRange {
     pub first: usize,
     pub end: usize,
 }
 
 /// The steps of a plan, at most [`MOST_STEPS`]. Contracts see the list of them.
-#[derive(Debug, Drop)]
 pub struct StepList {
     words: WordList,
     ranges: Vec<StepRange>,
+}
+
+impl Drop for StepList {
+    fn drop(self) {
+        let Self {
+            words: _,
+            ranges: _,
+        } = self;
+    }
 }
 
 impl Model for StepList {
@@ -129,11 +137,20 @@ fn push_words(words: &mut WordList, step: &StepText) -> Result<(), AllocError>
 }
 
 /// The steps of a plan while a reader reads them: those that are complete, and the words of the one that is open.
-#[derive(Debug, Drop)]
 pub struct OpenSteps {
     words: WordList,
     ranges: Vec<StepRange>,
     first: usize,
+}
+
+impl Drop for OpenSteps {
+    fn drop(self) {
+        let Self {
+            words: _,
+            ranges: _,
+            first: _,
+        } = self;
+    }
 }
 
 impl Model for OpenSteps {

@@ -19,11 +19,19 @@ use std::alloc::{AllocError, AllocFailed, Global};
 use std::marker::Model;
 
 /// A table from distinct names to values, in the order in which they were inserted. Contracts see the list of its entries.
-#[derive(Debug, Drop)]
 pub struct NameTable<V> {
     entries: IndexMap<Name, V, Seed>,
     /// The names of at most 16 bytes, or some of them. No answer depends on which.
     short_names: ShortNames,
+}
+
+impl<V: Drop> Drop for NameTable<V> {
+    fn drop(self) {
+        let Self {
+            entries: _,
+            short_names: _,
+        } = self;
+    }
 }
 
 impl<V> Model for NameTable<V> {

@@ -13,7 +13,6 @@ use crate::{Action, Alternatives, CondList, InitialAtoms, Name, NameTable, Seq, 
 use std::marker::Model;
 
 /// The parts of a task. Names are distinct in each table; numbers are indexes in the tables.
-#[derive(Debug, Drop)]
 pub struct TaskParts {
     /// The name of the domain.
     pub domain: Name,
@@ -33,8 +32,23 @@ pub struct TaskParts {
     pub goal: CondList,
 }
 
+impl Drop for TaskParts {
+    fn drop(self) {
+        let Self {
+            domain: _,
+            problem: _,
+            parents: _,
+            objects: _,
+            preds: _,
+            actions: _,
+            init: _,
+            goal: _,
+        } = self;
+    }
+}
+
 /// A well-formed task. Contracts see the record of its parts.
-#[derive(Debug, Drop)]
+#[derive(Drop)]
 pub struct Task {
     parts: TaskParts,
 }

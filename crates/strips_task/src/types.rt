@@ -23,10 +23,18 @@ const ROW_BITS: usize = 1088;
 const FEW: usize = 2;
 
 /// The parents of the types, by number; number 0 is `object`. Contracts see the list of the parents' numbers.
-#[derive(Debug, Drop)]
 pub struct TypeList {
     parents: Vec<u16>,
     table: Vec<u64>,
+}
+
+impl Drop for TypeList {
+    fn drop(self) {
+        let Self {
+            parents: _,
+            table: _,
+        } = self;
+    }
 }
 
 impl Model for TypeList {

@@ -9,12 +9,17 @@ use std::alloc::{AllocError, Global};
 use std::marker::Model;
 
 /// Words in lower case, in the order in which they were pushed. Contracts see the list of them.
-#[derive(Debug, Drop)]
 pub struct WordList {
     /// The words side by side.
     bytes: Vec<u8>,
     /// Where each word ends among the bytes.
     ends: Vec<usize>,
+}
+
+impl Drop for WordList {
+    fn drop(self) {
+        let Self { bytes: _, ends: _ } = self;
+    }
 }
 
 impl Model for WordList {

@@ -17,7 +17,7 @@ use std::alloc::{AllocError, Global};
 use strips_task::{Atom, OpenSteps};
 
 /// What is kept of an atom that is watched: whether it is true, and which step changed that last, counted from 1.
-#[derive(Clone, Copy, Debug)]
+#[derive(Clone, Copy)]
 pub(crate) struct Watch {
     pub(crate) is_true: bool,
     pub(crate) last: Option<usize>,

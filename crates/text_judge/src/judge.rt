@@ -23,12 +23,21 @@ use strips_judge::Verdict;
 use strips_task::{Atom, OpenSteps};
 
 /// A judge of the plans of one task, for one thread. Contracts see the task.
-#[derive(Drop)]
 pub struct TextJudge<'t> {
     task: &'t CostedTask,
     judge: Judge<'t>,
     /// The words of the step that is being read.
     words: OpenSteps,
+}
+
+impl Drop for TextJudge<'_> {
+    fn drop(self) {
+        let Self {
+            task: _,
+            judge: _,
+            words: _,
+        } = self;
+    }
 }
 
 impl<'t> Model for TextJudge<'t> {

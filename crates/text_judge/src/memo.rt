@@ -22,7 +22,7 @@ const FIRST_SLOTS: usize = 64;
 const EMPTY: u32 = u32::MAX;
 
 /// Where a known step is kept: its key among the bytes, and its code among the numbers, the four lists of the code one after the other.
-#[derive(Clone, Copy, Debug)]
+#[derive(Clone, Copy)]
 pub(crate) struct Entry {
     pub hash: u64,
     pub amount: u64,
@@ -36,14 +36,13 @@ pub(crate) struct Entry {
 }
 
 /// What is known of a step.
-#[derive(Clone, Copy, Debug)]
+#[derive(Clone, Copy)]
 pub(crate) struct KnownStep<'m> {
     pub code: StepCode<'m>,
     pub amount: u64,
 }
 
 /// Known steps in the order in which they were learned. Contracts see the list of them.
-#[derive(Drop)]
 pub(crate) struct Memo {
     hash: KeyedHash,
     limits: MemoLimits,
@@ -54,6 +53,19 @@ pub(crate) struct Memo {
     entries: Vec<Entry>,
     /// The slots of the table: in the slot of its hash, or in the next free one, the number of an entry. Their count is a power of two.
     slots: Vec<u32>,
+}
+
+impl Drop for Memo {
+    fn drop(self) {
+        let Self {
+            hash: _,
+            limits: _,
+            bytes: _,
+            numbers: _,
+            entries: _,
+            slots: _,
+        } = self;
+    }
 }
 
 impl Model for Memo {

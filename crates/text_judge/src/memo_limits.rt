@@ -21,7 +21,7 @@ pub(crate) const ALL_KEY_BYTES: usize = 10_485_760;
 pub(crate) const ALL_CELLS: usize = 1_048_576;
 
 /// How much one judge may keep.
-#[derive(Clone, Copy, Debug)]
+#[derive(Clone, Copy)]
 pub(crate) struct MemoLimits {
     /// How many steps.
     pub(crate) codes: usize,

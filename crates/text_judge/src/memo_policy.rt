@@ -12,7 +12,7 @@ const FIRST_REST: u32 = 16;
 const LONGEST_REST: u32 = 4_096;
 
 /// How often a step was looked up and found.
-#[derive(Clone, Copy, Debug)]
+#[derive(Clone, Copy)]
 pub(crate) struct MemoPolicy {
     asked: u32,
     found: u32,

@@ -35,7 +35,6 @@ const LATER_TO_LEARN: usize = 32_768;
 ///
 /// [`begin`](Judge::begin) a plan, take its steps one by one, and [`finish`](Judge::finish) it. If a step is not applicable, or memory
 /// runs out, the plan is over, and another can begin.
-#[derive(Drop)]
 pub(crate) struct Judge<'t> {
     task: &'t CostedTask,
     limits: MemoLimits,
@@ -51,6 +50,25 @@ pub(crate) struct Judge<'t> {
     cost: Option<u128>,
     count: usize,
     policy: MemoPolicy,
+}
+
+impl Drop for Judge<'_> {
+    fn drop(self) {
+        let Self {
+            task: _,
+            limits: _,
+            state: _,
+            memo: _,
+            name: _,
+            numbers: _,
+            code: _,
+            scratch: _,
+            cost_scratch: _,
+            cost: _,
+            count: _,
+            policy: _,
+        } = self;
+    }
 }
 
 impl<'t> Model for Judge<'t> {

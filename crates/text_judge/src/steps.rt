@@ -38,7 +38,7 @@ pub(crate) fn take_remembered(
 }
 
 /// A step whose names were found.
-#[derive(Clone, Copy, Debug)]
+#[derive(Clone, Copy)]
 pub(crate) struct NewStep<'s> {
     /// The bytes that spell it.
     pub key: &'s [u8],

@@ -259,7 +259,7 @@ fn action(
 }
 
 /// The table of actions, and the increases of each by its number.
-#[derive(Debug, Drop)]
+#[derive(Drop)]
 pub(crate) struct ActionTables {
     pub(crate) actions: NameTable<Action>,
     pub(crate) increases: Seq<Increases>,

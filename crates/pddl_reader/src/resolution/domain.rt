@@ -26,14 +26,14 @@ use strips_task::{Name, NameTable, Seed, TypeList};
 
 /// What a domain says: its name, types, constants, predicates, functions and actions, and the increases of each action. Contracts see the
 /// record of them.
-#[derive(Debug, Drop)]
+#[derive(Drop)]
 pub struct Domain {
     pub(crate) head: Head,
     pub(crate) tables: Tables,
 }
 
 /// What a domain declares before its predicates.
-#[derive(Debug, Drop)]
+#[derive(Drop)]
 pub(crate) struct Head {
     pub(crate) name: Name,
     pub(crate) types: NameTable<()>,
@@ -42,7 +42,7 @@ pub(crate) struct Head {
 }
 
 /// The tables of a domain's predicates, functions and actions.
-#[derive(Debug, Drop)]
+#[derive(Drop)]
 pub(crate) struct Tables {
     pub(crate) predicates: Predicates,
     pub(crate) functions: Predicates,

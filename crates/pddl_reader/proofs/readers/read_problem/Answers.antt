@@ -1,5 +1,7 @@
+use Rattle.std.proofs.Common.{Some, ap, sym, ◌∙◌}
 use Rattle.pddl_reader.proofs.TextLemmas.{problem_default}
 use Rattle.pddl_reader.proofs.readers.read_problem.Goals as goal
 
 pub returns-clause-task : goal.returns-clause-task
-returns-clause-task c = problem_default c.args.domain c.args.text.now c.in_ok-task.field-0 c.in_ok-task.ensures.task
+returns-clause-task c =
+    problem_default c.args.domain c.args.text.now c.in_ok-costed.costed c.in_ok-costed.ensures.task ∙ ap Some (sym c.into_task.ensures)
