@@ -2,20 +2,13 @@
 
 use Rattle.std.specs.Prelude.{ℕ, Bool, true, false, List, Option, Some, None}
 use Rattle.std.specs.List.{list_all}
-use Rattle.std.specs.Option.{option_and_then}
 use Rattle.strips_judge.specs.declared.verdict.Verdict.{Verdict}
 use Rattle.strips_judge.specs.declared.verdict.Verdict.TheVariants.{Valid, Fails, Goal, Unreadable}
 use Rattle.plan_cost.specs.declared.costs.CostedTask.{CostedTask}
 use Rattle.plan_cost.specs.Assessments.{assessment}
 use Rattle.plan_text.specs.Bundle.{parts}
 use Rattle.plan_text.specs.PlanReading.{plan_of}
-use Rattle.pddl_syntax.specs.declared.dialect.Dialect.{Dialect}
-use Rattle.pddl_reader.specs.Texts.{domain_in_text, problem_in_text}
 use Rattle.explanations.specs.declared.source.SourceText.{SourceText}
-
--- the task that a domain text and a problem text stand for in a dialect
-unfoldable pub task_in : Dialect → List ℕ → List ℕ → Option CostedTask
-task_in dialect domain problem = option_and_then (λ value. problem_in_text dialect value problem) (domain_in_text dialect domain)
 
 -- whether a verdict is that the plan is valid
 abbrev pub is_valid : Verdict → Bool

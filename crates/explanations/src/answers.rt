@@ -3,7 +3,8 @@
 ghost use Rattle.std.specs.Prelude.{◌≡◌, ◌≢◌, false, None, Some, IfOk, MatchResult, ◌&&◌};
 ghost use Rattle.pddl_syntax.specs.declared.fault.FaultKind.TheVariants.{OutOfMemory};
 ghost use Rattle.explanations.specs.Refused.{kind_of};
-ghost use Rattle.explanations.specs.AllValid.{task_in, is_valid, is_valid_plan, are_valid_in, are_all_valid, all_valid_for};
+ghost use Rattle.explanations.specs.AllValid.{is_valid, is_valid_plan, are_valid_in, are_all_valid, all_valid_for};
+ghost use Rattle.pddl_reader.specs.Texts.{task_in};
 
 use crate::causes::{changes_for, push_causes};
 use crate::faults::push_refusal;
@@ -96,7 +97,7 @@ fn is_out_of_memory(kind: FaultKind) -> bool
 }
 
 /// The task of a domain text and a problem text in a dialect.
-#[tactic(auto, unfolding(crate::specs::AllValid::task_in))]
+#[tactic(auto, unfolding(pddl_reader::specs::Texts::task_in))]
 fn read_task(
     alloc: Global,
     seed: Seed,

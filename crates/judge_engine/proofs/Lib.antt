@@ -11,9 +11,3 @@ pub mod Writing
 pub mod Tallies
 pub mod ReportPosition
 pub mod PlanCounts
-pub mod Files
-pub mod Texts
-pub mod PlainNames
-pub mod ValueLemmas
-pub mod OperandLemmas
-pub mod HelpLemmas

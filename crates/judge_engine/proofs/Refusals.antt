@@ -13,7 +13,7 @@ use Rattle.judge_engine.specs.declared.fault.Input.{Input}
 use Rattle.judge_engine.specs.declared.fault.JudgeFault.{JudgeFault}
 use Rattle.judge_engine.specs.declared.fault.JudgeFault.TheVariants.{TooLarge, TooManyPlanners, Domain, Problem, TooManyPlans, Steps, OutOfMemory, NoThread, Held}
 use Rattle.judge_engine.specs.Bundle.{BundleValue}
-use Rattle.explanations.specs.AllValid.{task_in}
+use Rattle.pddl_reader.specs.Texts.{task_in}
 use Rattle.judge_engine.specs.Answer.{too_large, plan_count, most_planners, most_plans}
 use Rattle.judge_engine.specs.Refusal.{IsOfTexts, ReadingCallsFor, TextsCallForIn, IsFaultOf}
 use Rattle.judge_engine.proofs.TextFaults.{text_fault_kind}

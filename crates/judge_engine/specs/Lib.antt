@@ -1,15 +1,11 @@
 pub mod Answer
 pub mod Bundle
-pub mod Command
 pub mod Inlet
 pub mod Outlet
 pub mod Plans
 pub mod Refusal
 pub mod ReplayAnswer
 pub mod ReplayText
-pub mod Requests
-pub mod Run
 pub mod Status
 pub mod Tally
 pub mod ReportPosition
-pub mod CommandLine

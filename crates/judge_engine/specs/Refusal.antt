@@ -13,7 +13,7 @@ use Rattle.pddl_syntax.specs.Trees.{text_fault}
 use Rattle.plan_cost.specs.declared.costs.CostedTask.{CostedTask}
 use Rattle.judge_engine.specs.declared.fault.JudgeFault.{JudgeFault}
 use Rattle.judge_engine.specs.declared.fault.JudgeFault.TheVariants.{TooLarge, TooManyPlanners, Domain, Problem, TooManyPlans, Steps, OutOfMemory, NoThread, Held}
-use Rattle.explanations.specs.AllValid.{task_in}
+use Rattle.pddl_reader.specs.Texts.{task_in}
 use Rattle.judge_engine.specs.Answer.{too_large, plan_count, most_planners, most_plans}
 use Rattle.judge_engine.specs.Bundle.{BundleValue}
 

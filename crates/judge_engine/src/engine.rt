@@ -5,7 +5,7 @@
 ghost use Rattle.std.specs.Prelude.{◌≡◌, ◌≢◌, ◌↔◌, ◌<◌, ◌≤◌, ℕ, length, map, IfOk, IfErr, Some, None, Err};
 ghost use Rattle.pddl_syntax.specs.declared.fault.ReadFault as read_fault;
 ghost use Rattle.pddl_syntax.specs.Trees.{text_fault};
-ghost use Rattle.explanations.specs.AllValid.{task_in};
+ghost use Rattle.pddl_reader.specs.Texts.{task_in};
 ghost use Rattle.judge_bench.specs.Findings.{findings_of};
 ghost use Rattle.judge_engine.specs.Answer.{answer, answer_as, planner_of, too_large, plan_count, most_planners, most_plans};
 ghost use Rattle.judge_engine.specs.Plans.{AreCutsOf, handed_in, plans_of_cuts, plans_of_files};

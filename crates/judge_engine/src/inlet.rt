@@ -5,7 +5,7 @@
 ghost use Rattle.std.specs.Prelude.{◌≡◌, ◌↔◌, ◌+◌, ◌≤◌, ◌||◌, ⊤, ℕ, Bool, true, false, List, Option, length, take, IfOk, IfSome};
 ghost use Rattle.std.specs.Io.KnownBytes.{ReadConsumes, Consumes, IsAtEnd};
 ghost use Rattle.judge_engine.specs.Inlet.{get_fails};
-ghost use Rattle.judge_engine.specs.Run.{file_named};
+ghost use Rattle.judge_engine.specs.Inlet.{file_named};
 ghost use Rattle.judge_engine.specs.declared.inlet.InFault.TheVariants.{Unreadable, OutOfMemory};
 ghost use Rattle.judge_engine.specs.declared.inlet.TheConstants.{FILE_LIMIT};
 
@@ -18,7 +18,7 @@ use std::io::{ErrorKind, Read};
 pub const FILE_LIMIT: usize = 16_777_216;
 
 /// The word for standard input among the files of a command line. A file of that name is `./-`.
-pub(crate) const STANDARD_INPUT: &str = "-";
+pub const STANDARD_INPUT: &str = "-";
 
 /// The file of standard input.
 const STANDARD_INPUT_FILE: &str = "/dev/stdin";
@@ -171,7 +171,7 @@ fn read_expected<I: Inlet>(
 }
 
 /// The file that a word of the command line names.
-pub(crate) fn file_named(name: &str) -> &str
+pub fn file_named(name: &str) -> &str
     ensures { result.now ≡ file_named name.now }
 {
     if name == STANDARD_INPUT {

@@ -122,7 +122,7 @@ pub fn write_report<O: Outlet>(report: &Report, outlet: &mut O) -> Result<(), Wr
 }
 
 /// Writes bytes to an outlet, as `write_report` does.
-pub(crate) fn write_bytes<O: Outlet>(bytes: &[u8], outlet: &mut O) -> Result<(), WriteFault>
+pub fn write_bytes<O: Outlet>(bytes: &[u8], outlet: &mut O) -> Result<(), WriteFault>
     requires { O.failed outlet.old ≡ false }
     ensures whole { OnOk result (Appends (O.taken outlet.old) (O.taken outlet.new) bytes.now) }
     ensures no_failure { OnOk result (O.failed outlet.new ≡ false) }

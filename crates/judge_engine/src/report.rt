@@ -22,7 +22,7 @@ impl Model for Report {
 
 impl Report {
     /// The report of these bytes. Takes no memory.
-    pub(crate) fn from_bytes(bytes: Vec<u8>) -> Self
+    pub fn from_bytes(bytes: Vec<u8>) -> Self
         ensures { result ≡ bytes.items }
     {
         Report { bytes }

@@ -2,10 +2,10 @@
 
 ghost use Rattle.std.specs.Prelude.{◌≡◌, false};
 
+use commands::program::main_with;
 use judge_engine::Seed;
 use judge_engine::inlet::{InFault, Sources};
 use judge_engine::outlet::{Failed, Outlet};
-use judge_engine::program::main_with;
 use std::alloc::{AllocError, Global};
 use std::sync::Wait;
 use std::sync::atomic::{AtomicBool, Ordering};

@@ -33,3 +33,7 @@ domain_of_text text = domain_in_text Strips text
 -- the task that a text and a domain stand for, without what the larger dialect adds
 unfoldable pub problem_of_text : DomainValue → List ℕ → Option TaskParts
 problem_of_text domain text = option_map (λ costed. costed.task) (problem_in_text Strips domain text)
+
+-- the task that a domain text and a problem text stand for in a dialect
+unfoldable pub task_in : Dialect → List ℕ → List ℕ → Option CostedTask
+task_in dialect domain problem = option_and_then (λ value. problem_in_text dialect value problem) (domain_in_text dialect domain)

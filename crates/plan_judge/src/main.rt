@@ -9,13 +9,13 @@
 //! examples/lamp/twice plans 1 valid 0 best -
 //! ```
 //!
-//! The library `judge_engine` does all the work. This crate hands it the real command line, files and outputs, and a random seed.
+//! The library `commands` does all the work. This crate hands it the real command line, files and outputs, and a random seed.
 #![tactic(auto)]
 
+use commands::program::{main_with, not_a_text, out_of_memory};
 use judge_engine::Seed;
 use judge_engine::inlet::Files;
 use judge_engine::outlet::{Outlet, Sink};
-use judge_engine::program::{main_with, not_a_text, out_of_memory};
 use std::alloc::AllocError;
 use std::env;
 use std::env::Env;

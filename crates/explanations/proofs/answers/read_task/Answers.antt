@@ -1,7 +1,6 @@
 use Rattle.std.proofs.Common.{ap, ◌∙◌}
 use Rattle.std.specs.Option.{option_and_then}
-use Rattle.pddl_reader.specs.Texts.{problem_in_text}
-use Rattle.explanations.specs.AllValid.{task_in}
+use Rattle.pddl_reader.specs.Texts.{problem_in_text, task_in}
 use Rattle.explanations.proofs.answers.read_task.Goals as goal
 
 pub returns-in-Err : goal.returns-in-Err

@@ -1,7 +1,7 @@
 use Rattle.std.proofs.Common.{ap, ◌∙◌}
 use Rattle.std.specs.Option.{option_and_then}
 use Rattle.pddl_reader.specs.Texts.{problem_in_text}
-use Rattle.explanations.specs.AllValid.{task_in}
+use Rattle.pddl_reader.specs.Texts.{task_in}
 use Rattle.judge_engine.proofs.Refusals.{domain_fault, problem_fault, told_at_once, other_kind}
 use Rattle.judge_engine.proofs.engine.read_task.Goals as goal
 

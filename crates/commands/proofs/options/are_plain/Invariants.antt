@@ -1,0 +1,8 @@
+use Rattle.std.proofs.Common.{◌≡◌, true, map, take}
+use Rattle.std.specs.List.{list_all}
+use Rattle.commands.specs.Command.{is_plain}
+use Rattle.commands.proofs.options.are_plain.Given as goal
+
+-- The names so far are plain.
+abbrev pub invariant-loop-name : goal.invariant-loop-name
+invariant-loop-name l = list_all is_plain (map (λ name. name.now) (take l.name-index l.names)) ≡ true

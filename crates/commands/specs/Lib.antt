@@ -1,0 +1,4 @@
+pub mod Command
+pub mod CommandLine
+pub mod Requests
+pub mod Run

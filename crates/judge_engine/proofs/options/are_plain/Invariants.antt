@@ -1,8 +1,0 @@
-use Rattle.std.proofs.Common.{◌≡◌, true, map, take}
-use Rattle.std.specs.List.{list_all}
-use Rattle.judge_engine.specs.Command.{is_plain}
-use Rattle.judge_engine.proofs.options.are_plain.Given as goal
-
--- The names so far are plain.
-abbrev pub invariant-loop-name : goal.invariant-loop-name
-invariant-loop-name l = list_all is_plain (map (λ name. name.now) (take l.name-index l.names)) ≡ true
