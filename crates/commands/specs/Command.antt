@@ -4,13 +4,14 @@ use Rattle.std.specs.Prelude.{◌≡◌, ℕ, Bool, true, List, ◌∷◌, Optio
 use Rattle.std.specs.List.{list_all}
 use Rattle.commands.specs.CommandLine.{arguments, has_command, operands, value_of}
 use Rattle.pddl_syntax.specs.declared.dialect.Dialect.{Dialect}
-use Rattle.pddl_syntax.specs.declared.dialect.Dialect.TheVariants.{Strips, Ipc}
+use Rattle.pddl_syntax.specs.declared.dialect.Dialect.TheVariants.{Strips, Ipc, Adl}
 use Rattle.report_text.specs.declared.format.Format.{Format}
 use Rattle.report_text.specs.declared.format.Format.TheVariants.{Lines, Table, Json}
 
 -- the dialect with a name
 abbrev pub dialect_named : List ℕ → Option Dialect
-dialect_named name = if bytes_eq name (codes "strips") then Some Strips else if bytes_eq name (codes "ipc") then Some Ipc else None
+dialect_named name =
+    if bytes_eq name (codes "strips") then Some Strips else if bytes_eq name (codes "ipc") then Some Ipc else if bytes_eq name (codes "adl") then Some Adl else None
 
 -- the format with a name
 abbrev pub format_named : List ℕ → Option Format
@@ -82,5 +83,5 @@ pub record AsksToExplain (words : List (List ℕ)) (dialect : Dialect) (domain p
 -- the command line asks to validate plans: the files are those of the domain, of the problem, and of the plans
 pub record AsksToValidate (words : List (List ℕ)) (dialect : Dialect) (domain problem : List ℕ) (plans : List (List ℕ)) : Type 0 where
   pub command : has_command (codes "validate") words ≡ true
-  pub in_dialect : dialect ≡ Ipc
+  pub in_dialect : dialect ≡ Adl
   pub of_files : operands (arguments words) ≡ domain ∷ problem ∷ plans

@@ -7,7 +7,7 @@ use Rattle.pddl_syntax.specs.declared.dialect.Dialect.{Dialect}
 use Rattle.report_text.specs.declared.format.Format.{Format}
 use Rattle.explanations.specs.declared.source.SourceText.{SourceText}
 use Rattle.explanations.specs.AllValid.{all_valid_for}
-use Rattle.pddl_reader.specs.Texts.{task_in}
+use Rattle.task_reader.specs.Texts.{task_in}
 use Rattle.judge_engine.specs.Answer.{answer_as}
 use Rattle.judge_engine.specs.Bundle.{BundleValue}
 use Rattle.commands.specs.Command.{AsksToJudge, AsksToReplay, AsksToExplain, AsksToValidate}

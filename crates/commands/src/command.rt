@@ -23,7 +23,7 @@ use std::alloc::{AllocError, Global};
 const MOST_WORKERS: u32 = 32;
 
 /// The names of the dialects.
-const DIALECTS: [&str; 2] = ["strips", "ipc"];
+const DIALECTS: [&str; 3] = ["strips", "ipc", "adl"];
 
 /// The names of the formats of a report.
 const FORMATS: [&str; 3] = ["lines", "tsv", "json"];
@@ -83,6 +83,8 @@ The report, on standard output:
 
 With --dialect ipc a domain may also have :functions, effects that increase (total-cost), = between terms in
 preconditions and goals, and types with a second parent object; the problem gives values to functions in :init.
+With --dialect adl it may have all that, and in conditions or, imply, exists, forall and not before any of them,
+and in effects forall and when.
 Where the domain declares total-cost, two lines have a cost at their end:
   FILE K valid N cost C                      C is the cost of plan K, as 12 or 0.5, or - if it is undefined
   FILE plans N valid M best B cost C         C is the least cost of a valid plan, or -
@@ -142,6 +144,8 @@ The answers, on standard output, one line a step:
 
 With --dialect ipc a domain may also have :functions, effects that increase (total-cost), = between terms in
 preconditions and goals, and types with a second parent object; the problem gives values to functions in :init.
+With --dialect adl it may have all that, and in conditions or, imply, exists, forall and not before any of them,
+and in effects forall and when.
 Where the domain declares total-cost, the verdict of a valid plan has its cost at the end:
   emitted 0 valid 2 cost 3.25
 
@@ -156,7 +160,7 @@ const VALIDATE_ABOUT: &str =
     "Says in the phrases of VAL's command validate which plans are valid, for scripts that call it.";
 
 const VALIDATE_AFTER_HELP: &str = "\
-The texts are read in the dialect ipc. For each plan, on standard output:
+The texts are read in the dialect adl. For each plan, on standard output:
   Checking plan: FILE
 and, if it is valid, with its cost, or the number of its steps where the domain declares no total-cost:
   Plan executed successfully - checking goal
@@ -357,7 +361,7 @@ fn validate_request<'a>(
                 domain,
                 problem,
                 plans,
-                dialect: Dialect::Ipc,
+                dialect: Dialect::Adl,
                 format: ExplanationFormat::Phrases(phrases),
                 trace: false,
                 lint: false,
@@ -570,7 +574,9 @@ fn dialect<'a>(alloc: Global) -> Arg<'a> {
     Arg::new(alloc, "dialect")
         .long("dialect")
         .value_name("DIALECT")
-        .help("The language of the domain and the problem; ipc adds action costs and equality")
+        .help(
+            "The language of the domain and the problem; ipc adds action costs and equality, adl also or, quantifiers and when",
+        )
         .value_parser(DIALECTS.as_slice())
         .default_value("strips")
 }

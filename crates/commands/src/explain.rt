@@ -1,7 +1,7 @@
 //! The commands `explain` and `validate`: they read the files that they name, and explain them.
 ghost use Rattle.std.specs.Prelude.{◌≡◌, List, true, map, IfOk};
 ghost use Rattle.explanations.specs.AllValid.{all_valid_for};
-ghost use Rattle.pddl_reader.specs.Texts.{task_in};
+ghost use Rattle.task_reader.specs.Texts.{task_in};
 ghost use Rattle.commands.specs.Run.{AreAllValidOver, AreTexts};
 ghost use Rattle.judge_engine.specs.Inlet.{file_named};
 

@@ -257,8 +257,10 @@ fn push_advice(text: &mut Text, call: Call<'_>) -> Result<(), AllocError> {
     push_shell_word(text, call.domain)?;
     text.push(b" --problem ")?;
     push_shell_word(text, call.problem)?;
-    if call.dialect == Dialect::Ipc {
-        text.push(b" --dialect ipc")?;
+    match call.dialect {
+        Dialect::Strips => {}
+        Dialect::Ipc => text.push(b" --dialect ipc")?,
+        Dialect::Adl => text.push(b" --dialect adl")?,
     }
     text.push(b" to see where and why\n")
 }

@@ -26,6 +26,8 @@ fn dialect_named(name: &str) -> Option<Dialect>
         Some(Dialect::Strips)
     } else if name == "ipc" {
         Some(Dialect::Ipc)
+    } else if name == "adl" {
+        Some(Dialect::Adl)
     } else {
         None
     }

@@ -1,1 +1,2 @@
+pub mod EffectHeights
 pub mod Validity

@@ -4,28 +4,31 @@ ghost use Rattle.std.specs.Prelude.{◌≡◌, ◌≢◌, false, None, Some, IfO
 ghost use Rattle.pddl_syntax.specs.declared.fault.FaultKind.TheVariants.{OutOfMemory};
 ghost use Rattle.explanations.specs.Refused.{kind_of};
 ghost use Rattle.explanations.specs.AllValid.{is_valid, is_valid_plan, are_valid_in, are_all_valid, all_valid_for};
-ghost use Rattle.pddl_reader.specs.Texts.{task_in};
+ghost use Rattle.task_reader.specs.Texts.{task_in};
 
-use crate::causes::{changes_for, push_causes};
+use crate::account::push_more_line;
+use crate::causes::{changes_for, left_out, push_causes};
 use crate::faults::push_refusal;
 use crate::library::Library;
 use crate::lint::push_warnings;
 use crate::page::Page;
 use crate::phrases::push_phrases;
-use crate::plans::{PlanAt, missing_of, named_positions, push_assessment, push_name};
+use crate::plans::{JudgedPlan, PlanAt, missing_of, named_positions, push_assessment, push_name};
 use crate::positions::{LineCount, Range};
-use crate::records::{JudgedPlan, push_plan_record, push_refused_record, push_run_record};
+use crate::records::{push_plan_record, push_refused_record, push_run_record};
 use crate::remarks::{push_empty_end, push_end, push_header, push_other_domain};
 use crate::scene::{Refusal, Scene};
 use crate::steps::Part;
 use crate::trace::push_trace;
+use crate::walk::world_after;
 use crate::{Explanation, ExplanationFormat, Options, SourceText};
-use pddl_reader::{Dialect, FaultKind, ReadFault, read_domain_in, read_problem_in};
+use pddl_reader::{Dialect, FaultKind, ReadFault};
 use plan_cost::{Assessment, CostedTask};
 use plan_text::{PartEnd, part_from};
 use std::alloc::{AllocError, Global};
 use strips_judge::Verdict;
-use strips_task::{Seed, Task};
+use strips_task::Seed;
+use task_reader::TaskFault;
 use text_judge::TextJudge;
 
 /// Explains what a judge answers about the plans of some files.
@@ -97,7 +100,6 @@ fn is_out_of_memory(kind: FaultKind) -> bool
 }
 
 /// The task of a domain text and a problem text in a dialect.
-#[tactic(auto, unfolding(pddl_reader::specs::Texts::task_in))]
 fn read_task(
     alloc: Global,
     seed: Seed,
@@ -108,13 +110,10 @@ fn read_task(
     ensures { MatchResult result (λ task. task_in dialect domain.now problem.now ≡ Some task)
         (λ refused. kind_of refused ≢ OutOfMemory → task_in dialect domain.now problem.now ≡ None) }
 {
-    let domain = match read_domain_in(alloc, seed, dialect, domain) {
-        Ok(domain) => domain,
-        Err(fault) => return Err(Refused::Domain(fault)),
-    };
-    match read_problem_in(alloc, dialect, domain, problem) {
+    match task_reader::read_task(alloc, seed, dialect, domain, problem) {
         Ok(task) => Ok(task),
-        Err(fault) => Err(Refused::Problem(fault)),
+        Err(TaskFault::Domain(fault)) => Err(Refused::Domain(fault)),
+        Err(TaskFault::Problem(fault)) => Err(Refused::Problem(fault)),
     }
 }
 
@@ -194,7 +193,7 @@ fn push_plans<'a>(
 {
     push_start(page, task, problem, plans.is_empty());
     let mut library = Library::new(page.alloc(), domain, problem)?;
-    let all_valid = push_judged(page, task, &mut library, options.trace, plans)?;
+    let all_valid = push_judged(page, task, &mut library, options, plans)?;
     if options.lint {
         push_warnings(page, &task.task, domain, problem)?;
     }
@@ -206,13 +205,13 @@ fn push_judged<'a>(
     page: &mut Page,
     task: &CostedTask,
     library: &mut Library<'a>,
-    trace: bool,
+    options: Options,
     plans: &[SourceText<'a>],
 ) -> Result<bool, AllocError>
     ensures { IfOk result (λ all_valid. all_valid ≡ are_all_valid task.now plans.now) }
 {
     let mut judge = TextJudge::new(page.alloc(), task, 1)?;
-    let all_valid = push_files(page, &mut judge, library, trace, plans)?;
+    let all_valid = push_files(page, &mut judge, library, options, plans)?;
     Ok(all_valid)
 }
 
@@ -232,7 +231,7 @@ fn push_files<'a>(
     page: &mut Page,
     judge: &mut TextJudge<'_>,
     library: &mut Library<'a>,
-    trace: bool,
+    options: Options,
     plans: &[SourceText<'a>],
 ) -> Result<bool, AllocError>
     ensures { IfOk result (λ all_valid. all_valid ≡ are_all_valid judge.old plans.now) }
@@ -243,7 +242,7 @@ fn push_files<'a>(
         all_valid: true,
     };
     for file in plans {
-        tally = push_file(page, judge, library, trace, *file, tally)?;
+        tally = push_file(page, judge, library, options, *file, tally)?;
     }
     push_end(page, tally.plans, tally.valid);
     Ok(tally.all_valid)
@@ -254,7 +253,7 @@ fn push_file<'a>(
     page: &mut Page,
     judge: &mut TextJudge<'_>,
     library: &mut Library<'a>,
-    trace: bool,
+    options: Options,
     file: SourceText<'a>,
     tally: Tally,
 ) -> Result<Tally, AllocError>
@@ -276,7 +275,7 @@ fn push_file<'a>(
             lines,
         };
         let plan = PlanAt { file, part, number };
-        let is_valid = push_plan(page, judge, library, trace, plan, &file.bytes[start..end])?;
+        let is_valid = push_plan(page, judge, library, options, plan, &file.bytes[start..end])?;
         tally = tally.with(is_valid);
         match next {
             Some(behind) => start = behind,
@@ -306,7 +305,7 @@ fn push_plan<'a>(
     page: &mut Page,
     judge: &mut TextJudge<'_>,
     library: &mut Library<'a>,
-    trace: bool,
+    options: Options,
     plan: PlanAt<'a>,
     text: &[u8],
 ) -> Result<bool, AllocError>
@@ -314,7 +313,7 @@ fn push_plan<'a>(
     ensures valid { IfOk result (λ valid. valid ≡ is_valid_plan judge.old text.now) }
 {
     let assessment = judge.assess(page.alloc(), text)?;
-    match push_found(page, judge, library, trace, plan, &assessment) {
+    match push_found(page, judge, library, options, plan, &assessment) {
         Ok(()) => Ok(is_valid(&assessment.verdict)),
         Err(AllocError) => Err(AllocError),
     }
@@ -325,49 +324,51 @@ fn push_found<'a>(
     page: &mut Page,
     judge: &mut TextJudge<'_>,
     library: &mut Library<'a>,
-    trace: bool,
+    options: Options,
     plan: PlanAt<'a>,
     assessment: &Assessment,
 ) -> Result<(), AllocError>
     ensures { judge.new ≡ judge.old }
 {
     let verdict = &assessment.verdict;
-    if trace {
+    if options.trace {
         push_steps(page, judge.task(), plan, verdict)?;
     }
     let positions = named_positions(page.alloc(), plan, verdict)?;
     let missing = missing_of(verdict);
     let changes = changes_for(page.alloc(), judge, plan.part.text(), missing)?;
+    let task = &judge.task().task;
+    let most = steps_followed(options.dialect, verdict);
+    let world = world_after(page.alloc(), task, plan.part.text(), most)?;
     let judged = JudgedPlan {
         plan,
         positions: &positions,
         changes: changes.as_slice(),
+        world: &world,
         assessment,
     };
-    push_judged_plan(page, &judge.task().task, library, judged);
+    push_judged_plan(page, library, judged);
     Ok(())
 }
 
 /// Adds what is found about a plan, and why.
 fn push_judged_plan<'a>(
     page: &mut Page,
-    task: &Task,
     library: &mut Library<'a>,
-    judged: JudgedPlan<'a, '_>,
+    judged: JudgedPlan<'a, '_, '_>,
 ) {
     match page.format() {
-        ExplanationFormat::Text => push_plan_text(page, task, library, judged),
-        ExplanationFormat::Json => push_plan_record(page, task, library, judged),
-        ExplanationFormat::Phrases(phrases) => push_phrases(page, task, library, judged, phrases),
+        ExplanationFormat::Text => push_plan_text(page, library, judged),
+        ExplanationFormat::Json => push_plan_record(page, library, judged),
+        ExplanationFormat::Phrases(phrases) => push_phrases(page, library, judged, phrases),
     }
 }
 
 /// Adds what is found about a plan, and why, to a text for people.
 pub(crate) fn push_plan_text<'a>(
     page: &mut Page,
-    task: &Task,
     library: &mut Library<'a>,
-    judged: JudgedPlan<'a, '_>,
+    judged: JudgedPlan<'a, '_, '_>,
 ) {
     push_assessment(
         page,
@@ -376,14 +377,8 @@ pub(crate) fn push_plan_text<'a>(
         judged.positions,
         judged.assessment,
     );
-    push_causes(
-        page,
-        task,
-        judged.plan.file,
-        judged.positions,
-        missing_of(&judged.assessment.verdict),
-        judged.changes,
-    );
+    push_causes(page, judged);
+    push_more_line(page, 1, left_out(judged));
 }
 
 /// Whether a verdict is that the plan is valid.
@@ -415,6 +410,14 @@ fn push_steps(
         page.say("\n");
     }
     push_trace(page, task, plan, most)
+}
+
+/// How many steps are followed to find out why conditions do not hold. Where all conditions are literals and all effects happen in any case, none are.
+fn steps_followed(dialect: Dialect, verdict: &Verdict) -> usize {
+    if dialect != Dialect::Adl || missing_of(verdict).is_empty() {
+        return 0;
+    }
+    steps_shown(verdict).unwrap_or(0)
 }
 
 /// How many steps are shown at most. None are shown of a plan that cannot be read.

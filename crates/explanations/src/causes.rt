@@ -2,12 +2,12 @@
 
 ghost use Rattle.std.specs.Prelude.{◌≡◌};
 
-use crate::SourceText;
+use crate::atoms::atom_of;
 use crate::page::Page;
-use crate::positions::bytes_at;
-use crate::steps::{StepPositions, push_step};
+use crate::plans::{JudgedPlan, missing_of};
+use crate::reasons::push_condition;
 use std::alloc::{AllocError, Global};
-use strips_task::{Atom, GroundCond, GroundFormula, ShortSeq, Task};
+use strips_task::{Atom, Formula, Node, ShortSeq};
 use text_judge::TextJudge;
 
 /// How many conditions are shown.
@@ -18,7 +18,7 @@ pub(crate) fn changes_for(
     alloc: Global,
     judge: &mut TextJudge<'_>,
     text: &[u8],
-    missing: &[GroundCond],
+    missing: &[Formula],
 ) -> Result<Vec<Option<usize>>, AllocError>
     ensures { judge.new ≡ judge.old }
 {
@@ -29,104 +29,36 @@ pub(crate) fn changes_for(
     judge.last_changes(alloc, text, atoms.as_slice())
 }
 
-/// The atoms of the conditions that are shown. An equality gets an atom that no task has, so that each condition has one.
-fn atoms_of(alloc: Global, missing: &[GroundCond]) -> Result<Vec<Atom>, AllocError> {
+/// The atoms of the conditions that are shown. What is no atom gets one that no task has, so that each condition has one.
+fn atoms_of(alloc: Global, missing: &[Formula]) -> Result<Vec<Atom>, AllocError> {
     let mut atoms = Vec::new(alloc);
-    for cond in missing.iter().take(MOST_SHOWN) {
-        atoms.push(atom_of(alloc, &cond.formula)?)?;
+    for formula in missing.iter().take(MOST_SHOWN) {
+        atoms.push(match formula.node() {
+            Node::Atom(_, pattern) => atom_of(alloc, pattern, &[], &[])?,
+            _ => Atom {
+                pred: u16::MAX,
+                args: ShortSeq::new(alloc),
+            },
+        })?;
     }
     Ok(atoms)
 }
 
-/// The atom of a formula.
-fn atom_of(alloc: Global, formula: &GroundFormula) -> Result<Atom, AllocError> {
-    match formula {
-        GroundFormula::Atom(atom) => Ok(Atom {
-            pred: atom.pred,
-            args: ShortSeq::from_slice(alloc, atom.args.as_slice())?,
-        }),
-        GroundFormula::Equal(_, _) => Ok(Atom {
-            pred: u16::MAX,
-            args: ShortSeq::new(alloc),
-        }),
+/// Adds the conditions that do not hold after the steps of a plan that could be taken, each with its last change or with what does not hold inside it.
+pub(crate) fn push_causes(page: &mut Page, judged: JudgedPlan<'_, '_, '_>) {
+    let missing = missing_of(&judged.assessment.verdict);
+    let mut is_first = true;
+    for (formula, step) in missing.iter().zip(judged.changes.iter()) {
+        if page.is_json() && !is_first {
+            page.say(",");
+        }
+        push_condition(page, judged, formula, *step);
+        is_first = false;
     }
 }
 
-/// Adds a line for each condition that does not hold after the steps of a plan that could be taken, with its last change.
-pub(crate) fn push_causes(
-    page: &mut Page,
-    task: &Task,
-    file: SourceText<'_>,
-    positions: &StepPositions,
-    missing: &[GroundCond],
-    changes: &[Option<usize>],
-) {
-    for (cond, change) in missing.iter().zip(changes.iter()) {
-        page.say("  ");
-        page.condition(task, cond);
-        page.say(": ");
-        push_cause(page, file, positions, cond, *change);
-        page.say("\n");
-    }
-    push_others(page, missing.len())
-}
-
-/// Adds why a condition does not hold.
-fn push_cause(
-    page: &mut Page,
-    file: SourceText<'_>,
-    positions: &StepPositions,
-    cond: &GroundCond,
-    change: Option<usize>,
-) {
-    if let GroundFormula::Equal(_, _) = cond.formula {
-        page.say(if cond.positive {
-            "these are two objects"
-        } else {
-            "both are the same object"
-        });
-        return;
-    }
-    match change {
-        Some(step) => push_change(page, file, positions, cond.positive, step),
-        None if cond.positive => page.say("it was never true"),
-        None => page.say("it was true from the start"),
-    }
-}
-
-/// Adds which step made a condition false.
-fn push_change(
-    page: &mut Page,
-    file: SourceText<'_>,
-    positions: &StepPositions,
-    positive: bool,
-    step: usize,
-) {
-    page.say("step ");
-    page.number(step);
-    page.say(", ");
-    let Some(position) = positions.get(step) else {
-        page.say("changed it");
-        return;
-    };
-    push_step(page, bytes_at(file.bytes, position.range));
-    page.say(if positive {
-        ", deleted it ("
-    } else {
-        ", added it ("
-    });
-    page.file_name(file.name);
-    page.say(":");
-    page.number(position.line.number);
-    page.say(")");
-}
-
-/// Adds how many conditions are not shown.
-fn push_others(page: &mut Page, count: usize) {
-    if count <= MOST_SHOWN {
-        return;
-    }
-    page.say("  and ");
-    page.number(count - MOST_SHOWN);
-    page.say(" more\n");
+/// How many conditions are not shown.
+pub(crate) fn left_out(judged: JudgedPlan<'_, '_, '_>) -> usize {
+    let missing = missing_of(&judged.assessment.verdict);
+    missing.len().saturating_sub(judged.changes.len())
 }

@@ -1,8 +1,10 @@
-//! The parts of PDDL that no dialect of this program reads, and how they are told from their words.
+//! The parts of PDDL that no dialect of this program reads, or not where they are, and how they are told from their words.
 
+use crate::connectives::{Connective, connective_of};
+use crate::literals::Place;
 use crate::scene::Scene;
 
-/// A part of PDDL that no dialect of this program reads.
+/// A part of PDDL that no dialect of this program reads, or only the dialect `adl`, and only among conditions or effects.
 #[derive(Clone, Copy, PartialEq, Eq)]
 pub(crate) enum Construct {
     Disjunction,
@@ -52,18 +54,12 @@ impl Construct {
     /// What to do about it.
     pub(crate) fn hint(self) -> &'static str {
         match self {
-            Construct::Disjunction => {
-                "no dialect of this program reads disjunctions; a planner's preprocessor can compile them away"
-            }
-            Construct::Implication => {
-                "no dialect of this program reads implications; a planner's preprocessor can compile them away"
-            }
-            Construct::UniversalQuantifier | Construct::ExistentialQuantifier => {
-                "no dialect of this program reads quantifiers; a planner's preprocessor can compile them away"
-            }
-            Construct::ConditionalEffect => {
-                "no dialect of this program reads conditional effects; a planner's preprocessor can compile them away"
-            }
+            Construct::Disjunction => "`or` may be in conditions only",
+            Construct::Implication => "`imply` may be in conditions only",
+            Construct::UniversalQuantifier =>
+                "`forall` may be in conditions and around effects only",
+            Construct::ExistentialQuantifier => "`exists` may be in conditions only",
+            Construct::ConditionalEffect => "`when` may be in effects only",
             Construct::TimedLiteral => {
                 "no dialect of this program reads timed initial literals: only plans without time can be judged"
             }
@@ -96,7 +92,7 @@ pub(crate) struct Seen<'a> {
     pub(crate) word: &'a [u8],
 }
 
-/// The part of PDDL that is refused at the fault, if it is one of those that no dialect of this program reads.
+/// The part of PDDL that is refused at the fault, if it is one of these.
 pub(crate) fn construct_at<'a>(scene: &Scene<'a>) -> Option<Seen<'a>> {
     if scene.is_declaration() {
         return None;
@@ -214,18 +210,33 @@ fn construct_of_keyword(word: &[u8]) -> Option<Construct> {
 
 /// What a connective or a quantifier begins.
 fn construct_of_connective(word: &[u8]) -> Option<Construct> {
-    if word.eq_ignore_ascii_case(b"or") {
-        Some(Construct::Disjunction)
-    } else if word.eq_ignore_ascii_case(b"imply") {
-        Some(Construct::Implication)
-    } else if word.eq_ignore_ascii_case(b"forall") {
-        Some(Construct::UniversalQuantifier)
-    } else if word.eq_ignore_ascii_case(b"exists") {
-        Some(Construct::ExistentialQuantifier)
-    } else if word.eq_ignore_ascii_case(b"when") {
-        Some(Construct::ConditionalEffect)
-    } else {
-        None
+    match connective_of(word)? {
+        Connective::Or => Some(Construct::Disjunction),
+        Connective::Imply => Some(Construct::Implication),
+        Connective::ForAll => Some(Construct::UniversalQuantifier),
+        Connective::Exists => Some(Construct::ExistentialQuantifier),
+        Connective::When => Some(Construct::ConditionalEffect),
+        Connective::Literal | Connective::Not => None,
+    }
+}
+
+/// Whether the dialect `adl` reads what is refused, while the dialect at hand does not.
+pub(crate) fn is_for_adl(scene: &Scene<'_>) -> bool {
+    if scene.is_adl() || !scene.is_head() {
+        return false;
+    }
+    let word = scene.faulty();
+    let is_negated = scene.outer_head().eq_ignore_ascii_case(b"not");
+    let connective = connective_of(word);
+    match scene.place() {
+        Place::Effect => {
+            !is_negated && matches!(connective, Some(Connective::When | Connective::ForAll))
+        }
+        Place::Other => false,
+        Place::Precondition | Place::Guard | Place::Goal => match connective {
+            Some(connective) => connective != Connective::When,
+            None => is_negated && is_one_of(word, &[b"and", b"not"]),
+        },
     }
 }
 

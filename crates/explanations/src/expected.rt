@@ -1,8 +1,10 @@
 //! What a domain or a problem could have where it has something else.
 
 use crate::constructs::Construct;
+use crate::forms::form_hint;
 use crate::hints::push_did_you_mean;
 use crate::keywords::{PART_HINT, is_part, nearest_keyword};
+use crate::literals::Place;
 use crate::page::Page;
 use crate::scene::Scene;
 
@@ -72,11 +74,14 @@ fn inside_hint(scene: &Scene<'_>) -> &'static str {
     if section.eq_ignore_ascii_case(b":functions") {
         return "a function is a name and variables: `(distance ?from ?to - index) - number`";
     }
-    if section.eq_ignore_ascii_case(b":action") {
-        return action_hint(scene);
-    }
     if section.eq_ignore_ascii_case(b":init") {
         return "an initial atom is a predicate and objects: `(on a b)`";
+    }
+    if scene.is_adl() && is_formed(scene) {
+        return form_hint(scene);
+    }
+    if section.eq_ignore_ascii_case(b":action") {
+        return action_hint(scene);
     }
     if section.eq_ignore_ascii_case(b":goal") {
         return "a goal is `(p a b)`, `(not (p a b))`, or `(and ..)` of these";
@@ -85,6 +90,11 @@ fn inside_hint(scene: &Scene<'_>) -> &'static str {
         return section_hint(scene);
     }
     "only a name may be here"
+}
+
+/// Whether the fault is where a condition or an effect is.
+fn is_formed(scene: &Scene<'_>) -> bool {
+    scene.place() == Place::Goal || scene.place() != Place::Other && scene.depth() > 2
 }
 
 /// What may be in an action.

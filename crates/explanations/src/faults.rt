@@ -5,6 +5,7 @@ use crate::hints::push_hints;
 use crate::outline::Sort;
 use crate::page::Page;
 use crate::positions::{Range, position_of, push_excerpt, push_position};
+use crate::quantifiers::{variable_list, variables_before};
 use crate::scene::Scene;
 use pddl_reader::FaultKind;
 
@@ -176,7 +177,10 @@ pub(crate) fn sort_name(sort: Sort) -> &'static str {
 
 fn push_unknown(page: &mut Page, scene: &Scene<'_>) {
     page.say("unknown name: no ");
-    page.say(sort_name(scene.wanted_sort()));
+    page.say(match scene.wanted_sort() {
+        Sort::Variable if scene.is_adl() => "variable",
+        sort => sort_name(sort),
+    });
     page.say(" is called ");
     page.quoted(scene.faulty());
 }
@@ -226,8 +230,29 @@ fn push_wrong_type(page: &mut Page, scene: &Scene<'_>) {
     page.quoted(scene.head());
 }
 
+/// Whether too many choices of objects for the variables of quantifiers are refused.
+pub(crate) fn passes_bindings(scene: &Scene<'_>) -> bool {
+    match variable_list(scene) {
+        Some(open) => {
+            let before = variables_before(&scene.pieces, open, scene.number);
+            scene.is_adl() && scene.faulty().first() == Some(&b'?') && before < 32
+        }
+        None => false,
+    }
+}
+
 fn push_too_many(page: &mut Page, scene: &Scene<'_>) {
     page.say("too many: ");
+    if passes_bindings(scene) {
+        page.say("with ");
+        page.quoted(scene.faulty());
+        page.say(if scene.refusal.is_problem {
+            ", the quantifiers of the goal have more than 16,777,216 choices of objects"
+        } else {
+            ", the quantifiers of this action have more than 16,777,216 choices of objects"
+        });
+        return;
+    }
     page.quoted(scene.faulty());
     page.say(" is one ");
     page.say(excess(scene).0);

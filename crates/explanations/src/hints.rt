@@ -1,14 +1,15 @@
 //! What to do about a refused domain or problem.
 
-use crate::constructs::{construct_at, is_one_of};
 use crate::expected::push_expected_hints;
-use crate::faults::{excess, is_for_ipc, sort_name};
-use crate::keywords::{home_of, is_part, nearest_keyword};
+use crate::faults::{excess, passes_bindings, sort_name};
+use crate::keywords::is_part;
 use crate::library::{Found, push_types};
-use crate::outline::Sort;
+use crate::outline::{Declared, Sort};
 use crate::page::Page;
 use crate::positions::{Range, bytes_at, line_at, push_line};
+use crate::quantifiers::{bound_names, bound_variable, declared_elsewhere, variable_list};
 use crate::scene::Scene;
+use crate::unsupported::push_unsupported;
 use pddl_reader::FaultKind;
 use std::alloc::{AllocError, Global};
 
@@ -130,64 +131,14 @@ fn nested_section(scene: &Scene<'_>) -> Option<usize> {
     None
 }
 
-fn push_unsupported(page: &mut Page, scene: &mut Scene<'_>) {
-    if let Some(seen) = construct_at(scene) {
-        page.help_line(seen.construct.hint());
-        return;
-    }
-    if is_for_ipc(scene) {
-        page.help_line(
-            "--dialect ipc reads action costs, equality and a second parent `object` of a type",
-        );
-        return;
-    }
-    let near = nearest_keyword(page.alloc(), scene);
-    match page.found(near) {
-        Some(name) => push_did_you_mean(page, name),
-        None => page.help_line(unsupported_hint(scene)),
-    }
-}
-
-/// What to do about a word that is not read where it is.
-fn unsupported_hint(scene: &Scene<'_>) -> &'static str {
-    let word = scene.faulty();
-    if word == b"(".as_slice() {
-        return "arguments are names and variables";
-    }
-    if let Some(home) = home_of(scene) {
-        return home;
-    }
-    if word.eq_ignore_ascii_case(b"either") {
-        return "`either` may be in the type of a variable only";
-    }
-    if scene.is_declaration() {
-        return declaration_hint(scene);
-    }
-    if word.eq_ignore_ascii_case(b"and") && scene.is_in(b":init") {
-        return "`:init` is a list of literals, without `and`";
-    }
-    if is_one_of(word, &[b"not", b"and", b"increase"]) {
-        return "`not` may be before a single atom only: `(not (p ?x))`";
-    }
-    if word == b"=".as_slice() {
-        return "`=` may be between two terms of a precondition or a goal, and in `:init` before a function and its value";
-    }
-    "this program reads STRIPS with types and negated conditions"
-}
-
-/// What to do about a word in a declaration of predicates or functions that may not be there.
-fn declaration_hint(scene: &Scene<'_>) -> &'static str {
-    if !scene.is_head() {
-        return "no dialect of this program reads functions whose values are objects: the type of a function is `number`";
-    }
-    if scene.faulty() == b"=".as_slice() {
-        return "`=` needs no declaration: remove it";
-    }
-    "this word has a meaning of its own, so it can name no predicate and no function"
-}
-
 fn push_unknown(page: &mut Page, scene: &mut Scene<'_>) {
     let sort = scene.wanted_sort();
+    if sort == Sort::Variable
+        && let Some(declared) = declared_elsewhere(scene, action_start(scene), scene.faulty())
+    {
+        push_scope(page, scene, declared);
+        return;
+    }
     let near = nearest(page.alloc(), scene, sort);
     if let Some(name) = page.found(near) {
         push_did_you_mean(page, name);
@@ -197,12 +148,27 @@ fn push_unknown(page: &mut Page, scene: &mut Scene<'_>) {
         Sort::Type => "declare it in `(:types ..)` of the domain",
         Sort::Predicate => "declare it in `(:predicates ..)` of the domain",
         Sort::Function => "declare it in `(:functions ..)` of the domain",
+        Sort::Variable if scene.refusal.is_problem => {
+            "a variable of a goal is inside an `exists` or a `forall` that declares it"
+        }
+        Sort::Variable if scene.is_adl() => {
+            "declare it in `:parameters` of the action, or in a quantifier around it"
+        }
         Sort::Variable => "declare it in `:parameters` of the action",
         _ if scene.refusal.is_problem => {
             "declare it in `(:objects ..)`, or in `(:constants ..)` of the domain"
         }
         _ => "a variable begins with `?`; a name has to be in `(:constants ..)`",
     })
+}
+
+/// Adds where a variable is declared that is not known at the fault.
+fn push_scope(page: &mut Page, scene: &Scene<'_>, declared: Range) {
+    page.help();
+    page.quoted(scene.faulty());
+    page.say(" in line ");
+    page.number(line_at(scene.bytes(), declared.start).number);
+    page.say(" is known inside its quantifier only\n");
 }
 
 /// Adds the name that may be meant.
@@ -223,10 +189,11 @@ fn nearest<'a>(
     if sort != Sort::Variable {
         return scene.library.nearest(alloc, sort, word);
     }
-    match scene.library.action_at(scene.range().start) {
-        Some(action) => scene.library.nearest_variable(alloc, &action, word),
-        None => Ok(None),
-    }
+    let names = bound_names(alloc, scene)?;
+    let action = scene.action();
+    scene
+        .library
+        .nearest_variable(alloc, action, names.as_slice(), word)
 }
 
 fn push_repeated(page: &mut Page, scene: &mut Scene<'_>) {
@@ -259,7 +226,7 @@ fn push_first(page: &mut Page, bytes: &[u8], at: usize) {
 /// The offset of the first use of a keyword or a variable that may not be repeated.
 fn first_offset(scene: &Scene<'_>, word: &[u8]) -> Option<usize> {
     let start = match word.first() {
-        Some(b'?') => action_start(scene),
+        Some(b'?') => variables_start(scene),
         Some(b':') if is_part(word) => action_start(scene),
         Some(b':') => 0,
         _ => return None,
@@ -276,9 +243,17 @@ fn first_offset(scene: &Scene<'_>, word: &[u8]) -> Option<usize> {
     None
 }
 
+/// Where the variables begin among which the fault is: the list of a quantifier, or the action.
+fn variables_start(scene: &Scene<'_>) -> usize {
+    match variable_list(scene).and_then(|open| scene.pieces.get(open)) {
+        Some(piece) => piece.range().start,
+        None => action_start(scene),
+    }
+}
+
 /// Where the action around the fault begins.
 fn action_start(scene: &Scene<'_>) -> usize {
-    match scene.library.action_at(scene.range().start) {
+    match scene.action() {
         Some(action) => action.declared.name.start,
         None => 0,
     }
@@ -346,10 +321,7 @@ fn push_type_of_term(page: &mut Page, scene: &mut Scene<'_>) {
             None => {}
         };
     }
-    let Some(action) = scene.library.action_at(scene.range().start) else {
-        return;
-    };
-    let Some(variable) = scene.library.variable_named(&action, word) else {
+    let Some(variable) = variable_at(scene, word) else {
         return;
     };
     page.help();
@@ -361,7 +333,21 @@ fn push_type_of_term(page: &mut Page, scene: &mut Scene<'_>) {
     page.say("`\n");
 }
 
+/// The variable with a name at the fault: that of a quantifier around it, or a parameter of the action.
+fn variable_at(scene: &Scene<'_>, word: &[u8]) -> Option<Declared> {
+    match bound_variable(scene, word) {
+        Some(variable) => Some(variable),
+        None => scene.library.variable_named(&scene.action()?, word),
+    }
+}
+
 fn push_too_many(page: &mut Page, scene: &Scene<'_>) {
+    if passes_bindings(scene) {
+        page.help_line(
+            "each quantifier counts with the choices of objects for its variables, times those of the quantifiers around it; they may add up to 16,777,216",
+        );
+        return;
+    }
     let (_, limit) = excess(scene);
     page.help();
     page.say("there may be at most ");

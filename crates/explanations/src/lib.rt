@@ -14,20 +14,32 @@
 //! decided by the judge of texts (`text_judge`). [`explain`] promises only that it agrees with that judge, and nothing more about the text.
 //!
 //! A run is read in `answers`. A refused text goes to `faults`, which says what is wrong, and to `hints` and `expected`, which say what to do: they
-//! read what is around the fault (`scene`), and the names that the texts declare (`library`). A plan goes to `plans`: `causes` names the
-//! steps that caused a failure, `unreadable` says where a text stops being a plan, `comments` compares a planner's cost, and `trace` shows each step.
+//! read what is around the fault (`scene`, `quantifiers`), and the names that the texts declare (`library`). A plan goes to `plans`: `causes` lists the
+//! conditions that do not hold, `unreadable` says where a text stops being a plan, `comments` compares a planner's cost, and `trace` shows each step.
+//!
+//! `reasons` says why a condition does not hold, down to its atoms and the steps that changed them (`changes`). For that and for `trace`, the steps are taken
+//! in a `world` (`walk`, `effects`), in which formulas are evaluated (`evaluation`, `choices`).
+//!
 //! All write on a `Page`, which passes a byte of a file on to a terminal as it is only if it is printable. In JSON, `records` writes the same messages
 //! and hints as strings; `phrases` writes for scripts that know VAL. `lint` warns of what is probably not meant, by the `literals` of both texts.
 #![tactic(auto)]
 
+mod account;
 mod answers;
+mod atoms;
 mod breaks;
 mod causes;
+mod changes;
+mod choices;
 mod comments;
+mod connectives;
 mod constructs;
 mod effects;
+mod evaluation;
 mod expected;
 mod faults;
+mod forms;
+mod formulas;
 mod hints;
 mod keywords;
 mod library;
@@ -39,6 +51,8 @@ mod page;
 mod phrases;
 mod plans;
 mod positions;
+mod quantifiers;
+mod reasons;
 mod records;
 mod remarks;
 mod requirements;
@@ -49,6 +63,9 @@ mod support;
 mod tokens;
 mod trace;
 mod unreadable;
+mod unsupported;
+mod walk;
+mod world;
 
 pub use answers::{Refused, explain};
 pub use pddl_reader::Dialect;

@@ -191,23 +191,28 @@ impl<'a> Library<'a> {
         Ok(nearest.name())
     }
 
-    /// The variable of an action that is nearest to a word, if one is near.
+    /// The name of a variable that is nearest to a word, if one is near: one of some names, or that of a parameter of an action.
     pub(crate) fn nearest_variable(
         &mut self,
         alloc: Global,
-        action: &Found<'a>,
+        action: Option<Found<'a>>,
+        names: &[&'a [u8]],
         word: &'a [u8],
     ) -> Result<Option<&'a [u8]>, AllocError> {
         let mut nearest = Nearest::to(word);
-        let owner = Some(action.number);
-        look_in(
-            alloc,
-            &self.domain,
-            Sort::Variable,
-            owner,
-            &mut self.budget,
-            &mut nearest,
-        )?;
+        for name in names {
+            nearest.look_at(alloc, &mut self.budget, name)?;
+        }
+        if let Some(action) = action {
+            look_in(
+                alloc,
+                &self.domain,
+                Sort::Variable,
+                Some(action.number),
+                &mut self.budget,
+                &mut nearest,
+            )?;
+        }
         Ok(nearest.name())
     }
 

@@ -10,7 +10,7 @@ use crate::requirements::push_requirements;
 use crate::support::{Support, action_named, is_added};
 use crate::tokens::Pieces;
 use std::alloc::{AllocError, Global};
-use strips_task::{Action, Formula, Task};
+use strips_task::{Action, Node, Task};
 
 /// How many warnings are shown.
 const MOST_WARNINGS: usize = 100;
@@ -209,13 +209,11 @@ fn push_unused<'a>(warnings: &mut Warnings<'a>, domain: &ReadText<'a>) -> Result
     Ok(())
 }
 
-/// The action whose literals a walk goes over, and how many of them it has passed.
+/// The action whose literals a walk goes over.
 #[derive(Clone, Copy)]
 struct Passed<'t> {
     number: u32,
     action: Option<&'t Action>,
-    conditions: usize,
-    deletions: usize,
     /// Whether the action was found never to be applicable.
     is_dead: bool,
 }
@@ -226,8 +224,6 @@ impl<'t> Passed<'t> {
         Ok(Passed {
             number,
             action: action_named(task, domain, number as usize)?,
-            conditions: 0,
-            deletions: 0,
             is_dead: false,
         })
     }
@@ -260,26 +256,21 @@ fn push_literal<'a>(
     support: &Support,
     budget: &mut Budget,
 ) -> Result<(), AllocError> {
-    let Some(action) = passed.action else {
+    let (Some(action), Some(index)) = (passed.action, literal.index) else {
         return Ok(());
     };
     match literal.place {
         Place::Precondition => {
-            let index = passed.conditions;
-            passed.conditions = index.saturating_add(1);
             if !passed.is_dead && is_unsupported(action, index, support) {
                 passed.is_dead = true;
                 push_dead(warnings, domain, literal)?;
             }
         }
-        Place::Effect if !literal.positive => {
-            let index = passed.deletions;
-            passed.deletions = index.saturating_add(1);
+        _ => {
             if is_added(action, index, budget) {
                 push_both(warnings, domain, literal)?;
             }
         }
-        _ => {}
     }
     Ok(())
 }
@@ -287,9 +278,9 @@ fn push_literal<'a>(
 /// Whether a condition of an action can never hold, since nothing makes its predicate true.
 fn is_unsupported(action: &Action, index: usize, support: &Support) -> bool {
     match action.pre.as_slice().get(index) {
-        Some(cond) => match &cond.formula {
-            Formula::Atom(pattern) => cond.positive && !support.has(pattern.pred),
-            Formula::Equal(_, _) => false,
+        Some(formula) => match formula.node() {
+            Node::Atom(positive, pattern) => *positive && !support.has(pattern.pred),
+            _ => false,
         },
         None => false,
     }

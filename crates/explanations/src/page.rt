@@ -9,7 +9,7 @@ use crate::{ExplanationFormat, Phrases};
 use plan_cost::Cost;
 use report_text::{Text, push_cost, push_json_string};
 use std::alloc::{AllocError, Global};
-use strips_task::{Atom, GroundCond, GroundFormula, StepView, Task};
+use strips_task::{Atom, StepView, Task};
 
 /// A word with more bytes than this is cut in a message.
 const LONGEST_WORD: usize = 60;
@@ -172,7 +172,7 @@ impl Page {
     }
 
     /// Notes whether there was memory for a piece.
-    fn note_memory(&mut self, pushed: Result<(), AllocError>) {
+    pub(crate) fn note_memory(&mut self, pushed: Result<(), AllocError>) {
         self.lacks_memory |= pushed.is_err();
     }
 
@@ -196,31 +196,6 @@ impl Page {
     pub(crate) fn number(&mut self, number: usize) {
         let pushed = self.text.push_number(number);
         self.note_memory(pushed);
-    }
-
-    /// Adds a condition, with long names cut.
-    pub(crate) fn condition(&mut self, task: &Task, cond: &GroundCond) {
-        if cond.positive {
-            self.formula(task, &cond.formula);
-            return;
-        }
-        self.say("(not ");
-        self.formula(task, &cond.formula);
-        self.say(")");
-    }
-
-    /// Adds a formula.
-    fn formula(&mut self, task: &Task, formula: &GroundFormula) {
-        match formula {
-            GroundFormula::Atom(atom) => self.atom(task, atom),
-            GroundFormula::Equal(left, right) => {
-                self.say("(= ");
-                self.word(object_name(task, *left));
-                self.say(" ");
-                self.word(object_name(task, *right));
-                self.say(")");
-            }
-        }
     }
 
     /// Adds a step, as `(act a b)`, with long names cut.
@@ -376,7 +351,7 @@ impl Page {
     }
 
     /// Adds bytes of a file in lower case.
-    fn lower_case(&mut self, bytes: &[u8]) {
+    pub(crate) fn lower_case(&mut self, bytes: &[u8]) {
         for byte in bytes {
             self.shown_byte(byte.to_ascii_lowercase());
         }
@@ -429,6 +404,15 @@ fn back_of(word: &[u8]) -> &[u8] {
 pub(crate) fn predicate_name(task: &Task, number: u16) -> &[u8] {
     if usize::from(number) < task.pred_count() {
         task.pred_name(number).as_bytes()
+    } else {
+        b""
+    }
+}
+
+/// The name of the type with a number; nothing if no type has it.
+pub(crate) fn type_name(task: &Task, number: u16) -> &[u8] {
+    if usize::from(number) < task.type_count() {
+        task.type_name(number).as_bytes()
     } else {
         b""
     }

@@ -8,23 +8,22 @@
 
 use crate::Phrases;
 use crate::answers::push_plan_text;
+use crate::formulas::{Instance, push_formula};
 use crate::library::Library;
 use crate::page::Page;
-use crate::plans::{PlanAt, push_why};
+use crate::plans::{JudgedPlan, PlanAt, push_why};
 use crate::positions::bytes_at;
-use crate::records::JudgedPlan;
 use crate::steps::push_step;
 use crate::unreadable::push_break;
 use plan_cost::{Assessment, Cost};
-use strips_judge::{GroundCond, Verdict, Why};
+use strips_judge::{Formula, Verdict, Why};
 use strips_task::Task;
 
 /// Adds what is found about a plan.
 pub(crate) fn push_phrases<'a>(
     page: &mut Page,
-    task: &Task,
     library: &mut Library<'a>,
-    judged: JudgedPlan<'a, '_>,
+    judged: JudgedPlan<'a, '_, '_>,
     phrases: Phrases,
 ) {
     if phrases == Phrases::Values {
@@ -35,8 +34,8 @@ pub(crate) fn push_phrases<'a>(
     push_verdict(page, judged.assessment);
     match (&judged.assessment.verdict, phrases) {
         (Verdict::Valid { .. }, _) => {}
-        (_, Phrases::Full) => push_plan_text(page, task, library, judged),
-        (verdict, _) => push_reason(page, task, library, judged, verdict),
+        (_, Phrases::Full) => push_plan_text(page, library, judged),
+        (verdict, _) => push_reason(page, library, judged, verdict),
     }
 }
 
@@ -88,9 +87,8 @@ fn push_value(page: &mut Page, steps: usize, cost: Cost) {
 /// Adds a line that says why a plan is not valid.
 fn push_reason<'a>(
     page: &mut Page,
-    task: &Task,
     library: &mut Library<'a>,
-    judged: JudgedPlan<'a, '_>,
+    judged: JudgedPlan<'a, '_, '_>,
     verdict: &Verdict,
 ) {
     page.say("  ");
@@ -98,16 +96,16 @@ fn push_reason<'a>(
         Verdict::Valid { .. } => {}
         Verdict::Fails { step, why } => {
             push_failing_step(page, judged, *step as usize);
-            push_failure(page, task, library, judged, *step as usize, why);
+            push_failure(page, library, judged, *step as usize, why);
         }
-        Verdict::Goal { missing } => push_missing(page, task, missing.as_slice()),
+        Verdict::Goal { missing } => push_missing(page, judged.world.task(), missing.as_slice()),
         Verdict::Unreadable { .. } => push_break(page, judged.plan),
     }
     page.say("\n");
 }
 
 /// Adds which step fails.
-fn push_failing_step(page: &mut Page, judged: JudgedPlan<'_, '_>, number: usize) {
+fn push_failing_step(page: &mut Page, judged: JudgedPlan<'_, '_, '_>, number: usize) {
     page.say("step ");
     page.number(number);
     if let Some(position) = judged.positions.get(number) {
@@ -120,14 +118,13 @@ fn push_failing_step(page: &mut Page, judged: JudgedPlan<'_, '_>, number: usize)
 /// Adds why a step fails.
 fn push_failure<'a>(
     page: &mut Page,
-    task: &Task,
     library: &mut Library<'a>,
-    judged: JudgedPlan<'a, '_>,
+    judged: JudgedPlan<'a, '_, '_>,
     number: usize,
     why: &Why,
 ) {
     if let Why::Missing(missing) = why {
-        push_missing(page, task, missing.as_slice());
+        push_missing(page, judged.world.task(), missing.as_slice());
         return;
     }
     if let Some(position) = judged.positions.get(number) {
@@ -137,10 +134,10 @@ fn push_failure<'a>(
 }
 
 /// Adds the conditions that do not hold.
-fn push_missing(page: &mut Page, task: &Task, missing: &[GroundCond]) {
+fn push_missing(page: &mut Page, task: &Task, missing: &[Formula]) {
     page.say("missing");
-    for cond in missing {
+    for formula in missing {
         page.say(" ");
-        page.condition(task, cond);
+        push_formula(page, task, Instance::whole(formula));
     }
 }

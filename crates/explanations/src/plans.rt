@@ -9,9 +9,10 @@ use crate::page::{Page, Style};
 use crate::positions::{Position, Range, bytes_at, push_excerpt, push_position};
 use crate::steps::{Part, StepPositions, push_step, word_count, word_of, word_range};
 use crate::unreadable::push_unreadable;
+use crate::world::World;
 use plan_cost::{Assessment, Cost};
 use std::alloc::{AllocError, Global};
-use strips_judge::{GroundCond, Verdict, Why};
+use strips_judge::{Formula, Verdict, Why};
 
 /// A plan of a file.
 #[derive(Clone, Copy)]
@@ -20,6 +21,19 @@ pub(crate) struct PlanAt<'a> {
     pub(crate) part: Part<'a>,
     /// Its number in the file, from 1.
     pub(crate) number: usize,
+}
+
+/// A plan that was judged, and what is known about it.
+#[derive(Clone, Copy)]
+pub(crate) struct JudgedPlan<'a, 'f, 't> {
+    pub(crate) plan: PlanAt<'a>,
+    /// The positions of its steps, as far as they are named.
+    pub(crate) positions: &'f StepPositions,
+    /// For each condition that does not hold, the step that changed it last; of many conditions, for the first ones.
+    pub(crate) changes: &'f [Option<usize>],
+    /// What is true after the steps that could be taken. If all conditions are literals, no step may have been taken.
+    pub(crate) world: &'f World<'t>,
+    pub(crate) assessment: &'f Assessment,
 }
 
 /// Adds what is found about a plan.
@@ -58,7 +72,7 @@ pub(crate) fn named_positions(
 }
 
 /// The conditions that do not hold before the step that fails, or at the end.
-pub(crate) fn missing_of(verdict: &Verdict) -> &[GroundCond] {
+pub(crate) fn missing_of(verdict: &Verdict) -> &[Formula] {
     match verdict {
         Verdict::Fails {
             why: Why::Missing(missing),

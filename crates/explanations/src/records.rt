@@ -1,29 +1,20 @@
 //! Explanations as records for programs: JSON objects, each on a line of its own.
 
+use crate::account::push_more_member;
+use crate::causes::{left_out, push_causes};
 use crate::comments::push_cost_remark;
 use crate::faults::{push_message, shown_range};
 use crate::hints::push_hints;
 use crate::library::Library;
 use crate::page::{Page, object_name, predicate_name};
-use crate::plans::{PlanAt, faulty_position, push_hint, push_why};
+use crate::plans::{JudgedPlan, PlanAt, faulty_position, push_hint, push_why};
 use crate::positions::{bytes_at, position_of, push_place};
 use crate::scene::Scene;
-use crate::steps::{StepPositions, push_step_list};
+use crate::steps::push_step_list;
 use crate::unreadable::push_unreadable_members;
-use plan_cost::{Assessment, Cost};
+use plan_cost::Cost;
 use strips_judge::{Verdict, Why};
-use strips_task::{Atom, GroundCond, GroundFormula, StepView, Task};
-
-/// A plan that was judged, and what is known about it.
-#[derive(Clone, Copy)]
-pub(crate) struct JudgedPlan<'a, 'f> {
-    pub(crate) plan: PlanAt<'a>,
-    /// The positions of its steps, as far as they are named.
-    pub(crate) positions: &'f StepPositions,
-    /// For each condition that does not hold, the step that changed it last; of many conditions, for the first ones.
-    pub(crate) changes: &'f [Option<usize>],
-    pub(crate) assessment: &'f Assessment,
-}
+use strips_task::{Atom, StepView, Task};
 
 /// Adds the record of a run whose domain and problem are read.
 pub(crate) fn push_run_record(page: &mut Page, task: &Task) {
@@ -54,9 +45,8 @@ pub(crate) fn push_refused_record(page: &mut Page, scene: &mut Scene<'_>) {
 /// Adds the record of a plan.
 pub(crate) fn push_plan_record<'a>(
     page: &mut Page,
-    task: &Task,
     library: &mut Library<'a>,
-    judged: JudgedPlan<'a, '_>,
+    judged: JudgedPlan<'a, '_, '_>,
 ) {
     let plan = judged.plan;
     push_start(page, "plan", plan);
@@ -66,12 +56,12 @@ pub(crate) fn push_plan_record<'a>(
         Verdict::Fails { step, why } => {
             page.say("fails\",\"step\":");
             page.number(*step as usize);
-            push_failure(page, task, library, judged, *step as usize, why);
+            push_failure(page, library, judged, *step as usize, why);
             page.say("}\n");
         }
-        Verdict::Goal { missing } => {
+        Verdict::Goal { missing: _ } => {
             page.say("goal\"");
-            push_missing(page, task, judged, missing.as_slice());
+            push_missing(page, judged);
             page.say("}\n");
         }
         Verdict::Unreadable { line: _ } => {
@@ -116,9 +106,8 @@ pub(crate) fn push_cost_member(page: &mut Page, cost: Cost) {
 /// Adds the members of a step that fails.
 fn push_failure<'a>(
     page: &mut Page,
-    task: &Task,
     library: &mut Library<'a>,
-    judged: JudgedPlan<'a, '_>,
+    judged: JudgedPlan<'a, '_, '_>,
     number: usize,
     why: &Why,
 ) {
@@ -131,8 +120,8 @@ fn push_failure<'a>(
     page.say(",\"action\":");
     push_step_list(page, step);
     push_reason(page, why);
-    if let Why::Missing(missing) = why {
-        push_missing(page, task, judged, missing.as_slice());
+    if let Why::Missing(_) = why {
+        push_missing(page, judged);
     }
     let mut message = page.draft();
     push_why(&mut message, library, step, why);
@@ -160,67 +149,12 @@ fn push_reason(page: &mut Page, why: &Why) {
     }
 }
 
-/// Adds the member with the conditions that do not hold, each with the step that changed it. If there are many, a further member says how many are left out.
-fn push_missing(page: &mut Page, task: &Task, judged: JudgedPlan<'_, '_>, missing: &[GroundCond]) {
+/// Adds the member with the conditions that do not hold, each with why it does not. If there are many, a further member says how many are left out.
+fn push_missing(page: &mut Page, judged: JudgedPlan<'_, '_, '_>) {
     page.say(",\"missing\":[");
-    let mut is_first = true;
-    for (cond, change) in missing.iter().zip(judged.changes.iter()) {
-        page.say(if is_first { "{" } else { ",{" });
-        page.say("\"condition\":");
-        push_condition_list(page, task, cond);
-        page.say(",\"changed_by\":");
-        push_change(page, judged, *change);
-        page.say("}");
-        is_first = false;
-    }
+    push_causes(page, judged);
     page.say("]");
-    let left = missing.len().saturating_sub(judged.changes.len());
-    if left > 0 {
-        page.say(",\"more\":");
-        page.number(left);
-    }
-}
-
-/// Adds the step that changed a condition, or null if none did.
-fn push_change(page: &mut Page, judged: JudgedPlan<'_, '_>, change: Option<usize>) {
-    let Some(step) = change else {
-        page.say("null");
-        return;
-    };
-    page.say("{\"step\":");
-    page.number(step);
-    if let Some(position) = judged.positions.get(step) {
-        page.say(",\"action\":");
-        push_step_list(page, bytes_at(judged.plan.file.bytes, position.range));
-        page.say(",\"line\":");
-        page.number(position.line.number);
-    }
-    page.say("}");
-}
-
-/// Adds a condition as a list of words.
-fn push_condition_list(page: &mut Page, task: &Task, cond: &GroundCond) {
-    if cond.positive {
-        push_formula_list(page, task, &cond.formula);
-        return;
-    }
-    page.say("[\"not\",");
-    push_formula_list(page, task, &cond.formula);
-    page.say("]");
-}
-
-/// Adds a formula as a list of words.
-fn push_formula_list(page: &mut Page, task: &Task, formula: &GroundFormula) {
-    match formula {
-        GroundFormula::Atom(atom) => push_atom_list(page, task, atom),
-        GroundFormula::Equal(left, right) => {
-            page.say("[\"=\",");
-            page.name_string(object_name(task, *left));
-            page.say(",");
-            page.name_string(object_name(task, *right));
-            page.say("]");
-        }
-    }
+    push_more_member(page, left_out(judged));
 }
 
 /// Adds an atom as a list of words.

@@ -1,9 +1,10 @@
 //! Requirements that a domain or a problem uses and that neither lists.
 
 use crate::SourceText;
+use crate::connectives::Connective;
 use crate::constructs::is_one_of;
 use crate::lint::{ReadText, Warnings, section_named};
-use crate::literals::{Literal, Place};
+use crate::literals::Compound;
 use crate::outline::{Declared, Sort};
 use crate::positions::Range;
 use std::alloc::AllocError;
@@ -13,15 +14,23 @@ use std::alloc::AllocError;
 enum Requirement {
     Typing,
     NegativePreconditions,
+    DisjunctivePreconditions,
     Equality,
+    ExistentialPreconditions,
+    UniversalPreconditions,
+    ConditionalEffects,
     ActionCosts,
 }
 
 /// The requirements that are looked for.
-const REQUIREMENTS: [Requirement; 4] = [
+const REQUIREMENTS: [Requirement; 8] = [
     Requirement::Typing,
     Requirement::NegativePreconditions,
+    Requirement::DisjunctivePreconditions,
     Requirement::Equality,
+    Requirement::ExistentialPreconditions,
+    Requirement::UniversalPreconditions,
+    Requirement::ConditionalEffects,
     Requirement::ActionCosts,
 ];
 
@@ -31,7 +40,11 @@ impl Requirement {
         match self {
             Requirement::Typing => ":typing",
             Requirement::NegativePreconditions => ":negative-preconditions",
+            Requirement::DisjunctivePreconditions => ":disjunctive-preconditions",
             Requirement::Equality => ":equality",
+            Requirement::ExistentialPreconditions => ":existential-preconditions",
+            Requirement::UniversalPreconditions => ":universal-preconditions",
+            Requirement::ConditionalEffects => ":conditional-effects",
             Requirement::ActionCosts => ":action-costs",
         }
     }
@@ -43,6 +56,9 @@ impl Requirement {
         }
         match self {
             Requirement::ActionCosts => is_one_of(word, &[b":fluents", b":numeric-fluents"]),
+            Requirement::ExistentialPreconditions | Requirement::UniversalPreconditions => {
+                is_one_of(word, &[b":quantified-preconditions", b":adl"])
+            }
             _ => word.eq_ignore_ascii_case(b":adl"),
         }
     }
@@ -70,10 +86,38 @@ impl Requirement {
             Requirement::Typing => first_type(text.outline.as_slice()),
             Requirement::NegativePreconditions => first_negation(text),
             Requirement::Equality => first_equality(text),
+            Requirement::DisjunctivePreconditions
+            | Requirement::ExistentialPreconditions
+            | Requirement::UniversalPreconditions
+            | Requirement::ConditionalEffects => self.first_compound(text),
             Requirement::ActionCosts => {
                 Some(text.range(section_named(&text.pieces, b":functions")?))
             }
         }
+    }
+}
+
+impl Requirement {
+    /// Where a text first has a list that needs it.
+    fn first_compound(self, text: &ReadText<'_>) -> Option<Range> {
+        for compound in text.literals.compounds() {
+            if need_of(compound) == self {
+                return Some(text.range(compound.head as usize));
+            }
+        }
+        None
+    }
+}
+
+/// The requirement that a list needs (PDDL 2.1, Fox and Long 2003, appendix A).
+fn need_of(compound: &Compound) -> Requirement {
+    if !compound.place.is_condition() {
+        return Requirement::ConditionalEffects;
+    }
+    match compound.connective {
+        Connective::Exists => Requirement::ExistentialPreconditions,
+        Connective::ForAll => Requirement::UniversalPreconditions,
+        _ => Requirement::DisjunctivePreconditions,
     }
 }
 
@@ -123,15 +167,10 @@ fn first_type(names: &[Declared]) -> Option<Range> {
     None
 }
 
-/// Whether a literal is a condition.
-fn is_condition(literal: &Literal) -> bool {
-    matches!(literal.place, Place::Precondition | Place::Goal)
-}
-
 /// The first negated condition.
 fn first_negation(text: &ReadText<'_>) -> Option<Range> {
     for literal in text.literals.as_slice() {
-        if is_condition(literal) && !literal.positive {
+        if literal.place.is_condition() && !literal.positive {
             return Some(text.list_range(literal));
         }
     }
@@ -141,7 +180,7 @@ fn first_negation(text: &ReadText<'_>) -> Option<Range> {
 /// The first equality among the conditions.
 fn first_equality(text: &ReadText<'_>) -> Option<Range> {
     for literal in text.literals.as_slice() {
-        if is_condition(literal) && text.head(literal) == b"=".as_slice() {
+        if literal.place.is_condition() && text.head(literal) == b"=".as_slice() {
             return Some(text.list_range(literal));
         }
     }

@@ -1,7 +1,9 @@
 //! What is around the fault of a domain or a problem.
 
 use crate::SourceText;
-use crate::library::Library;
+use crate::constructs::is_one_of;
+use crate::library::{Found, Library};
+use crate::literals::Place;
 use crate::outline::Sort;
 use crate::positions::{Range, bytes_at};
 use crate::tokens::Pieces;
@@ -92,9 +94,14 @@ impl<'a> Scene<'a> {
         self.faulty().eq_ignore_ascii_case(word)
     }
 
-    /// Whether the dialect of the competitions is read.
+    /// Whether what the dialect of the competitions has is read.
     pub(crate) fn is_ipc(&self) -> bool {
-        matches!(self.refusal.dialect, Dialect::Ipc)
+        matches!(self.refusal.dialect, Dialect::Ipc | Dialect::Adl)
+    }
+
+    /// Whether the dialect with all conditions and effects is read.
+    pub(crate) fn is_adl(&self) -> bool {
+        matches!(self.refusal.dialect, Dialect::Adl)
     }
 
     /// Whether the piece before the fault is a `(`.
@@ -184,6 +191,66 @@ impl<'a> Scene<'a> {
         }
     }
 
+    /// Among which conditions or effects the fault is.
+    pub(crate) fn place(&self) -> Place {
+        if self.is_in(b":goal") {
+            return Place::Goal;
+        }
+        if !self.is_in(b":action") {
+            return Place::Other;
+        }
+        let part = self.part();
+        if part.eq_ignore_ascii_case(b":precondition") {
+            Place::Precondition
+        } else if !part.eq_ignore_ascii_case(b":effect") {
+            Place::Other
+        } else if self.is_in_guard() {
+            Place::Guard
+        } else {
+            Place::Effect
+        }
+    }
+
+    /// Whether the fault is in the condition of a `when`.
+    fn is_in_guard(&self) -> bool {
+        let mut list = self.list();
+        for _ in 0..66usize {
+            let Some(open) = list else {
+                return false;
+            };
+            list = self.pieces.list_around(open);
+            if self.head_of(list).eq_ignore_ascii_case(b"when")
+                && list == Some(open.saturating_sub(2))
+            {
+                return true;
+            }
+        }
+        false
+    }
+
+    /// Whether a list with one of these heads is around the fault.
+    pub(crate) fn is_under(&self, heads: &[&[u8]]) -> bool {
+        let mut list = self.list();
+        for _ in 0..66usize {
+            let Some(open) = list else {
+                return false;
+            };
+            if is_one_of(self.head_of(list), heads) {
+                return true;
+            }
+            list = self.pieces.list_around(open);
+        }
+        false
+    }
+
+    /// The action around the fault. A problem has none.
+    pub(crate) fn action(&self) -> Option<Found<'a>> {
+        if self.refusal.is_problem {
+            return None;
+        }
+        self.library.action_at(self.range().start)
+    }
+
     /// Whether the section around the fault has this head.
     pub(crate) fn is_in(&self, section: &[u8]) -> bool {
         self.section().eq_ignore_ascii_case(section)
@@ -219,7 +286,7 @@ impl<'a> Scene<'a> {
     /// Whether the fault is the `=` of a condition on the value of a function.
     pub(crate) fn compares_numbers(&self) -> bool {
         let has_list = self.is_before_list() || self.is_left(self.number.saturating_add(2));
-        has_list && !self.is_in(b":init") && !self.part().eq_ignore_ascii_case(b":effect")
+        has_list && !self.is_in(b":init") && self.place() != Place::Effect
     }
 
     /// Whether the fault is an `=` that the dialect of the competitions reads: between terms of a condition, or before a value in `:init`.
@@ -227,7 +294,7 @@ impl<'a> Scene<'a> {
         if self.is_in(b":init") {
             return self.is_before_list() && self.depth() == 3;
         }
-        !self.is_declaration() && !self.part().eq_ignore_ascii_case(b":effect")
+        !self.is_declaration() && self.place() != Place::Effect
     }
 
     /// Which sort of name is allowed at the fault.

@@ -4,7 +4,7 @@ use crate::lint::ReadText;
 use crate::names::Budget;
 use crate::outline::Sort;
 use std::alloc::{AllocError, Global};
-use strips_task::{Action, KeptAtom, Pattern, Task};
+use strips_task::{Action, Effect, EffectNode, KeptAtom, Pattern, Task};
 
 /// For each predicate whether an initial atom or an effect has it.
 #[derive(Drop)]
@@ -65,6 +65,27 @@ impl Support {
         for pattern in action.add.as_slice() {
             self.note(pattern.pred);
         }
+        note_all(self, action.effects.as_slice());
+    }
+}
+
+/// Notes what some effects may add.
+#[cycle(support)]
+fn note_all(support: &mut Support, effects: &[Effect]) {
+    for effect in effects {
+        note_effect(support, effect);
+    }
+}
+
+/// Notes what an effect may add.
+#[cycle(support)]
+fn note_effect(support: &mut Support, effect: &Effect) {
+    match effect.node() {
+        EffectNode::Atom(true, pattern) => support.note(pattern.pred),
+        EffectNode::Atom(false, _) => {}
+        EffectNode::And(effects) => note_all(support, effects),
+        EffectNode::When(_, body) => note_effect(support, body),
+        EffectNode::ForAll(_, body) => note_effect(support, body),
     }
 }
 

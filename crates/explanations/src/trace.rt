@@ -2,14 +2,15 @@
 
 ghost use Rattle.std.specs.Prelude.{◌<◌, length};
 
-use crate::effects::{World, action_of, ground, is_among, objects_of};
+use crate::effects::Change;
 use crate::page::Page;
 use crate::plans::PlanAt;
 use crate::records::{push_atom_list, push_cost_member, push_step_record};
+use crate::world::World;
 use plan_cost::{Cost, CostScratch, CostedTask, step_cost};
 use plan_text::{PlanSteps, StepWords, TextStep};
 use std::alloc::{AllocError, Global};
-use strips_task::{Action, Atom, OpenSteps, StepView, Task};
+use strips_task::{Atom, OpenSteps, StepView, Task};
 
 /// What a walk over the steps of a plan keeps.
 struct Trace<'t> {
@@ -53,7 +54,7 @@ impl<'t> Trace<'t> {
     fn new(alloc: Global, task: &'t CostedTask) -> Self {
         Trace {
             task,
-            world: World::new(alloc, task.task.initial_atoms()),
+            world: World::new(alloc, &task.task),
             step: OpenSteps::new(alloc),
             scratch: CostScratch::new(alloc),
             cost: match &task.costs {
@@ -112,7 +113,7 @@ impl<'t> Trace<'t> {
             page.step_view(&step);
             page.say("\n");
         }
-        push_changes(page, self.task, &mut self.world, step)?;
+        push_changes(page, &mut self.world, step, number)?;
         self.cost = cost_with(self.task, self.cost, step, &mut self.scratch)?;
         push_cost_so_far(page, self.cost);
         Ok(())
@@ -152,37 +153,24 @@ fn cost_with(
 /// Takes a step in the world, and adds the atoms that it makes false and true.
 fn push_changes(
     page: &mut Page,
-    task: &CostedTask,
     world: &mut World<'_>,
     step: StepView<'_>,
+    number: usize,
 ) -> Result<(), AllocError> {
-    let Some(action) = action_of(&task.task, step) else {
-        return Ok(());
-    };
-    let objects = objects_of(page.alloc(), &task.task, step)?;
-    push_deleted(page, task, world, action, objects.as_slice())?;
-    push_added(page, task, world, action, objects.as_slice())
+    let changes = world.changes_of(step)?;
+    push_atoms(page, world.task(), "deletes", changes.deleted.as_slice());
+    push_atoms(page, world.task(), "adds", changes.added.as_slice());
+    world.change(number, changes)
 }
 
-/// Deletes atoms, and adds a line with those that were true.
-fn push_deleted(
-    page: &mut Page,
-    task: &CostedTask,
-    world: &mut World<'_>,
-    action: &Action,
-    objects: &[u16],
-) -> Result<(), AllocError> {
+/// Adds a line with atoms that a step changes, if there are any.
+fn push_atoms(page: &mut Page, task: &Task, change: &str, atoms: &[Change<'_>]) {
     let mut shown = false;
-    for pattern in action.del.as_slice() {
-        let atom = ground(page.alloc(), pattern, objects)?;
-        if world.holds(&atom) && !is_among(page.alloc(), &atom, action.add.as_slice(), objects)? {
-            push_change(page, &task.task, "deletes", shown, &atom);
-            world.set(atom, false)?;
-            shown = true;
-        }
+    for Change { atom, .. } in atoms {
+        push_change(page, task, change, shown, atom);
+        shown = true;
     }
-    push_end(page, "deletes", shown);
-    Ok(())
+    push_end(page, change, shown);
 }
 
 /// Adds an atom that a step changes, the first of which begins a list.
@@ -225,25 +213,4 @@ fn push_end(page: &mut Page, change: &str, shown: bool) {
     if shown {
         page.say("\n");
     }
-}
-
-/// Adds atoms, and adds a line with those that were false.
-fn push_added(
-    page: &mut Page,
-    task: &CostedTask,
-    world: &mut World<'_>,
-    action: &Action,
-    objects: &[u16],
-) -> Result<(), AllocError> {
-    let mut shown = false;
-    for pattern in action.add.as_slice() {
-        let atom = ground(page.alloc(), pattern, objects)?;
-        if !world.holds(&atom) {
-            push_change(page, &task.task, "adds", shown, &atom);
-            world.set(atom, true)?;
-            shown = true;
-        }
-    }
-    push_end(page, "adds", shown);
-    Ok(())
 }

@@ -4,7 +4,7 @@ use Rattle.std.proofs.Common.{◌≡◌, ℕ, Bool, true, false, not, ◌&&◌, 
 use Rattle.std.proofs.Math.Bool.{not-not, and-true, or-false}
 use Rattle.std.proofs.Math.Path.{fun_ext}
 use Rattle.std.specs.List.{flat_map, list_all, list_any}
-use Rattle.strips_task.specs.declared.atoms.Atom.{Atom}
+use Rattle.formulas.specs.declared.atoms.Atom.{Atom}
 use Rattle.formulas.specs.Laws.{ImplyMeansOr, NotMovesInwards, NoVariablesMeanTheBody, NoObjectsDecide}
 use Rattle.formulas.specs.Meaning.{signed, holds, all_hold, some_holds}
 use Rattle.formulas.specs.Opposite.{opposite, opposites}

@@ -9,7 +9,7 @@ use Rattle.std.proofs.lemmas.List.{get_or_past, map-append}
 use Rattle.std.proofs.lemmas.List.Elements.{All-nil, All-cons, recursion_from_All}
 use Rattle.std.proofs.lemmas.List.Folds.{list_all-map}
 use Rattle.std.specs.List.{flat_map, list_all, list_any, All, AllByRecursion}
-use Rattle.strips_task.specs.declared.atoms.Atom.{Atom}
+use Rattle.formulas.specs.declared.atoms.Atom.{Atom}
 use Rattle.formulas.specs.declared.terms.Term.{Term}
 use Rattle.formulas.specs.declared.terms.Term.TheVariants.{Param, Bound, Object}
 use Rattle.formulas.specs.declared.terms.Pattern.{Pattern}

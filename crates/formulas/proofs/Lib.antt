@@ -5,3 +5,4 @@ pub mod GroundedMeaning
 pub mod Pairs
 pub mod Parts
 pub mod Sizes
+pub mod FoldedWords

@@ -4,7 +4,7 @@ use Rattle.std.proofs.Common.{◌≡◌, ℕ, Bool, ◌&&◌, ◌||◌, List, []
 use Rattle.std.specs.Cmp.Lexicographic.{pointwise}
 use Rattle.std.specs.List.{flat_map, list_all, list_any}
 use Rattle.std.specs.Hash as fed
-use Rattle.strips_task.specs.declared.atoms.Atom.{Atom}
+use Rattle.formulas.specs.declared.atoms.Atom.{Atom}
 use Rattle.formulas.specs.Equality.{tree_eq, parts_eq}
 use Rattle.formulas.specs.Grounding.{with_objects, all_with_objects}
 use Rattle.formulas.specs.Hashing.{tree_fed, parts_fed}

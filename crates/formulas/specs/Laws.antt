@@ -2,7 +2,7 @@
 
 use Rattle.std.specs.Prelude.{◌≡◌, ◌+◌, ◌↔◌, ℕ, Bool, true, false, List, [], ◌∷◌, ◌++◌, length}
 use Rattle.std.specs.List.{list_all, list_any}
-use Rattle.strips_task.specs.declared.atoms.Atom.{Atom}
+use Rattle.formulas.specs.declared.atoms.Atom.{Atom}
 use Rattle.formulas.specs.declared.variables.VariableGroup.{VariableGroup}
 use Rattle.formulas.specs.Equality.{tree_eq}
 use Rattle.formulas.specs.Grounding.{with_objects}

@@ -1,3 +1,8 @@
+pub mod Changes
+pub mod EffectCode
+pub mod EffectHeights
+pub mod EffectNodes
+pub mod EffectTree
 pub mod Equality
 pub mod EqualityLaws
 pub mod Grounding
@@ -11,3 +16,7 @@ pub mod Tree
 pub mod TreeCode
 pub mod Variables
 pub mod Within
+pub mod Atom
+pub mod AtomHash
+pub mod AtomEquality
+pub mod Names

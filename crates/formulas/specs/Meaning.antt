@@ -2,7 +2,7 @@
 
 use Rattle.std.specs.Prelude.{ℕ, Bool, true, false, not, ◌&&◌, ◌||◌, nat_eq, List, map, slice_index, if◌then◌else◌}
 use Rattle.std.specs.List.{list_all, list_any}
-use Rattle.strips_task.specs.declared.atoms.Atom.{Atom}
+use Rattle.formulas.specs.declared.atoms.Atom.{Atom}
 use Rattle.formulas.specs.declared.terms.Term.{Term}
 use Rattle.formulas.specs.declared.terms.Term.TheVariants.{Param, Bound, Object}
 use Rattle.formulas.specs.declared.terms.Pattern.{Pattern}

@@ -1,10 +1,11 @@
--- Which parameters and variables a formula names: `params` is how many parameters the action has, and `bound` how many variables are bound around the formula.
+-- Which parameters and variables a formula or an effect names: `params` is how many parameters the action has, and `bound` how many variables are bound around it.
 
 use Rattle.std.specs.Prelude.{ℕ, ◌+◌, ◌<◌, All, length}
 use Rattle.formulas.specs.declared.terms.Term.{Term}
 use Rattle.formulas.specs.declared.terms.Term.TheVariants.{Param, Bound, Object}
 use Rattle.formulas.specs.declared.terms.Pattern.{Pattern}
 use Rattle.formulas.specs.Tree.{Tree, atom, equality, negation, conjunction, disjunction, implication, exists, for_all, Parts, no_parts, part}
+use Rattle.formulas.specs.EffectTree.{EffectTree, change, joint, conditional, universal, EffectParts, no_effects, effect_part}
 use Rattle.formulas.specs.Variables.{variable_types}
 
 module _ (params : ℕ) where
@@ -34,3 +35,16 @@ module _ (params : ℕ) where
     pub AreWithin : ℕ → Parts → Type 0
     AreWithin bound no_parts = Unit {0}
     AreWithin bound (part tree parts) = IsWithin bound tree × AreWithin bound parts
+
+  abbrev mutual
+    -- all terms of an effect and of its conditions are such terms. What is under a `forall` may also name its variables
+    pub IsEffectWithin : ℕ → EffectTree → Type 0
+    IsEffectWithin bound (change positive pattern) = IsPatternWithin bound pattern
+    IsEffectWithin bound (joint parts) = AreEffectsWithin bound parts
+    IsEffectWithin bound (conditional condition effect) = IsWithin bound condition × IsEffectWithin bound effect
+    IsEffectWithin bound (universal groups effect) = IsEffectWithin (bound + length (variable_types groups)) effect
+
+    -- the same for each of several effects
+    pub AreEffectsWithin : ℕ → EffectParts → Type 0
+    AreEffectsWithin bound no_effects = Unit {0}
+    AreEffectsWithin bound (effect_part effect parts) = IsEffectWithin bound effect × AreEffectsWithin bound parts

@@ -1,9 +1,8 @@
 //! Formulas, and what they are made of.
 
-use crate::{Pattern, Term, VariableGroup};
+use crate::{Pattern, Seq, Term, VariableGroup};
 use std::marker::Model;
 use std::mem::size_of;
-use strips_task::Seq;
 
 /// A formula of PDDL (PDDL 2.1, Fox and Long 2003, section 2). [`Formula::new`] makes one of its parts, and [`Formula::node`] shows them. Contracts see a
 /// tree without addresses in memory, so a copy is the same as the original.
@@ -74,6 +73,7 @@ impl Formula {
     }
 
     /// The parts of the formula, to match on.
+    #[inline(always)]
     pub fn node(&self) -> &Node
         ensures { tree_of result.now ≡ self.now }
     {

@@ -3,9 +3,8 @@ ghost use Rattle.std.specs.Prelude.{◌≡◌, map, IfOk};
 ghost use Rattle.formulas.specs.Grounding.{term_with, pattern_with, with_objects};
 ghost use Rattle.formulas.specs.Nodes.{tree_of};
 
-use crate::{Formula, Node, Pattern, Term, VariableGroup};
+use crate::{Formula, Name, Node, Pattern, Seq, ShortSeq, Term, VariableGroup};
 use std::alloc::{AllocError, Global};
-use strips_task::{Name, Seq, ShortSeq};
 
 impl Formula {
     ghost use Rattle.std.specs.Prelude.{◌≡◌, IfOk};

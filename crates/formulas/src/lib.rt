@@ -1,4 +1,5 @@
-//! Formulas of PDDL as trees: what preconditions, goals and the conditions of effects are made of.
+//! Formulas and effects of PDDL as trees: what preconditions and goals are made of, and what actions do. Also what formulas themselves are made of: names
+//! ([`Name`]), terms, ground atoms ([`Atom`]), and lists that contracts see as lists ([`Seq`], [`ShortSeq`]).
 //!
 //! ```text
 //! let formula = Formula::new(Node::And(parts));                    // a formula of its parts
@@ -12,15 +13,25 @@
 //! [`laws`] say what follows from that.
 #![tactic(auto)]
 
+mod atoms;
+mod effect;
 mod equality;
 mod formula;
 mod grounding;
 mod hashing;
 pub mod laws;
+mod names;
+mod seq;
+mod short;
 mod terms;
 mod variables;
 
+pub use atoms::{Atom, AtomList};
+pub use effect::{Effect, EffectNode};
 pub use formula::{Formula, Node};
 pub use grounding::ground;
+pub use names::{Name, NameKey};
+pub use seq::Seq;
+pub use short::ShortSeq;
 pub use terms::{Pattern, Term};
-pub use variables::VariableGroup;
+pub use variables::{Alternatives, VariableGroup};

@@ -1,6 +1,6 @@
 //! Terms, and atoms whose arguments are terms.
 
-use strips_task::ShortSeq;
+use crate::ShortSeq;
 
 /// An argument of an atom, or a side of an equality.
 #[derive(Clone, Copy)]

@@ -1,6 +1,9 @@
 //! The variables of quantifiers.
 
-use strips_task::{Alternatives, Name, Seq};
+use crate::{Name, Seq};
+
+/// The types that an argument may have: those in `(either ..)`, or a single one.
+pub type Alternatives = Seq<u16>;
 
 /// Variables of a quantifier that share their types, such as `?x ?y - block` or `?z - (either a b)`. A quantifier keeps its groups as they were written,
 /// because conditions are printed.

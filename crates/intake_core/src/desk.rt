@@ -54,6 +54,12 @@ impl Model for Desk {
 
     ghost Value = { DeskState };
 
+    ghost use Rattle.formulas.specs.contracts.effect.Effect as effect;
+    ghost use Rattle.formulas.specs.contracts.formula.Formula as formula;
+    ghost use Rattle.std.specs.Coded.{codes};
+
+    ghost coded = { Prim.hlevel (codes, formula.the_row.coded, effect.the_row.coded) };
+
     ghost use Rattle.intake_core.specs.Rows.{intake_in, IsKeptIn};
 
     ghost view = { λ desk. record { task = desk.task.value; slots = desk.limit; intake = intake_in desk.table.items desk.planners.items } };

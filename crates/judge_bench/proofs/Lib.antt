@@ -1,5 +1,6 @@
 pub mod ByPlanner
 pub mod Crews
+pub mod Crossing
 pub mod Cursors
 pub mod Emissions
 pub mod Holding

@@ -22,6 +22,12 @@ impl Model for Bench {
 
     ghost Value = { BenchFacts };
 
+    ghost use Rattle.formulas.specs.contracts.effect.Effect as effect;
+    ghost use Rattle.formulas.specs.contracts.formula.Formula as formula;
+    ghost use Rattle.std.specs.Coded.{codes};
+
+    ghost coded = { Prim.hlevel (codes, formula.the_row.coded, effect.the_row.coded) };
+
     ghost view = { λ bench. record { table = bench.table.shared.table_id; setting = bench.table.shared.key } };
 
     ghost invariant = { λ bench. (bench.table.shared.table_id.words ≡ bench.table.shared.table_id.slots + 1) × (bench.table.shared.table_id.slots ≡ bench.slots) × (bench.table.shared.key.slots ≡ bench.slots) × (bench.slots ≤ 65536) };

@@ -19,6 +19,12 @@ impl Model for Findings {
 
     ghost Value = { List (List Finding) };
 
+    ghost use Rattle.formulas.specs.contracts.effect.Effect as effect;
+    ghost use Rattle.formulas.specs.contracts.formula.Formula as formula;
+    ghost use Rattle.std.specs.Coded.{codes};
+
+    ghost coded = { Prim.hlevel (codes, formula.the_row.coded, effect.the_row.coded) };
+
     ghost view = { λ findings. findings.lists.items };
 }
 

@@ -53,6 +53,12 @@ impl Model for Owner {
 
     ghost Value = { SeatFacts };
 
+    ghost use Rattle.formulas.specs.contracts.effect.Effect as effect;
+    ghost use Rattle.formulas.specs.contracts.formula.Formula as formula;
+    ghost use Rattle.std.specs.Coded.{codes};
+
+    ghost coded = { Prim.hlevel (codes, formula.the_row.coded, effect.the_row.coded) };
+
     ghost view = { λ owner. record { table = owner.seat.table_id; view = owner.seat.me.0 } };
 
     ghost invariant = { λ owner. OwnerBooks owner.seat.table_id owner.seat.id owner.seat.me owner.planners.items owner.cursors.items owner.closed.items owner.seats_out owner.first × (owner.seat.table_id.slots ≤ vec_capacity owner.planners) };

@@ -35,6 +35,12 @@ impl Model for WorkerSeat {
 
     ghost Value = { SeatFacts };
 
+    ghost use Rattle.formulas.specs.contracts.effect.Effect as effect;
+    ghost use Rattle.formulas.specs.contracts.formula.Formula as formula;
+    ghost use Rattle.std.specs.Coded.{codes};
+
+    ghost coded = { Prim.hlevel (codes, formula.the_row.coded, effect.the_row.coded) };
+
     ghost view = { λ worker. record { table = worker.seat.table_id; view = worker.seat.me.0 } };
 
     ghost invariant = { λ worker. WorkerBooks worker.seat.table_id worker.seat.me worker.held worker.next };

@@ -1,11 +1,8 @@
 -- Refusals that the texts of a run call for.
 
 use Rattle.std.proofs.Common.{◌≡◌, ◌≢◌, ℕ, ◌<◌, ◌≤◌, List, length, Option, None, Some, Result, Ok, Err, IfErr, refl, ap, sym, ◌∙◌, subst, ◌↔◌}
-use Rattle.pddl_syntax.specs.declared.fault.FaultKind.{FaultKind}
 use Rattle.pddl_syntax.specs.declared.fault.FaultKind.TheVariants.{OutOfMemory as Memory}
 use Rattle.pddl_syntax.specs.declared.fault.ReadFault.{ReadFault}
-use Rattle.pddl_reader.specs.Domain.{DomainValue}
-use Rattle.pddl_reader.specs.Texts.{domain_in_text, problem_in_text}
 use Rattle.pddl_syntax.specs.Trees.{text_fault}
 use Rattle.plan_cost.specs.declared.costs.CostedTask.{CostedTask}
 use Rattle.pddl_syntax.specs.declared.dialect.Dialect.{Dialect}
@@ -13,55 +10,29 @@ use Rattle.judge_engine.specs.declared.fault.Input.{Input}
 use Rattle.judge_engine.specs.declared.fault.JudgeFault.{JudgeFault}
 use Rattle.judge_engine.specs.declared.fault.JudgeFault.TheVariants.{TooLarge, TooManyPlanners, Domain, Problem, TooManyPlans, Steps, OutOfMemory, NoThread, Held}
 use Rattle.judge_engine.specs.Bundle.{BundleValue}
-use Rattle.pddl_reader.specs.Texts.{task_in}
+use Rattle.task_reader.specs.declared.readers.TaskFault.{TaskFault}
+use Rattle.task_reader.specs.declared.readers.TaskFault.TheVariants as reader
+use Rattle.task_reader.specs.Texts.{task_in}
 use Rattle.judge_engine.specs.Answer.{too_large, plan_count, most_planners, most_plans}
-use Rattle.judge_engine.specs.Refusal.{IsOfTexts, ReadingCallsFor, TextsCallForIn, IsFaultOf}
+use Rattle.judge_engine.specs.Refusal.{IsOfTexts, ReadingCallsFor, TextsCallForIn}
 use Rattle.judge_engine.proofs.TextFaults.{text_fault_kind}
-
--- a refusal that is not for memory is of a fault that is not either
-pub other_kind : {kind : FaultKind} {refusal : JudgeFault} → (kind ≡ Memory → refusal ≡ OutOfMemory) → refusal ≢ OutOfMemory → kind ≢ Memory
-other_kind memory other is = other (memory is)
 
 -- one error at most
 pub same_error : {T E : Type 0} (e f : E) → ◌≡◌ {A = Result T E} (Err e) (Err f) → e ≡ f
 same_error e f is = cc
 
--- a reader's refusal of a text
-module _ {A T : Type 0} (text : List ℕ) (value : Option A) (fault : ReadFault) where
-  fault_of : fault.kind ≢ Memory → (fault.kind ≢ Memory → value ≡ None)
-      → ((e : ReadFault) → text_fault text ≡ Some e → ◌≡◌ {A = Result T ReadFault} (Err fault) (Err e)) → IsFaultOf text value fault
-  fault_of kind none first = record {
-    no_value = none kind;
-    of_the_text = kind;
-    first = λ e is. same_error {T = T} fault e (first e is);
-  }
-
-module _ {T : Type 0} (dialect : Dialect) (domain problem : List ℕ) where
-  pub domain_fault : (fault : ReadFault) (refusal : JudgeFault) → fault.kind ≢ Memory → (fault.kind ≢ Memory → refusal ≡ Domain fault)
-      → (fault.kind ≢ Memory → domain_in_text dialect domain ≡ None)
-      → ((e : ReadFault) → text_fault domain ≡ Some e → ◌≡◌ {A = Result T ReadFault} (Err fault) (Err e))
-      → ReadingCallsFor dialect domain problem refusal
-  domain_fault fault refusal kind is none first =
-      subst (ReadingCallsFor dialect domain problem) (sym (is kind)) (fault_of {T = T} domain (domain_in_text dialect domain) fault kind none first)
-
-  pub problem_fault : (value : DomainValue) (fault : ReadFault) (refusal : JudgeFault) → fault.kind ≢ Memory
-      → (fault.kind ≢ Memory → refusal ≡ Problem fault) → domain_in_text dialect domain ≡ Some value
-      → (fault.kind ≢ Memory → problem_in_text dialect value problem ≡ None)
-      → ((e : ReadFault) → text_fault problem ≡ Some e → ◌≡◌ {A = Result T ReadFault} (Err fault) (Err e))
-      → ReadingCallsFor dialect domain problem refusal
-  problem_fault value fault refusal kind is read none first =
-      subst (ReadingCallsFor dialect domain problem) (sym (is kind))
-      (value, read, fault_of {T = T} problem (problem_in_text dialect value problem) fault kind none first)
-
 -- wrong bytes and parentheses of the domain are told, since finding them takes no memory
-pub told_at_once : {T U : Type 0} (domain : List ℕ) (fault : ReadFault) (refusal : JudgeFault) → (fault.kind ≢ Memory → refusal ≡ Domain fault)
-    → ((e : ReadFault) → text_fault domain ≡ Some e → ◌≡◌ {A = Result T ReadFault} (Err fault) (Err e))
+pub told_at_once : {T U : Type 0} (domain : List ℕ) (told : TaskFault) (fault : ReadFault) (refusal : JudgeFault) → told ≡ reader.Domain fault
+    → (fault.kind ≢ Memory → refusal ≡ Domain fault)
+    → ((e : ReadFault) → text_fault domain ≡ Some e → ◌≡◌ {A = Result T TaskFault} (Err told) (Err (reader.Domain e)))
     → (e : ReadFault) → text_fault domain ≡ Some e → ◌≡◌ {A = Result U JudgeFault} (Err refusal) (Err (Domain e))
-told_at_once {T} {U} domain fault refusal is first e found =
-    let same : fault ≡ e = same_error {T = T} fault e (first e found) in
+told_at_once {T} domain told fault refusal of is first e found =
+    let of_domain : told ≡ reader.Domain e = same_error {T = T} told (reader.Domain e) (first e found) in
+    let both : reader.Domain fault ≡ reader.Domain e = sym of ∙ of_domain in
+    let same : fault ≡ e = cc in
     let kind : fault.kind ≢ Memory = subst (λ (f : ReadFault). f.kind ≢ Memory) (sym same) (text_fault_kind domain e found) in
-    let told : refusal ≡ Domain e = is kind ∙ ap (λ (f : ReadFault). Domain f) same in
-    ap (λ (r : JudgeFault). Err r) told
+    let refused : refusal ≡ Domain e = is kind ∙ ap (λ (f : ReadFault). Domain f) same in
+    ap (λ (r : JudgeFault). Err r) refused
 
 -- what an error says holds of the error
 err_at : {T E : Type 0} (P : E → Type 0) (r : Result T E) (e : E) → r ≡ Err e → IfErr r P → P e

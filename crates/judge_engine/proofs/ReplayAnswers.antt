@@ -11,7 +11,7 @@ use Rattle.intake_core.proofs.Runs.{headline}
 use Rattle.judge_engine.specs.declared.fault.Input.{Input}
 use Rattle.judge_engine.specs.declared.fault.JudgeFault.{JudgeFault}
 use Rattle.judge_engine.specs.declared.fault.JudgeFault.TheVariants.{OutOfMemory, Steps}
-use Rattle.pddl_reader.specs.Texts.{task_in}
+use Rattle.task_reader.specs.Texts.{task_in}
 use Rattle.judge_engine.specs.ReplayAnswer.{IsLawfulReplay, replay_answer_in, replay_of, too_large_for_replay}
 
 abbrev read_on : List ℕ → Option CostedTask → Option (List ℕ)

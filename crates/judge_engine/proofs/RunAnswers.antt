@@ -5,7 +5,7 @@ use Rattle.std.proofs.lemmas.Bool.{le-leb, lt-leb}
 use Rattle.std.specs.Option.{option_map}
 use Rattle.plan_cost.specs.declared.costs.CostedTask.{CostedTask}
 use Rattle.pddl_syntax.specs.declared.dialect.Dialect.{Dialect}
-use Rattle.pddl_reader.specs.Texts.{task_in}
+use Rattle.task_reader.specs.Texts.{task_in}
 use Rattle.judge_engine.specs.Answer.{answer_as, planner_of, too_large, plan_count, most_planners, most_plans}
 use Rattle.judge_engine.specs.declared.fault.Input.{Input}
 use Rattle.judge_engine.specs.Bundle.{BundleValue}

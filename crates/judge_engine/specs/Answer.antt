@@ -10,7 +10,7 @@ use Rattle.plan_text.specs.Bundle.{parts}
 use Rattle.plan_text.specs.PlanReading.{plan_of}
 use Rattle.pddl_syntax.specs.declared.dialect.Dialect.{Dialect}
 use Rattle.pddl_syntax.specs.declared.dialect.Dialect.TheVariants.{Strips}
-use Rattle.pddl_reader.specs.Texts.{task_in}
+use Rattle.task_reader.specs.Texts.{task_in}
 use Rattle.judge_engine.specs.declared.inlet.TheConstants.{FILE_LIMIT}
 use Rattle.judge_engine.specs.declared.fault.Input.{Input}
 use Rattle.judge_engine.specs.declared.fault.Input.TheVariants as input

@@ -1,19 +1,16 @@
 -- The refusal that the texts of a run call for: why they have no answer.
 
-use Rattle.std.specs.Prelude.{⊤, ◌≡◌, ◌≢◌, ℕ, ◌<◌, ◌≤◌, List, length, Option, Some, None}
+use Rattle.std.specs.Prelude.{⊤, ◌≡◌, ℕ, ◌<◌, ◌≤◌, List, length, Option, Some, None}
 use Rattle.judge_bench.specs.declared.running.RunFault.{RunFault}
 use Rattle.judge_bench.specs.declared.running.RunFault.TheVariants as run
-use Rattle.pddl_syntax.specs.declared.fault.FaultKind.TheVariants.{OutOfMemory as Memory}
-use Rattle.pddl_syntax.specs.declared.fault.ReadFault.{ReadFault}
-use Rattle.pddl_reader.specs.Domain.{DomainValue}
 use Rattle.pddl_syntax.specs.declared.dialect.Dialect.{Dialect}
 use Rattle.pddl_syntax.specs.declared.dialect.Dialect.TheVariants.{Strips}
-use Rattle.pddl_reader.specs.Texts.{domain_in_text, problem_in_text}
-use Rattle.pddl_syntax.specs.Trees.{text_fault}
 use Rattle.plan_cost.specs.declared.costs.CostedTask.{CostedTask}
 use Rattle.judge_engine.specs.declared.fault.JudgeFault.{JudgeFault}
 use Rattle.judge_engine.specs.declared.fault.JudgeFault.TheVariants.{TooLarge, TooManyPlanners, Domain, Problem, TooManyPlans, Steps, OutOfMemory, NoThread, Held}
-use Rattle.pddl_reader.specs.Texts.{task_in}
+use Rattle.task_reader.specs.declared.readers.TaskFault.TheVariants as reader
+use Rattle.task_reader.specs.Faults.{CallsFor}
+use Rattle.task_reader.specs.Texts.{task_in}
 use Rattle.judge_engine.specs.Answer.{too_large, plan_count, most_planners, most_plans}
 use Rattle.judge_engine.specs.Bundle.{BundleValue}
 
@@ -35,17 +32,10 @@ refusal_of_run run.OutOfMemory = OutOfMemory
 refusal_of_run run.NoThread = NoThread
 refusal_of_run (run.Held job) = Held job
 
--- the fault is one of the text, which has no value; if bytes or parentheses of the text are wrong, it is the first such fault
-pub record IsFaultOf {A : Type 0} (text : List ℕ) (value : Option A) (fault : ReadFault) : Type 0 where
-  pub no_value : value ≡ None
-  pub of_the_text : fault.kind ≢ Memory
-  pub first : (e : ReadFault) → text_fault text ≡ Some e → fault ≡ e
-
--- the refusal that a domain text and a problem text call for in a dialect: the domain's comes first, since a problem is read with its domain
+-- the refusal that a domain text and a problem text call for in a dialect
 abbrev pub ReadingCallsFor : Dialect → List ℕ → List ℕ → JudgeFault → Type 0
-ReadingCallsFor dialect domain problem (Domain fault) = IsFaultOf domain (domain_in_text dialect domain) fault
-ReadingCallsFor dialect domain problem (Problem fault) =
-    (value : DomainValue) × (domain_in_text dialect domain ≡ Some value) × IsFaultOf problem (problem_in_text dialect value problem) fault
+ReadingCallsFor dialect domain problem (Domain fault) = CallsFor dialect domain problem (reader.Domain fault)
+ReadingCallsFor dialect domain problem (Problem fault) = CallsFor dialect domain problem (reader.Problem fault)
 ReadingCallsFor dialect domain problem (TooLarge large) = ⊥
 ReadingCallsFor dialect domain problem TooManyPlanners = ⊥
 ReadingCallsFor dialect domain problem TooManyPlans = ⊥

@@ -13,7 +13,7 @@ use Rattle.judge_engine.specs.declared.fault.Input.{Input}
 use Rattle.judge_engine.specs.declared.fault.Input.TheVariants as input
 use Rattle.judge_engine.specs.declared.fault.JudgeFault.{JudgeFault}
 use Rattle.judge_engine.specs.declared.fault.JudgeFault.TheVariants.{TooLarge, TooManyPlanners, Domain, Problem, TooManyPlans, Steps, OutOfMemory, NoThread, Held}
-use Rattle.pddl_reader.specs.Texts.{task_in}
+use Rattle.task_reader.specs.Texts.{task_in}
 use Rattle.judge_engine.specs.Answer.{is_over_limit}
 use Rattle.judge_engine.specs.Refusal.{ReadingCallsFor}
 use Rattle.judge_engine.specs.ReplayText.{reply_lines}

@@ -5,7 +5,7 @@
 ghost use Rattle.std.specs.Prelude.{◌≡◌, ◌≢◌, ◌↔◌, ◌<◌, ◌≤◌, ℕ, length, map, IfOk, IfErr, Some, None, Err};
 ghost use Rattle.pddl_syntax.specs.declared.fault.ReadFault as read_fault;
 ghost use Rattle.pddl_syntax.specs.Trees.{text_fault};
-ghost use Rattle.pddl_reader.specs.Texts.{task_in};
+ghost use Rattle.task_reader.specs.Texts.{task_in};
 ghost use Rattle.judge_bench.specs.Findings.{findings_of};
 ghost use Rattle.judge_engine.specs.Answer.{answer, answer_as, planner_of, too_large, plan_count, most_planners, most_plans};
 ghost use Rattle.judge_engine.specs.Plans.{AreCutsOf, handed_in, plans_of_cuts, plans_of_files};
@@ -21,13 +21,14 @@ use crate::planner::{push_planner_line, push_plans};
 use crate::plans::{Cut, CutPlans, cut_plans};
 use crate::report::Report;
 use judge_bench::{Findings, Gate, run};
-use pddl_reader::{Dialect, FaultKind, ReadFault, read_domain_in, read_problem_in};
+use pddl_reader::{Dialect, FaultKind, ReadFault};
 use plan_cost::CostedTask;
 use report_text::{Format, Text, push_head};
 use std::alloc::{AllocError, Global};
 use std::sync::Wait;
 use std::thread::Threads;
 use strips_task::Seed;
+use task_reader::TaskFault;
 
 /// The most planners of a run.
 pub const MOST_PLANNERS: usize = 64;
@@ -166,13 +167,10 @@ pub(crate) fn read_task(
     ensures domain_text { (e : read_fault.ReadFault) → text_fault domain.now ≡ Some e → result ≡ Err (Domain e) }
     ensures reader { IfErr result (λ fault. (large : Input) → fault ≢ TooLarge large) }
 {
-    let domain = match read_domain_in(alloc, seed, dialect, domain) {
-        Ok(domain) => domain,
-        Err(fault) => return Err(refusal(fault, JudgeFault::Domain(fault))),
-    };
-    match read_problem_in(alloc, dialect, domain, problem) {
+    match task_reader::read_task(alloc, seed, dialect, domain, problem) {
         Ok(task) => Ok(task),
-        Err(fault) => Err(refusal(fault, JudgeFault::Problem(fault))),
+        Err(TaskFault::Domain(fault)) => Err(refusal(fault, JudgeFault::Domain(fault))),
+        Err(TaskFault::Problem(fault)) => Err(refusal(fault, JudgeFault::Problem(fault))),
     }
 }
 

@@ -1,19 +1,19 @@
--- Texts of STRIPS stand for the same in the larger dialect.
+-- Texts of a smaller dialect stand for the same in a larger one.
 
 use Rattle.std.proofs.Common.{◌≡◌, ℕ, List, [], Option, Some, None, refl, ap, sym, ◌∙◌}
 use Rattle.std.specs.Option.{option_and_then, option_map}
 use Rattle.std.specs.Map.{keys_of}
-use Rattle.strips_task.specs.declared.atoms.GroundCond.{GroundCond}
-use Rattle.strips_task.specs.declared.atoms.Atom.{Atom}
+use Rattle.formulas.specs.Tree.{Tree}
+use Rattle.formulas.specs.declared.atoms.Atom.{Atom}
 use Rattle.plan_cost.specs.declared.amounts.Amount.{Amount}
 use Rattle.plan_cost.specs.declared.costs.CostedTask.{CostedTask}
-use Rattle.pddl_syntax.specs.declared.dialect.Dialect.TheVariants.{Strips, Ipc}
+use Rattle.pddl_syntax.specs.declared.dialect.Dialect.TheVariants.{Strips, Ipc, Adl}
 use Rattle.pddl_syntax.specs.declared.fault.ReadFault.{ReadFault}
 use Rattle.pddl_syntax.specs.Levels.{trees}
 use Rattle.pddl_syntax.specs.Optional.{through}
 use Rattle.pddl_syntax.specs.Syntax.{DomainForm, ProblemForm, domain_syntax, problem_syntax}
 use Rattle.pddl_syntax.specs.Trees.{text_fault}
-use Rattle.pddl_syntax.proofs.DialectLaws.{domains_kept, problems_kept}
+use Rattle.pddl_syntax.proofs.DialectLaws.{domains_kept, domains_kept_in_adl, problems_kept, problems_kept_in_adl}
 use Rattle.strips_task.specs.Names.{number_named}
 use Rattle.pddl_reader.specs.declared.resolution.actions.ActionTables.{ActionTables}
 use Rattle.pddl_reader.specs.declared.resolution.domain.Head.{Head}
@@ -26,7 +26,7 @@ use Rattle.pddl_reader.specs.Objects.{Objects, objects_from}
 use Rattle.pddl_reader.specs.Problem.{costed_value, task_with, domain_over, domain_extended, problem_within, problem_of}
 use Rattle.pddl_reader.specs.Texts.{unless_fault, domain_in_text, problem_in_text}
 use Rattle.pddl_reader.specs.TypeOrder.{types_of}
-use Rattle.pddl_reader.proofs.DialectTypes.{types_kept}
+use Rattle.pddl_reader.proofs.DialectTypes.{types_kept, same_types}
 
 head-kept : (form : DomainForm) (head : Head) → head_of Strips form ≡ Some head → head_of Ipc form ≡ Some head
 unfolding head_of head_typed
@@ -95,7 +95,7 @@ nothing-counted : (functions : Predicates) (increases : List (List Amount)) (val
 unfolding costs_of total_cost_number number_named
 nothing-counted functions increases values none = ap (λ table. costs_of table increases values) none
 
-given-costs : (domain : DomainValue) (name : List ℕ) (initial : Option InitialState) (goal : Option (List GroundCond)) (task : CostedTask) → domain.functions ≡ [] →
+given-costs : (domain : DomainValue) (name : List ℕ) (initial : Option InitialState) (goal : Option (List Tree)) (task : CostedTask) → domain.functions ≡ [] →
     task_with domain name initial goal ≡ Some task → task.costs ≡ None
 unfolding task_with
 given-costs domain name None goal task none h = cc
@@ -123,3 +123,28 @@ problem_kept text domain task h = by (text_fault text) (problem_syntax Strips (t
     by (Some fault) syntax is e = cc
     by None None is e = cc
     by None (Some form) is e = (ap (option_and_then (problem_of domain)) (problems_kept (trees text) form is) ∙ e, λ none. no-costs form domain task none e)
+
+same-domain : (form : DomainForm) → domain_of Adl form ≡ domain_of Ipc form
+unfolding domain_of head_of
+same-domain form = ap (λ types. domain_headed form (head_typed form types)) (same_types form.types)
+
+pub domain_kept_in_adl : (text : List ℕ) (domain : DomainValue) → domain_in_text Ipc text ≡ Some domain → domain_in_text Adl text ≡ Some domain
+unfolding domain_in_text unless_fault
+domain_kept_in_adl text domain h = by (text_fault text) (domain_syntax Ipc (trees text)) refl h
+  where
+    by : (fault : Option ReadFault) (syntax : Option DomainForm) → domain_syntax Ipc (trees text) ≡ syntax →
+        unless_fault fault (option_and_then (domain_of Ipc) syntax) ≡ Some domain → unless_fault fault (option_and_then (domain_of Adl) (domain_syntax Adl (trees text))) ≡ Some domain
+    by (Some fault) syntax is e = cc
+    by None None is e = cc
+    by None (Some form) is e = ap (option_and_then (domain_of Adl)) (domains_kept_in_adl (trees text) form is) ∙ same-domain form ∙ e
+
+pub problem_kept_in_adl : (text : List ℕ) (domain : DomainValue) (task : CostedTask) → problem_in_text Ipc domain text ≡ Some task → problem_in_text Adl domain text ≡ Some task
+unfolding problem_in_text unless_fault
+problem_kept_in_adl text domain task h = by (text_fault text) (problem_syntax Ipc (trees text)) refl h
+  where
+    by : (fault : Option ReadFault) (syntax : Option ProblemForm) → problem_syntax Ipc (trees text) ≡ syntax →
+        unless_fault fault (option_and_then (problem_of domain) syntax) ≡ Some task →
+        unless_fault fault (option_and_then (problem_of domain) (problem_syntax Adl (trees text))) ≡ Some task
+    by (Some fault) syntax is e = cc
+    by None None is e = cc
+    by None (Some form) is e = ap (option_and_then (problem_of domain)) (problems_kept_in_adl (trees text) form is) ∙ e

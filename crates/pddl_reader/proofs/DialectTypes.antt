@@ -1,4 +1,4 @@
--- The types that a domain of STRIPS declares are the same in the larger dialect.
+-- The types that a domain of a smaller dialect declares are the same in a larger one.
 
 use Rattle.std.proofs.Common.{◌≡◌, ℕ, ◌+◌, ◌-◌, ◌≤◌, ◌++◌, ◌⊎◌, inl, inr, suc, Bool, true, false, not, cond, List, [], ◌∷◌, map, Option, Some, None, unwrap_or, refl, ap, sym, ◌∙◌, subst, true≢false, arith, if◌then◌else◌}
 use Rattle.std.proofs.lemmas.Bool.{not-false}
@@ -9,7 +9,7 @@ use Rattle.std.specs.Option.{option_and_then}
 use Rattle.std.specs.Str.{bytes_eq}
 use Rattle.pddl_words.specs.Words.{folded}
 use Rattle.strips_task.specs.Names.{number_named}
-use Rattle.pddl_syntax.specs.declared.dialect.Dialect.TheVariants.{Strips, Ipc}
+use Rattle.pddl_syntax.specs.declared.dialect.Dialect.TheVariants.{Strips, Ipc, Adl}
 use Rattle.pddl_syntax.specs.Keywords.{object_word}
 use Rattle.pddl_syntax.specs.Optional.{guard, through}
 use Rattle.pddl_syntax.specs.Syntax.{NameGroup}
@@ -246,3 +246,8 @@ types_kept groups types h = by (through (group_declared Strips) object_alone gro
         ∙ ap (λ ps. guard (is_tree ps) (Some (record { names = kept.0.names; parents = ps }))) (same-parents told kept.0 kept.2)
         ∙ ap (λ ns. guard (is_tree (parents_of told)) (Some (record { names = ns; parents = parents_of told }))) kept.2.names
         ∙ e
+
+-- the types of `ipc` are those of `adl`
+pub same_types : (groups : List NameGroup) → types_of Adl groups ≡ types_of Ipc groups
+unfolding types_of types_declared group_declared type_declared declared_under counts_as_parent
+same_types groups = refl

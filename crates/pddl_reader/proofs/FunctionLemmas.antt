@@ -4,8 +4,8 @@ use Rattle.std.proofs.Common.{◌≡◌, ℕ, ◌<◌, ◌≤◌, ◌++◌, Bool
 use Rattle.std.proofs.lemmas.Bool.{le-ltb, lt-ltb}
 use Rattle.std.specs.Str.{bytes_eq}
 use Rattle.pddl_words.specs.Words.{folded}
-use Rattle.strips_task.specs.declared.actions.Pattern.{Pattern}
-use Rattle.strips_task.specs.declared.atoms.Atom.{Atom}
+use Rattle.formulas.specs.declared.terms.Pattern.{Pattern}
+use Rattle.formulas.specs.declared.atoms.Atom.{Atom}
 use Rattle.plan_cost.specs.declared.amounts.Amount.{Amount}
 use Rattle.plan_cost.specs.declared.amounts.Amount.TheVariants.{Number, Function}
 use Rattle.plan_cost.specs.declared.amounts.TheConstants.{MOST_INCREASES}
@@ -17,7 +17,8 @@ use Rattle.pddl_syntax.specs.Syntax.{PredicateForm, AtomForm, AmountForm, number
 use Rattle.pddl_reader.specs.Declarations.{Known, Predicates, may_declare, pattern_of}
 use Rattle.pddl_reader.specs.Domain.{with_predicate, may_have, with_function, functions_from}
 use Rattle.pddl_reader.specs.Functions.{Vocabulary, total_cost_number, counts_costs, amount_meant, amount_behind, with_increase, costs_with, costs_of}
-use Rattle.pddl_reader.specs.Variables.{Parameters, argument_types_of}
+use Rattle.pddl_reader.specs.Scopes.{Scope}
+use Rattle.pddl_reader.specs.Variables.{argument_types_of}
 use Rattle.pddl_reader.proofs.DeclarationLemmas.{may_declare_new, predicate_refused, predicate_untyped, predicate_declared, predicates_item, predicates_end}
 
 pub has_none : (name : List ℕ) (vs : List groups.VariableGroup) → length vs ≡ 0 → may_have name (variable_groups vs) ≡ true
@@ -69,47 +70,47 @@ functions_start types table fs = refl
 
 pub ruleset functions_steps = (predicates_item, predicates_end, functions_start)
 
-pub amount_number : (known : Known) (p : Parameters) (number : ℕ) → amount_meant known p (number_amount number) ≡ Some (Number number)
+pub amount_number : (known : Known) (scope : Scope) (number : ℕ) → amount_meant known scope (number_amount number) ≡ Some (Number number)
 unfolding amount_meant
-amount_number known p number = refl
+amount_number known scope number = refl
 
-pub amount_unknown : (known : Known) (p : Parameters) (f : AtomForm) → pattern_of known p f ≡ None → amount_meant known p (function_amount f) ≡ None
+pub amount_unknown : (known : Known) (scope : Scope) (f : AtomForm) → pattern_of known scope f ≡ None → amount_meant known scope (function_amount f) ≡ None
 unfolding amount_meant
-amount_unknown known p f h = rw h refl
+amount_unknown known scope f h = rw h refl
 
-pub amount_function : (known : Known) (p : Parameters) (f : AtomForm) (pattern : Pattern) → pattern_of known p f ≡ Some pattern →
-    amount_meant known p (function_amount f) ≡ Some (Function pattern.pred pattern.terms)
+pub amount_function : (known : Known) (scope : Scope) (f : AtomForm) (pattern : Pattern) → pattern_of known scope f ≡ Some pattern →
+    amount_meant known scope (function_amount f) ≡ Some (Function pattern.pred pattern.terms)
 unfolding amount_meant
-amount_function known p f pattern h = rw h refl
+amount_function known scope f pattern h = rw h refl
 
 pub ruleset amount_steps = (amount_number, amount_unknown, amount_function)
 
-pub increase_too_many : (v : Vocabulary) (p : Parameters) (increases : List Amount) (amount : AmountForm) → MOST_INCREASES ≤ length increases →
-    with_increase v p increases amount ≡ None
+pub increase_too_many : (v : Vocabulary) (scope : Scope) (increases : List Amount) (amount : AmountForm) → MOST_INCREASES ≤ length increases →
+    with_increase v scope increases amount ≡ None
 unfolding with_increase guard
-increase_too_many v p increases amount h = rw (le-ltb (length increases) MOST_INCREASES h) refl
+increase_too_many v scope increases amount h = rw (le-ltb (length increases) MOST_INCREASES h) refl
 
-pub increase_uncounted : (v : Vocabulary) (p : Parameters) (increases : List Amount) (amount : AmountForm) → total_cost_number v.functions.predicates ≡ None →
-    with_increase v p increases amount ≡ None
+pub increase_uncounted : (v : Vocabulary) (scope : Scope) (increases : List Amount) (amount : AmountForm) → total_cost_number v.functions.predicates ≡ None →
+    with_increase v scope increases amount ≡ None
 unfolding with_increase counts_costs guard
-increase_uncounted v p increases amount h = by (nat_lt (length increases) MOST_INCREASES) (rw h refl)
+increase_uncounted v scope increases amount h = by (nat_lt (length increases) MOST_INCREASES) (rw h refl)
   where
-    by : (test : Bool) → guard (is_some (total_cost_number v.functions.predicates)) (amount_behind increases (amount_meant v.functions p amount)) ≡ None →
-        guard test (guard (is_some (total_cost_number v.functions.predicates)) (amount_behind increases (amount_meant v.functions p amount))) ≡ None
+    by : (test : Bool) → guard (is_some (total_cost_number v.functions.predicates)) (amount_behind increases (amount_meant v.functions scope amount)) ≡ None →
+        guard test (guard (is_some (total_cost_number v.functions.predicates)) (amount_behind increases (amount_meant v.functions scope amount))) ≡ None
     by true e = e
     by false e = refl
 
-pub increase_unmeant : (v : Vocabulary) (p : Parameters) (increases : List Amount) (amount : AmountForm) → amount_meant v.functions p amount ≡ None →
-    with_increase v p increases amount ≡ None
+pub increase_unmeant : (v : Vocabulary) (scope : Scope) (increases : List Amount) (amount : AmountForm) → amount_meant v.functions scope amount ≡ None →
+    with_increase v scope increases amount ≡ None
 unfolding with_increase amount_behind
-increase_unmeant v p increases amount h =
+increase_unmeant v scope increases amount h =
     guarded_none (nat_lt (length increases) MOST_INCREASES) _ (guarded_none (counts_costs v.functions.predicates) _ (rw h refl))
 
-pub increase_put : (v : Vocabulary) (p : Parameters) (increases : List Amount) (amount : AmountForm) (meant : Amount) → length increases < MOST_INCREASES →
-    is_none (total_cost_number v.functions.predicates) ≡ false → amount_meant v.functions p amount ≡ Some meant →
-    with_increase v p increases amount ≡ Some (increases ++ meant ∷ [])
+pub increase_put : (v : Vocabulary) (scope : Scope) (increases : List Amount) (amount : AmountForm) (meant : Amount) → length increases < MOST_INCREASES →
+    is_none (total_cost_number v.functions.predicates) ≡ false → amount_meant v.functions scope amount ≡ Some meant →
+    with_increase v scope increases amount ≡ Some (increases ++ meant ∷ [])
 unfolding with_increase counts_costs amount_behind guard
-increase_put v p increases amount meant few counted h =
+increase_put v scope increases amount meant few counted h =
     rw (lt-ltb (length increases) MOST_INCREASES few, h, there (total_cost_number v.functions.predicates) counted) refl
   where
     there : (found : Option ℕ) → is_none found ≡ false → is_some found ≡ true

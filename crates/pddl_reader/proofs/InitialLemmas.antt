@@ -1,15 +1,15 @@
--- What the initial literals of a problem give, one equation for each case.
+-- What the initial atoms and values of a problem give, one equation for each case.
 
-use Rattle.std.proofs.Common.{◌≡◌, ℕ, ◌+◌, ◌++◌, Bool, true, false, List, [], ◌∷◌, Option, Some, None, Result, Ok, Err, map, refl, ap, sym, ◌∙◌, append_assoc}
+use Rattle.std.proofs.Common.{◌≡◌, ℕ, ◌++◌, Bool, true, false, List, [], ◌∷◌, Option, Some, None, Result, Ok, Err, map, refl, ap, sym, ◌∙◌, append_assoc}
 use Rattle.std.proofs.lemmas.List.{append-nil}
 use Rattle.std.specs.Option.{option_and_then}
-use Rattle.strips_task.specs.declared.atoms.Atom.{Atom}
+use Rattle.formulas.specs.declared.atoms.Atom.{Atom}
 use Rattle.plan_cost.specs.declared.values.Given.TheVariants.{First, Again, Another}
 use Rattle.plan_cost.specs.Values.{value_of, given_over, with_value}
 use Rattle.pddl_syntax.specs.declared.fault.ReadFault.{ReadFault}
 use Rattle.pddl_syntax.specs.Optional.{guard, through}
 use Rattle.pddl_syntax.specs.Reading.{Puts}
-use Rattle.pddl_syntax.specs.Syntax.{AtomForm, EqualityForm, AmountForm, ValueForm, LiteralForm, atom_literal, equality_literal, increase_literal, value_literal}
+use Rattle.pddl_syntax.specs.Syntax.{AtomForm, ValueForm, InitialForm, initial_atom, initial_value}
 use Rattle.pddl_reader.specs.declared.resolution.initial.InitialState.{InitialState}
 use Rattle.pddl_reader.specs.Declarations.{Known, ground_of}
 use Rattle.pddl_reader.specs.Functions.{Vocabulary, is_not_another, value_given, with_value_of}
@@ -54,48 +54,38 @@ value_another known values form function h e = rw (h, e) refl
 pub ruleset value_steps = (value_unknown, value_first, value_again, value_another)
 
 no_atom : (v : Vocabulary) (initial : InitialState) (positive : Bool) (atom : AtomForm) →
-    with_atom initial.atoms positive (ground_of v.atoms atom) ≡ None → with_initial v initial (atom_literal positive atom) ≡ None
+    with_atom initial.atoms positive (ground_of v.atoms atom) ≡ None → with_initial v initial (initial_atom positive atom) ≡ None
 unfolding with_initial
 no_atom v initial positive atom h = rw h refl
 
 one_atom : (v : Vocabulary) (initial : InitialState) (positive : Bool) (atom : AtomForm) (atoms : List Atom) →
-    with_atom initial.atoms positive (ground_of v.atoms atom) ≡ Some atoms → with_initial v initial (atom_literal positive atom) ≡ Some (given_atoms initial atoms)
+    with_atom initial.atoms positive (ground_of v.atoms atom) ≡ Some atoms → with_initial v initial (initial_atom positive atom) ≡ Some (given_atoms initial atoms)
 unfolding with_initial
 one_atom v initial positive atom atoms h = rw h refl
 
-pub no_equality : (v : Vocabulary) (initial : InitialState) (positive : Bool) (sides : EqualityForm) → with_initial v initial (equality_literal positive sides) ≡ None
-unfolding with_initial
-no_equality v initial positive sides = refl
-
-pub no_increase : (v : Vocabulary) (initial : InitialState) (amount : AmountForm) → with_initial v initial (increase_literal amount) ≡ None
-unfolding with_initial
-no_increase v initial amount = refl
-
 no_value : (v : Vocabulary) (initial : InitialState) (value : ValueForm) → with_value_of v.functions initial.values value ≡ None →
-    with_initial v initial (value_literal value) ≡ None
+    with_initial v initial (initial_value value) ≡ None
 unfolding with_initial
 no_value v initial value h = rw h refl
 
 one_value : (v : Vocabulary) (initial : InitialState) (value : ValueForm) (values : List (Atom × ℕ)) →
-    with_value_of v.functions initial.values value ≡ Some values → with_initial v initial (value_literal value) ≡ Some (given_values initial values)
+    with_value_of v.functions initial.values value ≡ Some values → with_initial v initial (initial_value value) ≡ Some (given_values initial values)
 unfolding with_initial
 one_value v initial value values h = rw h refl
 
 pub atom_put : (v : Vocabulary) (initial : InitialState) (positive : Bool) (atom : AtomForm) (answer : Result (Unit {0}) ReadFault) (atoms : List Atom) →
     Puts answer (with_atom initial.atoms positive (ground_of v.atoms atom)) atoms →
-    Puts answer (with_initial v initial (atom_literal positive atom)) (given_atoms initial atoms)
+    Puts answer (with_initial v initial (initial_atom positive atom)) (given_atoms initial atoms)
 atom_put v initial positive atom (Ok _) atoms h = one_atom v initial positive atom atoms h
 atom_put v initial positive atom (Err e) atoms h = (h.0, λ k. no_atom v initial positive atom (h.1 k))
 
 pub value_put : (v : Vocabulary) (initial : InitialState) (value : ValueForm) (answer : Result (Unit {0}) ReadFault) (values : List (Atom × ℕ)) →
     Puts answer (with_value_of v.functions initial.values value) values →
-    Puts answer (with_initial v initial (value_literal value)) (given_values initial values)
+    Puts answer (with_initial v initial (initial_value value)) (given_values initial values)
 value_put v initial value (Ok _) values h = one_value v initial value values h
 value_put v initial value (Err e) values h = (h.0, λ k. no_value v initial value (h.1 k))
 
-pub ruleset literal_steps = (no_equality, no_increase)
-
-pub initial_start : (v : Vocabulary) (ls : List LiteralForm) → initial_of v ls ≡ through (with_initial v) no_initial ls
+pub initial_start : (v : Vocabulary) (ls : List InitialForm) → initial_of v ls ≡ through (with_initial v) no_initial ls
 unfolding initial_of
 initial_start v ls = refl
 
@@ -103,14 +93,14 @@ pub ruleset initial_steps = (initial_start)
 
 -- one atom more is given
 with_one : (v : Vocabulary) (initial : InitialState) (form : AtomForm) (atom : Atom) → ground_of v.atoms form ≡ Some atom →
-    with_initial v initial (atom_literal true form) ≡ Some (given_atoms initial (initial.atoms ++ atom ∷ []))
+    with_initial v initial (initial_atom true form) ≡ Some (given_atoms initial (initial.atoms ++ atom ∷ []))
 with_one v initial form atom h =
     one_atom v initial true form (initial.atoms ++ atom ∷ []) (atom_positive initial.atoms true (ground_of v.atoms form) atom h refl)
 
--- literals that are atoms give these
-through_forms : (v : Vocabulary) (initial : InitialState) (forms : List AtomForm) (atoms : List Atom) (others : List LiteralForm) →
+-- items that are atoms give these
+through_forms : (v : Vocabulary) (initial : InitialState) (forms : List AtomForm) (atoms : List Atom) (others : List InitialForm) →
     map (ground_of v.atoms) forms ≡ map Some atoms →
-    through (with_initial v) (given_atoms initial (initial.atoms ++ atoms)) others ≡ through (with_initial v) initial (map (atom_literal true) forms ++ others)
+    through (with_initial v) (given_atoms initial (initial.atoms ++ atoms)) others ≡ through (with_initial v) initial (map (initial_atom true) forms ++ others)
 unfolding through
 through_forms v initial [] [] others e = rw append-nil refl
 through_forms v initial [] (a ∷ rest) others e = cc
@@ -121,10 +111,10 @@ through_forms v initial (f ∷ fs) (a ∷ atoms) others e =
     let next = given_atoms initial (initial.atoms ++ a ∷ []) in
     ap (λ list. through (with_initial v) (given_atoms initial list) others) (sym (append_assoc initial.atoms (a ∷ []) atoms))
     ∙ through_forms v next fs atoms others rest
-    ∙ ap (option_and_then (λ s. through (with_initial v) s (map (atom_literal true) fs ++ others))) (sym (with_one v initial f a head))
+    ∙ ap (option_and_then (λ s. through (with_initial v) s (map (initial_atom true) fs ++ others))) (sym (with_one v initial f a head))
 
--- literals that begin with atoms give these, and then what the others give
-pub through_atoms : (v : Vocabulary) (initial : InitialState) (literals others : List LiteralForm) (atoms : List Atom) → BeginWithAtoms v.atoms literals atoms others →
-    through (with_initial v) (given_atoms initial (initial.atoms ++ atoms)) others ≡ through (with_initial v) initial literals
-through_atoms v initial literals others atoms begin =
+-- items that begin with atoms give these, and then what the others give
+pub through_atoms : (v : Vocabulary) (initial : InitialState) (items others : List InitialForm) (atoms : List Atom) → BeginWithAtoms v.atoms items atoms others →
+    through (with_initial v) (given_atoms initial (initial.atoms ++ atoms)) others ≡ through (with_initial v) initial items
+through_atoms v initial items others atoms begin =
     through_forms v initial begin.forms atoms others begin.stand_for ∙ ap (through (with_initial v) initial) (sym begin.first)

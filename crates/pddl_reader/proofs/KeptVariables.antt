@@ -1,4 +1,4 @@
--- What the types of variables and the parameters of actions keep.
+-- What the types of variables and lists of variables keep.
 
 use Rattle.std.proofs.Common.{◌≡◌, ℕ, ◌+◌, ◌<◌, ◌≤◌, ◌++◌, ◌&&◌, Bool, true, false, nat_le, nat_lt, is_none, List, [], ◌∷◌, length, map, Option, Some, None, refl, ◌∙◌, subst, arith, length-append}
 use Rattle.std.proofs.lemmas.Bool.{leb-true, le-leb, ltb-true, lt-ltb, and_parts}
@@ -7,12 +7,12 @@ use Rattle.std.proofs.lemmas.List.Folds.{list_all-append}
 use Rattle.std.specs.List.{list_all}
 use Rattle.std.specs.Option.{option_and_then, option_map}
 use Rattle.strips_task.specs.WellFormed.{are_alternatives, are_variables}
-use Rattle.pddl_reader.specs.declared.resolution.variables.ActionParameters.{ActionParameters}
+use Rattle.pddl_reader.specs.declared.resolution.variables.DeclaredVariables.{DeclaredVariables}
 use Rattle.pddl_reader.specs.Objects.{type_number}
 use Rattle.pddl_syntax.specs.Optional.{guard, through}
-use Rattle.pddl_reader.specs.Resolved.{parameters_form}
+use Rattle.pddl_reader.specs.Resolved.{variables_form}
 use Rattle.pddl_syntax.specs.Syntax.{VariableGroup}
-use Rattle.pddl_reader.specs.Variables.{alternative_behind, alternative_named, alternatives_of, argument_types_with, with_group_types, argument_types_of, Parameters, parameter_number, parameter_named, parameters_with, group_named, no_parameters, parameters_of}
+use Rattle.pddl_reader.specs.Variables.{alternative_behind, alternative_named, alternatives_of, argument_types_with, with_group_types, argument_types_of, TypedVariables, variable_number, variable_named, variables_with, group_named, no_variables, variables_of}
 use Rattle.pddl_reader.proofs.KeptObjects.{type_number-within}
 use Rattle.pddl_syntax.proofs.Guards.{guard_held}
 use Rattle.pddl_reader.proofs.TableLemmas.{words_counted}
@@ -102,44 +102,44 @@ argument_types_kept parents types groups argument_types is h =
     let kept = through_keeps (AreArgumentTypes parents) (with_group_types types) (group_kept parents types is) [] groups argument_types (record { few = omega arith; typed = refl }) h in
     rw (le-leb (length argument_types) 32 kept.few, kept.typed) refl
 
--- each parameter has its types
-record AreParameters (parents : List ℕ) (p : Parameters) : Type 0 where
-  few : length p.names ≤ 32
-  paired : length p.types ≡ length p.names
-  typed : list_all (are_alternatives parents) p.types ≡ true
+-- each variable has its types
+pub record AreTyped (parents : List ℕ) (p : TypedVariables) : Type 0 where
+  pub few : length p.names ≤ 32
+  pub paired : length p.types ≡ length p.names
+  pub typed : list_all (are_alternatives parents) p.types ≡ true
 
-parameter_counted : (names : List (List ℕ)) (word : List ℕ) (more : List (List ℕ)) → parameter_named names word ≡ Some more →
+variable_counted : (names : List (List ℕ)) (word : List ℕ) (more : List (List ℕ)) → variable_named names word ≡ Some more →
     (length more ≡ length names + 1) × (length more ≤ 32)
-unfolding parameter_named
-parameter_counted names word more h =
-    let held = guard_held (nat_lt (length names) 32 && is_none (parameter_number names word)) (names ++ word ∷ []) more h in
-    let room : length names < 32 = ltb-true (length names) 32 (and_parts (nat_lt (length names) 32) (is_none (parameter_number names word)) held.0).0 in
+unfolding variable_named
+variable_counted names word more h =
+    let held = guard_held (nat_lt (length names) 32 && is_none (variable_number names word)) (names ++ word ∷ []) more h in
+    let room : length names < 32 = ltb-true (length names) 32 (and_parts (nat_lt (length names) 32) (is_none (variable_number names word)) held.0).0 in
     let grown : length (names ++ word ∷ []) ≡ length names + 1 = rw length-append refl in
     rw (← held.1) (grown, omega arith)
 
-parameters_counted : (names words more : List (List ℕ)) → length names ≤ 32 → through parameter_named names words ≡ Some more →
+variables_counted : (names words more : List (List ℕ)) → length names ≤ 32 → through variable_named names words ≡ Some more →
     (length more ≡ length names + length words) × (length more ≤ 32)
 unfolding through
-parameters_counted names [] more few h =
+variables_counted names [] more few h =
     let same : names ≡ more = cc in
     rw (← same) (omega arith, few)
-parameters_counted names (w ∷ ws) more few h =
-    by (parameter_named names w) (parameter_counted names w) (λ ns k e. parameters_counted ns ws more k e) h
+variables_counted names (w ∷ ws) more few h =
+    by (variable_named names w) (variable_counted names w) (λ ns k e. variables_counted ns ws more k e) h
   where
     by : (next : Option (List (List ℕ))) → ((ns : List (List ℕ)) → next ≡ Some ns → (length ns ≡ length names + 1) × (length ns ≤ 32)) →
-        ((ns : List (List ℕ)) → length ns ≤ 32 → through parameter_named ns ws ≡ Some more → (length more ≡ length ns + length ws) × (length more ≤ 32)) →
-        option_and_then (λ ns. through parameter_named ns ws) next ≡ Some more → (length more ≡ length names + length (w ∷ ws)) × (length more ≤ 32)
+        ((ns : List (List ℕ)) → length ns ≤ 32 → through variable_named ns ws ≡ Some more → (length more ≡ length ns + length ws) × (length more ≤ 32)) →
+        option_and_then (λ ns. through variable_named ns ws) next ≡ Some more → (length more ≡ length names + length (w ∷ ws)) × (length more ≤ 32)
     by None first rest e = absurd (none_some more e)
     by (Some ns) first rest e =
         let one = first ns refl in
         let all = rest ns one.1 e in
         (omega (arith, one.0, all.0), all.1)
 
-named_kept_by : (parents : List ℕ) (p : Parameters) (variables : List (List ℕ)) (more : Parameters) (names : Option (List (List ℕ))) (found : Option (List ℕ)) →
+named_kept_by : (parents : List ℕ) (p : TypedVariables) (variables : List (List ℕ)) (more : TypedVariables) (names : Option (List (List ℕ))) (found : Option (List ℕ)) →
     ((ns : List (List ℕ)) → names ≡ Some ns → (length ns ≡ length p.names + length variables) × (length ns ≤ 32)) →
-    ((ts : List ℕ) → found ≡ Some ts → are_alternatives parents ts ≡ true) → AreParameters parents p →
-    parameters_with p variables names found ≡ Some more → AreParameters parents more
-unfolding parameters_with
+    ((ts : List ℕ) → found ≡ Some ts → are_alternatives parents ts ≡ true) → AreTyped parents p →
+    variables_with p variables names found ≡ Some more → AreTyped parents more
+unfolding variables_with
 named_kept_by parents p variables more None found counted known kept h = cc
 named_kept_by parents p variables more (Some ns) None counted known kept h = cc
 named_kept_by parents p variables more (Some ns) (Some ts) counted known kept h =
@@ -147,55 +147,58 @@ named_kept_by parents p variables more (Some ns) (Some ts) counted known kept h 
     let count = counted ns refl in
     let pairs : length (argument_types_with p.types variables ts) ≡ length ns =
     behind-length p.types variables ts ∙ (let e : length p.types ≡ length p.names = kept.paired in omega (arith, e, count.0)) in
-    subst (AreParameters parents) same (record { few = count.1; paired = pairs; typed = behind_typed parents p.types variables ts kept.typed (known ts refl) })
+    subst (AreTyped parents) same (record { few = count.1; paired = pairs; typed = behind_typed parents p.types variables ts kept.typed (known ts refl) })
 
-named_kept : (parents : List ℕ) (types : List (List ℕ)) → length types ≡ length parents → (p : Parameters) (group : VariableGroup) (more : Parameters) →
-    AreParameters parents p → group_named types p group ≡ Some more → AreParameters parents more
+pub named_kept : (parents : List ℕ) (types : List (List ℕ)) → length types ≡ length parents → (p : TypedVariables) (group : VariableGroup) (more : TypedVariables) →
+    AreTyped parents p → group_named types p group ≡ Some more → AreTyped parents more
 unfolding group_named
 named_kept parents types is p group more kept h =
-    named_kept_by parents p group.variables more (through parameter_named p.names group.variables) (alternatives_of types group.types)
-    (λ ns e. parameters_counted p.names group.variables ns kept.few e) (λ ts e. alternatives_kept parents types group.types ts is e) kept h
+    named_kept_by parents p group.variables more (through variable_named p.names group.variables) (alternatives_of types group.types)
+    (λ ns e. variables_counted p.names group.variables ns kept.few e) (λ ts e. alternatives_kept parents types group.types ts is e) kept h
 
-all_kept : (parents : List ℕ) (types : List (List ℕ)) (groups : List VariableGroup) (p : Parameters) → length types ≡ length parents →
-    parameters_of types groups ≡ Some p → AreParameters parents p
-unfolding parameters_of
+all_kept : (parents : List ℕ) (types : List (List ℕ)) (groups : List VariableGroup) (p : TypedVariables) → length types ≡ length parents →
+    variables_of types groups ≡ Some p → AreTyped parents p
+unfolding variables_of
 all_kept parents types groups p is h =
-    through_keeps (AreParameters parents) (group_named types) (named_kept parents types is) no_parameters groups p
+    through_keeps (AreTyped parents) (group_named types) (named_kept parents types is) no_variables groups p
     (record { few = omega arith; paired = refl; typed = refl }) h
 
--- the parameters of an action are such as a task may have
-pub parameters_kept : (parents : List ℕ) (types : List (List ℕ)) (groups : List VariableGroup) (p : Parameters) → length types ≡ length parents →
-    parameters_of types groups ≡ Some p → are_variables parents p.types ≡ true
+-- variables that have their types pass the test
+pub typed_variables : (parents : List ℕ) (p : TypedVariables) → AreTyped parents p → are_variables parents p.types ≡ true
 unfolding are_variables
-parameters_kept parents types groups p is h =
-    let kept = all_kept parents types groups p is h in
+typed_variables parents p kept =
     let few : length p.types ≤ 32 = rw kept.paired kept.few in
     rw (le-leb (length p.types) 32 few, kept.typed) refl
 
--- each parameter has types
-pub parameters_paired : (parents : List ℕ) (types : List (List ℕ)) (groups : List VariableGroup) (p : Parameters) → length types ≡ length parents →
-    parameters_of types groups ≡ Some p → length p.types ≡ length p.names
-parameters_paired parents types groups p is h = (all_kept parents types groups p is h).paired
+-- the variables of a list are such as a task may have
+pub variables_kept : (parents : List ℕ) (types : List (List ℕ)) (groups : List VariableGroup) (p : TypedVariables) → length types ≡ length parents →
+    variables_of types groups ≡ Some p → are_variables parents p.types ≡ true
+variables_kept parents types groups p is h = typed_variables parents p (all_kept parents types groups p is h)
 
-group_few : (types : List (List ℕ)) (p : Parameters) (group : VariableGroup) (more : Parameters) → length p.names ≤ 32 → group_named types p group ≡ Some more →
+-- each variable has types
+pub variables_paired : (parents : List ℕ) (types : List (List ℕ)) (groups : List VariableGroup) (p : TypedVariables) → length types ≡ length parents →
+    variables_of types groups ≡ Some p → length p.types ≡ length p.names
+variables_paired parents types groups p is h = (all_kept parents types groups p is h).paired
+
+group_few : (types : List (List ℕ)) (p : TypedVariables) (group : VariableGroup) (more : TypedVariables) → length p.names ≤ 32 → group_named types p group ≡ Some more →
     length more.names ≤ 32
-unfolding group_named parameters_with
+unfolding group_named variables_with
 group_few types p group more few h =
-    by (through parameter_named p.names group.variables) (alternatives_of types group.types) (λ ns e. parameters_counted p.names group.variables ns few e) h
+    by (through variable_named p.names group.variables) (alternatives_of types group.types) (λ ns e. variables_counted p.names group.variables ns few e) h
   where
     by : (names : Option (List (List ℕ))) (found : Option (List ℕ)) →
         ((ns : List (List ℕ)) → names ≡ Some ns → (length ns ≡ length p.names + length group.variables) × (length ns ≤ 32)) →
-        parameters_with p group.variables names found ≡ Some more → length more.names ≤ 32
+        variables_with p group.variables names found ≡ Some more → length more.names ≤ 32
     by None found counted e = cc
     by (Some ns) None counted e = cc
     by (Some ns) (Some ts) counted e =
         let same : record { names = ns; types = argument_types_with p.types group.variables ts } ≡ more = cc in
         rw (← same) (counted ns refl).1
 
--- there are no more parameters than the limit
-pub few_parameters : (types : List (List ℕ)) (groups : List VariableGroup) (p : ActionParameters) → parameters_of types groups ≡ Some (parameters_form p) →
+-- there are no more variables than the limit
+pub few_variables : (types : List (List ℕ)) (groups : List VariableGroup) (p : DeclaredVariables) → variables_of types groups ≡ Some (variables_form p) →
     length p.names.items ≤ 32
-unfolding parameters_of
-few_parameters types groups p h =
-    let P : Parameters → Type 0 = λ q. length q.names ≤ 32 in
-    rw (← words_counted p.names.items) (through_keeps P (group_named types) (group_few types) no_parameters groups (parameters_form p) (omega arith) h)
+unfolding variables_of
+few_variables types groups p h =
+    let P : TypedVariables → Type 0 = λ q. length q.names ≤ 32 in
+    rw (← words_counted p.names.items) (through_keeps P (group_named types) (group_few types) no_variables groups (variables_form p) (omega arith) h)

@@ -7,15 +7,15 @@ use Rattle.std.specs.List.{list_all, slice_get, zip}
 use Rattle.std.specs.Map.{values_of}
 use Rattle.pddl_words.specs.SpacedWords.{words_of}
 use Rattle.pddl_words.specs.Words.{folded}
-use Rattle.strips_task.specs.declared.actions.Term.TheVariants.{Object}
-use Rattle.strips_task.specs.declared.atoms.Atom.{Atom}
+use Rattle.formulas.specs.declared.terms.Term.TheVariants.{Object}
+use Rattle.formulas.specs.declared.atoms.Atom.{Atom}
 use Rattle.strips_task.specs.Names.{number_named}
 use Rattle.strips_task.specs.WellFormed.{is_fitting, term_types}
 use Rattle.strips_task.proofs.AtomEquality.{both_hold}
 use Rattle.strips_task.proofs.NamedRows.{none_yet}
 use Rattle.pddl_syntax.specs.Optional.{guard, followed_by}
 use Rattle.pddl_syntax.specs.Rows.{atom_of_words, atom_spelled}
-use Rattle.pddl_syntax.specs.Syntax.{AtomForm, LiteralForm, atom_literal}
+use Rattle.pddl_syntax.specs.Syntax.{AtomForm, InitialForm, initial_atom}
 use Rattle.pddl_reader.specs.Declarations.{Known, fitted_all, fitted_arguments, fitting_object, ground_by, ground_of, object_number, predicate_number, predicate_taking, takes_terms}
 use Rattle.pddl_reader.specs.Rows.{BeginWithAtoms, row_number, row_numbers}
 use Rattle.pddl_reader.proofs.TermLemmas.{object_fit}
@@ -38,7 +38,7 @@ module _ (known : Known) where
   -- objects that fit their arguments are those of the words with their numbers
   fitted : (argument_types : List (List ℕ)) (words : List (List ℕ)) (objects : List ℕ) → map (row_number known false) words ≡ map Some objects →
       length objects ≡ length argument_types →
-      list_all (λ p. is_fitting known.parents (term_types known.objects [] (Object p.0)) p.1) (zip objects argument_types) ≡ true →
+      list_all (λ p. is_fitting known.parents (term_types known.objects [] [] (Object p.0)) p.1) (zip objects argument_types) ≡ true →
       fitted_all (fitting_object known) argument_types words ≡ Some objects
   unfolding fitted_all followed_by object_number
   fitted [] [] [] named count fits = refl
@@ -51,8 +51,8 @@ module _ (known : Known) where
   fitted (t ∷ ts) (w ∷ ws) (o ∷ os) named count fits =
       let head : number_named known.objects (folded w) ≡ Some o = cc in
       let rest : map (row_number known false) ws ≡ map Some os = cc in
-      let both = both_hold (is_fitting known.parents (term_types known.objects [] (Object o)) t)
-      (list_all (λ p. is_fitting known.parents (term_types known.objects [] (Object p.0)) p.1) (zip os ts)) fits in
+      let both = both_hold (is_fitting known.parents (term_types known.objects [] [] (Object o)) t)
+      (list_all (λ p. is_fitting known.parents (term_types known.objects [] [] (Object p.0)) p.1) (zip os ts)) fits in
       rw (object_fit known t w o head both.0, fitted ts ws os rest (omega (arith, count)) both.1) refl
 
   as_many : (words : List (List ℕ)) (objects : List ℕ) → map (row_number known false) words ≡ map Some objects → length words ≡ length objects
@@ -72,7 +72,7 @@ module _ (known : Known) where
   words_ground : (words : List (List ℕ)) (pred : ℕ) (objects : List ℕ) (argument_types : List (List ℕ)) →
       row_numbers known words ≡ map Some (pred ∷ objects) → slice_get (values_of known.predicates) pred ≡ Some argument_types →
       length objects ≡ length argument_types →
-      list_all (λ p. is_fitting known.parents (term_types known.objects [] (Object p.0)) p.1) (zip objects argument_types) ≡ true →
+      list_all (λ p. is_fitting known.parents (term_types known.objects [] [] (Object p.0)) p.1) (zip objects argument_types) ≡ true →
       ground_of known (atom_of_words words) ≡ Some (record { pred = pred; args = objects })
   unfolding ground_of ground_by fitted_arguments
   words_ground [] pred objects argument_types e at count fits = cc
@@ -86,23 +86,23 @@ module _ (known : Known) where
   pub row_ground : (row : List ℕ) (pred : ℕ) (objects : List ℕ) (argument_types : List (List ℕ)) →
       row_numbers known (words_of row) ≡ map Some (pred ∷ objects) → slice_get (values_of known.predicates) pred ≡ Some argument_types →
       length objects ≡ length argument_types →
-      list_all (λ p. is_fitting known.parents (term_types known.objects [] (Object p.0)) p.1) (zip objects argument_types) ≡ true →
+      list_all (λ p. is_fitting known.parents (term_types known.objects [] [] (Object p.0)) p.1) (zip objects argument_types) ≡ true →
       ground_of known (atom_spelled row) ≡ Some (record { pred = pred; args = objects })
   unfolding atom_spelled
   row_ground row pred objects argument_types = words_ground (words_of row) pred objects argument_types
 
   -- one atom
-  pub one_atom : (literals others : List LiteralForm) (form : AtomForm) (atom : Atom) → literals ≡ atom_literal true form ∷ others →
-      ground_of known form ≡ Some atom → BeginWithAtoms known literals (atom ∷ []) others
-  one_atom literals others form atom first stands = record { forms = form ∷ []; first = first; stand_for = ap (λ o. o ∷ []) stands }
+  pub one_atom : (items others : List InitialForm) (form : AtomForm) (atom : Atom) → items ≡ initial_atom true form ∷ others →
+      ground_of known form ≡ Some atom → BeginWithAtoms known items (atom ∷ []) others
+  one_atom items others form atom first stands = record { forms = form ∷ []; first = first; stand_for = ap (λ o. o ∷ []) stands }
 
   -- one atom more
-  pub atoms_more : (literals others rest : List LiteralForm) (atoms more : List Atom) → BeginWithAtoms known literals atoms others →
-      BeginWithAtoms known others more rest → BeginWithAtoms known literals (atoms ++ more) rest
-  atoms_more literals others rest atoms more before after = record {
+  pub atoms_more : (items others rest : List InitialForm) (atoms more : List Atom) → BeginWithAtoms known items atoms others →
+      BeginWithAtoms known others more rest → BeginWithAtoms known items (atoms ++ more) rest
+  atoms_more items others rest atoms more before after = record {
     forms = before.forms ++ after.forms;
-    first = before.first ∙ ap (λ ls. map (atom_literal true) before.forms ++ ls) after.first
-        ∙ sym (append_assoc (map (atom_literal true) before.forms) (map (atom_literal true) after.forms) rest)
-        ∙ ap (λ ls. ls ++ rest) (sym (map-append (atom_literal true) before.forms after.forms));
+    first = before.first ∙ ap (λ ls. map (initial_atom true) before.forms ++ ls) after.first
+        ∙ sym (append_assoc (map (initial_atom true) before.forms) (map (initial_atom true) after.forms) rest)
+        ∙ ap (λ ls. ls ++ rest) (sym (map-append (initial_atom true) before.forms after.forms));
     stand_for = map-append (ground_of known) before.forms after.forms ∙ (λ j. before.stand_for j ++ after.stand_for j) ∙ sym (map-append Some atoms more);
   }

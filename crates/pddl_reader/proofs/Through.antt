@@ -1,6 +1,6 @@
 -- A state that is taken through a list, one equation for each case.
 
-use Rattle.std.proofs.Common.{◌≡◌, List, [], ◌∷◌, Option, Some, None, refl, subst}
+use Rattle.std.proofs.Common.{◌≡◌, List, [], ◌∷◌, ◌++◌, Option, Some, None, refl, subst, ◌∙◌}
 use Rattle.std.specs.Option.{option_and_then}
 use Rattle.pddl_syntax.specs.Optional.{through}
 use Rattle.pddl_reader.proofs.Items.{item_steps}
@@ -25,6 +25,17 @@ pub through_item : {S X : Type 0} (step : S → X → Option S) (state : S) (x :
 unfolding through
 through_item step state x xs = through_read step (step state x) xs
 
+pub through_append : {S X : Type 0} (step : S → X → Option S) (state : S) (xs ys : List X) →
+    through step state (xs ++ ys) ≡ through_behind step (through step state xs) ys
+unfolding through through_behind
+through_append step state [] ys = refl
+through_append {S} {X} step state (x ∷ xs) ys = by (step state x) (λ s. through_append step s xs ys)
+  where
+    by : (next : Option S) → ((s : S) → through step s (xs ++ ys) ≡ through_behind step (through step s xs) ys) →
+        option_and_then (λ s. through step s (xs ++ ys)) next ≡ through_behind step (option_and_then (λ s. through step s xs) next) ys
+    by None rest = refl
+    by (Some s) rest = rest s
+
 pub behind_none : {S X : Type 0} (step : S → X → Option S) (xs : List X) → through_behind step None xs ≡ None
 unfolding through_behind
 behind_none step xs = refl
@@ -32,6 +43,13 @@ behind_none step xs = refl
 pub behind_some : {S X : Type 0} (step : S → X → Option S) (state : S) (xs : List X) → through_behind step (Some state) xs ≡ through step state xs
 unfolding through_behind
 behind_some step state xs = refl
+
+pub through_one : {S X : Type 0} (step : S → X → Option S) (state : S) (x : X) → through step state (x ∷ []) ≡ step state x
+through_one {S} step state x = through_item step state x [] ∙ by (step state x)
+  where
+    by : (next : Option S) → through_behind step next [] ≡ next
+    by None = behind_none step []
+    by (Some s) = behind_some step s [] ∙ through_end step s
 
 pub ruleset through_steps = (item_steps, through_end, through_item, behind_none, behind_some)
 

@@ -1,4 +1,4 @@
--- The types of variables and the parameters of actions, one equation for each case.
+-- The types of variables and lists of variables, one equation for each case.
 
 use Rattle.std.proofs.Common.{◌≡◌, ℕ, ◌+◌, ◌<◌, ◌≤◌, ◌++◌, ◌&&◌, Bool, true, false, nat_le, nat_lt, is_none, is_some, List, [], ◌∷◌, length, map, drop, get_or, Option, Some, None, refl, sym, ◌∙◌, arith, append_assoc, length-append}
 use Rattle.std.proofs.lemmas.Bool.{le-ltb, lt-ltb, leb-true}
@@ -12,7 +12,7 @@ use Rattle.pddl_syntax.specs.Forms.{name_forms, word_forms, variable_group_form,
 use Rattle.pddl_reader.specs.Objects.{type_number}
 use Rattle.pddl_syntax.specs.Optional.{guard, through}
 use Rattle.pddl_syntax.specs.Syntax.{VariableGroup}
-use Rattle.pddl_reader.specs.Variables.{alternative_behind, alternative_named, alternatives_of, argument_types_with, with_group_types, argument_types_of, Parameters, parameter_number, parameter_named, parameters_with, group_named, parameters_of}
+use Rattle.pddl_reader.specs.Variables.{alternative_behind, alternative_named, alternatives_of, argument_types_with, with_group_types, argument_types_of, TypedVariables, variable_number, variable_named, variables_with, group_named, variables_of}
 use Rattle.std.proofs.lemmas.List.{drop_all}
 use Rattle.pddl_reader.proofs.Items.{word_at, word_item_steps}
 use Rattle.pddl_reader.proofs.ObjectLemmas.{named_steps}
@@ -128,35 +128,35 @@ pub position_none : (i : ℕ) (word : List ℕ) → position_from (is_same_word 
 unfolding word_forms
 position_none i word = refl
 
-pub position_start : (names : List (List ℕ)) (word : List ℕ) → parameter_number names word ≡ position_from (is_same_word word) 0 names
-unfolding parameter_number
+pub position_start : (names : List (List ℕ)) (word : List ℕ) → variable_number names word ≡ position_from (is_same_word word) 0 names
+unfolding variable_number
 position_start names word = refl
 
 pub ruleset position_steps = (word_item_steps, position_found, position_further, position_none, position_start)
 
-pub parameters_many : (names : List Word) (word : List ℕ) → 32 ≤ length names → parameter_named (word_forms names) word ≡ None
-unfolding parameter_named guard
-parameters_many names word le = rw (words_counted names, le-ltb (length names) 32 le) refl
+pub variables_many : (names : List Word) (word : List ℕ) → 32 ≤ length names → variable_named (word_forms names) word ≡ None
+unfolding variable_named guard
+variables_many names word le = rw (words_counted names, le-ltb (length names) 32 le) refl
 
-pub parameter_again : (names : List Word) (word : List ℕ) → is_some (parameter_number (word_forms names) word) ≡ true → parameter_named (word_forms names) word ≡ None
-unfolding parameter_named guard
-parameter_again names word h = by (nat_lt (length (word_forms names)) 32) (parameter_number (word_forms names) word) h
+pub variable_again : (names : List Word) (word : List ℕ) → is_some (variable_number (word_forms names) word) ≡ true → variable_named (word_forms names) word ≡ None
+unfolding variable_named guard
+variable_again names word h = by (nat_lt (length (word_forms names)) 32) (variable_number (word_forms names) word) h
   where
     by : (room : Bool) (found : Option ℕ) → is_some found ≡ true → guard (room && is_none found) (Some (word_forms names ++ word ∷ [])) ≡ None
     by room None e = cc
     by true (Some n) e = refl
     by false (Some n) e = refl
 
-pub parameter_new : (names : List Word) (word : List ℕ) → length names < 32 → is_some (parameter_number (word_forms names) word) ≡ false →
-    parameter_named (word_forms names) word ≡ Some (word_forms names ++ word ∷ [])
-unfolding parameter_named guard
-parameter_new names word lt h = rw (words_counted names, lt-ltb (length names) 32 lt) (by (parameter_number (word_forms names) word) h)
+pub variable_new : (names : List Word) (word : List ℕ) → length names < 32 → is_some (variable_number (word_forms names) word) ≡ false →
+    variable_named (word_forms names) word ≡ Some (word_forms names ++ word ∷ [])
+unfolding variable_named guard
+variable_new names word lt h = rw (words_counted names, lt-ltb (length names) 32 lt) (by (variable_number (word_forms names) word) h)
   where
     by : (found : Option ℕ) → is_some found ≡ false → guard (is_none found) (Some (word_forms names ++ word ∷ [])) ≡ Some (word_forms names ++ word ∷ [])
     by None e = refl
     by (Some n) e = cc
 
-pub ruleset parameter_steps = (parameters_many, parameter_again, parameter_new, word_forms-push)
+pub ruleset variable_named_steps = (variables_many, variable_again, variable_new, word_forms-push)
 
 pub words_item : {S : Type 0} (step : S → List ℕ → Option S) (state : S) (x : Word) (xs : List Word) →
     through step state (word_forms (x ∷ xs)) ≡ through_behind step (step state x.text.now) (word_forms xs)
@@ -169,33 +169,33 @@ words_end step state = through_end step state
 
 pub ruleset words_steps = (word_item_steps, words_item, words_end)
 
-pub group_unnamed : (types : List (List ℕ)) (parameters : Parameters) (g : groups.VariableGroup) →
-    through parameter_named parameters.names (word_forms g.variables.items) ≡ None → group_named types parameters (variable_group_form g) ≡ None
-unfolding group_named parameters_with
+pub group_unnamed : (types : List (List ℕ)) (parameters : TypedVariables) (g : groups.VariableGroup) →
+    through variable_named parameters.names (word_forms g.variables.items) ≡ None → group_named types parameters (variable_group_form g) ≡ None
+unfolding group_named variables_with
 group_unnamed types parameters g h = rw h refl
 
-pub group_without_types : (types : List (List ℕ)) (parameters : Parameters) (g : groups.VariableGroup) → alternatives_of types (name_forms g.kinds.items) ≡ None →
+pub group_without_types : (types : List (List ℕ)) (parameters : TypedVariables) (g : groups.VariableGroup) → alternatives_of types (name_forms g.kinds.items) ≡ None →
     group_named types parameters (variable_group_form g) ≡ None
-unfolding group_named parameters_with
-group_without_types types parameters g h = rw h (by (through parameter_named parameters.names (word_forms g.variables.items)))
+unfolding group_named variables_with
+group_without_types types parameters g h = rw h (by (through variable_named parameters.names (word_forms g.variables.items)))
   where
-    by : (names : Option (List (List ℕ))) → parameters_with parameters (word_forms g.variables.items) names None ≡ None
+    by : (names : Option (List (List ℕ))) → variables_with parameters (word_forms g.variables.items) names None ≡ None
     by None = refl
     by (Some ns) = refl
 
-pub group_both : (types : List (List ℕ)) (parameters : Parameters) (g : groups.VariableGroup) (names : List (List ℕ)) (numbers : List ℕ) →
-    through parameter_named parameters.names (word_forms g.variables.items) ≡ Some names → alternatives_of types (name_forms g.kinds.items) ≡ Some numbers →
+pub group_both : (types : List (List ℕ)) (parameters : TypedVariables) (g : groups.VariableGroup) (names : List (List ℕ)) (numbers : List ℕ) →
+    through variable_named parameters.names (word_forms g.variables.items) ≡ Some names → alternatives_of types (name_forms g.kinds.items) ≡ Some numbers →
     group_named types parameters (variable_group_form g) ≡ Some (record { names = names; types = argument_types_with parameters.types (word_forms g.variables.items) numbers })
-unfolding group_named parameters_with
+unfolding group_named variables_with
 group_both types parameters g names numbers h e = rw (h, e) refl
 
 pub ruleset group_named_steps = (group_unnamed, group_without_types, group_both)
 
 pub ruleset declared_steps = (groups_item, groups_end)
 
-pub parameters_start : (types : List (List ℕ)) (names : List Word) (argument_types : List (List ℕ)) (groups : List VariableGroup) → names ≡ [] → argument_types ≡ [] →
-    through (group_named types) (record { names = word_forms names; types = argument_types }) groups ≡ parameters_of types groups
-unfolding parameters_of
-parameters_start types names argument_types groups h e = rw (h, e, no_words) refl
+pub variables_start : (types : List (List ℕ)) (names : List Word) (argument_types : List (List ℕ)) (groups : List VariableGroup) → names ≡ [] → argument_types ≡ [] →
+    through (group_named types) (record { names = word_forms names; types = argument_types }) groups ≡ variables_of types groups
+unfolding variables_of
+variables_start types names argument_types groups h e = rw (h, e, no_words) refl
 
-pub ruleset parameters_steps = (parameters_start)
+pub ruleset variables_steps = (variables_start)

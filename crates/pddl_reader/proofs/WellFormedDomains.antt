@@ -7,28 +7,31 @@ use Rattle.std.specs.List.{list_all}
 use Rattle.std.specs.Option.{option_map}
 use Rattle.std.specs.Map.{keys_of, values_of}
 use Rattle.pddl_words.specs.Words.{folded}
-use Rattle.strips_task.specs.declared.actions.Cond.{Cond}
-use Rattle.strips_task.specs.declared.actions.Formula.TheVariants as asked
-use Rattle.strips_task.specs.declared.actions.Pattern.{Pattern}
-use Rattle.strips_task.specs.declared.actions.Term.{Term}
+use Rattle.formulas.specs.Tree.{Tree}
+use Rattle.formulas.specs.declared.terms.Pattern.{Pattern}
+use Rattle.formulas.specs.EffectTree.{EffectTree}
 use Rattle.strips_task.specs.declared.tasks.TaskParts.{TaskParts}
 use Rattle.strips_task.specs.Names.{are_distinct}
 use Rattle.strips_task.specs.Types.{IsTypeTree}
-use Rattle.strips_task.specs.WellFormed.{are_variables, is_pattern, is_known, is_formula, is_action}
+use Rattle.strips_task.specs.WellFormed.{are_variables, is_pattern, is_formula, is_effect, is_action}
 use Rattle.strips_task.proofs.NameNumbers.{entries_distinct}
 use Rattle.plan_cost.specs.declared.amounts.Amount.{Amount}
 use Rattle.pddl_reader.specs.declared.resolution.actions.ActionTables.{ActionTables}
 use Rattle.pddl_reader.specs.declared.resolution.actions.CostedAction.{CostedAction}
-use Rattle.pddl_reader.specs.declared.resolution.actions.Effects.{Effects}
+use Rattle.pddl_reader.specs.declared.resolution.effects.Effects.{Effects}
 use Rattle.pddl_syntax.specs.declared.dialect.Dialect.{Dialect}
-use Rattle.pddl_syntax.specs.Optional.{guard, followed_by}
-use Rattle.pddl_reader.specs.Declarations.{Predicates, may_declare, declared, pattern_of, condition, term_named, equality_by, condition_of, conditions_of, Known}
-use Rattle.pddl_reader.specs.Variables.{Parameters, argument_types_of, parameters_of}
+use Rattle.pddl_syntax.specs.Optional.{guard}
+use Rattle.pddl_reader.specs.Conditions.{tree_meant, conjuncts, with_condition, conditions_of}
+use Rattle.pddl_reader.specs.Declarations.{Predicates, may_declare, declared, pattern_of, Known}
+use Rattle.pddl_reader.specs.Effects.{effect_meant, single_effects, nothing_happens, changed, with_change, increased, joined, with_effect, effects_of}
+use Rattle.pddl_reader.specs.Scopes.{Scope, outermost}
+use Rattle.pddl_reader.specs.Variables.{TypedVariables, argument_types_of, variables_of}
 use Rattle.pddl_reader.proofs.FittingAtoms.{known_of, vocabulary_of, pattern_fits}
-use Rattle.pddl_reader.proofs.KnownTerms.{term_known}
-use Rattle.pddl_reader.proofs.KeptVariables.{argument_types_kept, parameters_kept, parameters_paired}
+use Rattle.pddl_reader.proofs.FittingFormulas.{formula_fits, effect_fits}
+use Rattle.pddl_reader.proofs.KnownTerms.{IsPaired, IsScope, option_map_some}
+use Rattle.pddl_reader.proofs.KeptVariables.{argument_types_kept, variables_kept, variables_paired}
 use Rattle.pddl_reader.proofs.Through.{through_keeps}
-use Rattle.pddl_reader.specs.Domain.{DomainValue, declared_predicate, vocabulary_by, action_by, with_predicate, predicates_from, may_have, with_function, functions_from, no_effects, changed, with_change, increased, with_effect, effects_of, action_doing, action_with, action_meant, Actions, no_actions, tables_with, declared_action, with_action_of, actions_from, head, head_typed, head_of, domain_value, domain_with}
+use Rattle.pddl_reader.specs.Domain.{DomainValue, declared_predicate, vocabulary_by, action_by, with_predicate, predicates_from, may_have, with_function, functions_from, action_doing, action_with, action_meant, Actions, no_actions, tables_with, declared_action, with_action_of, actions_from, head, head_typed, head_of, domain_value, domain_with}
 use Rattle.pddl_reader.specs.DomainTables.{bare_task, IsDomain}
 use Rattle.pddl_reader.specs.Functions.{with_increase}
 use Rattle.pddl_reader.specs.Objects.{Objects, objects_from}
@@ -36,7 +39,7 @@ use Rattle.pddl_reader.specs.TypeOrder.{types_of}
 use Rattle.pddl_reader.specs.declared.resolution.domain.Head.{Head}
 use Rattle.pddl_reader.specs.declared.resolution.types.KnownTypes.{KnownTypes}
 use Rattle.pddl_reader.proofs.KeptObjects.{AreObjects, AreKnown, known_types, objects_kept, no_objects}
-use Rattle.pddl_syntax.specs.Syntax.{LiteralForm, atom_literal, equality_literal, increase_literal, value_literal, PredicateForm, ActionForm, DomainForm}
+use Rattle.pddl_syntax.specs.Syntax.{FormulaForm, EffectForm, atom_effect, increase_effect, joint_effect, conditional_effect, universal_effect, PredicateForm, ActionForm, DomainForm}
 use Rattle.pddl_reader.proofs.DeclarationLemmas.{may_declare_new, may_declare_length}
 
 no_names_distinct : are_distinct [] ≡ true
@@ -107,114 +110,102 @@ unfolding functions_from
 kept_functions parents types is table fs more kept h =
     through_keeps (λ t. IsKept (are_variables parents) t) (with_function types) (function_kept parents types is) table fs more kept h
 
-condition_fits_by : (task : TaskParts) (params : List (List ℕ)) (positive : Bool) (pattern : Option Pattern) (c : Cond) →
-    ((p : Pattern) → pattern ≡ Some p → is_pattern task params p ≡ true) → option_map (condition positive) pattern ≡ Some c → is_formula task params c.formula ≡ true
-unfolding is_formula
-condition_fits_by task params positive None c fits h = cc
-condition_fits_by task params positive (Some p) c fits h =
-    let P : Cond → Type 0 = λ c. is_formula task params c.formula ≡ true in
-    let e : condition positive p ≡ c = cc in
-    subst P e (fits p refl)
+-- the conditions with one more
+condition_fits : (task : TaskParts) (types : List (List ℕ)) → length types ≡ length task.parents → (scope : Scope) → IsScope scope → (before : List Tree) (form : FormulaForm)
+    (more : List Tree) → list_all (is_formula task scope.parameters.types scope.bound.types) before ≡ true → with_condition types (known_of task) scope before form ≡ Some more →
+    list_all (is_formula task scope.parameters.types scope.bound.types) more ≡ true
+unfolding with_condition
+condition_fits task types typed scope is before form more all h =
+    let test = is_formula task scope.parameters.types scope.bound.types in
+    let found = option_map_some (λ condition. before ++ condition ∷ []) (tree_meant types (known_of task) scope form) more h in
+    subst (λ list. list_all test list ≡ true) found.2
+    (rw (list_all-append test before (found.0 ∷ []), all, formula_fits task types typed scope is form found.0 found.1) refl)
 
-equality_fits_by : (task : TaskParts) (params : List (List ℕ)) (positive : Bool) (left right : Option Term) (c : Cond) →
-    ((t : Term) → left ≡ Some t → is_known task params t ≡ true) → ((t : Term) → right ≡ Some t → is_known task params t ≡ true) →
-    equality_by positive left right ≡ Some c → is_formula task params c.formula ≡ true
-unfolding equality_by is_formula
-equality_fits_by task params positive None right c lefts rights h = cc
-equality_fits_by task params positive (Some l) None c lefts rights h = cc
-equality_fits_by task params positive (Some l) (Some r) c lefts rights h =
-    let P : Cond → Type 0 = λ c. is_formula task params c.formula ≡ true in
-    let e : record { positive = positive; formula = asked.Equal l r } ≡ c = cc in
-    subst P e (rw (lefts l refl, rights r refl) refl)
-
--- each parameter has types
-abbrev IsPaired : Parameters → Type 0
-IsPaired q = length q.types ≡ length q.names
-
-condition_fits : (task : TaskParts) (q : Parameters) → IsPaired q → (l : LiteralForm) (c : Cond) → condition_of (known_of task) q l ≡ Some c →
-    is_formula task q.types c.formula ≡ true
-unfolding condition_of
-condition_fits task q paired (atom_literal positive atom) c h =
-    condition_fits_by task q.types positive (pattern_of (known_of task) q atom) c (pattern_fits task q atom) h
-condition_fits task q paired (equality_literal positive sides) c h =
-    equality_fits_by task q.types positive (term_named (known_of task) q sides.left) (term_named (known_of task) q sides.right) c
-    (term_known task q paired sides.left) (term_known task q paired sides.right) h
-condition_fits task q paired (increase_literal amount) c h = cc
-condition_fits task q paired (value_literal value) c h = cc
-
-conditions_fit_by : (task : TaskParts) (q : Parameters) (c : Option Cond) (cs : Option (List Cond)) (all : List Cond) →
-    ((x : Cond) → c ≡ Some x → is_formula task q.types x.formula ≡ true) →
-    ((xs : List Cond) → cs ≡ Some xs → list_all (λ c. is_formula task q.types c.formula) xs ≡ true) →
-    followed_by c cs ≡ Some all → list_all (λ c. is_formula task q.types c.formula) all ≡ true
-unfolding followed_by
-conditions_fit_by task q None cs all first rest h = cc
-conditions_fit_by task q (Some x) None all first rest h = cc
-conditions_fit_by task q (Some x) (Some xs) all first rest h =
-    let P : List Cond → Type 0 = λ cs. list_all (λ c. is_formula task q.types c.formula) cs ≡ true in
-    let e : x ∷ xs ≡ all = cc in
-    subst P e (rw (first x refl, rest xs refl) refl)
-
-conditions_fit : (task : TaskParts) (q : Parameters) → IsPaired q → (ls : List LiteralForm) (cs : List Cond) → conditions_of (known_of task) q ls ≡ Some cs →
-    list_all (λ c. is_formula task q.types c.formula) cs ≡ true
+pub conditions_fit : (task : TaskParts) (types : List (List ℕ)) → length types ≡ length task.parents → (scope : Scope) → IsScope scope → (form : FormulaForm) (cs : List Tree) →
+    conditions_of types (known_of task) scope form ≡ Some cs → list_all (is_formula task scope.parameters.types scope.bound.types) cs ≡ true
 unfolding conditions_of
-conditions_fit task q paired [] cs h =
-    let P : List Cond → Type 0 = λ cs. list_all (λ c. is_formula task q.types c.formula) cs ≡ true in
-    let e : [] ≡ cs = cc in
-    subst P e refl
-conditions_fit task q paired (l ∷ ls) cs h =
-    conditions_fit_by task q (condition_of (known_of task) q l) (conditions_of (known_of task) q ls) cs (condition_fits task q paired l) (λ xs e. conditions_fit task q paired ls xs e) h
+conditions_fit task types typed scope is form cs h =
+    through_keeps (λ list. list_all (is_formula task scope.parameters.types scope.bound.types) list ≡ true) (with_condition types (known_of task) scope)
+    (condition_fits task types typed scope is) [] (conjuncts form) cs refl h
 
--- the patterns of effects fit
-record AreFitting (task : TaskParts) (q : Parameters) (effects : Effects) : Type 0 where
-  adds : list_all (is_pattern task q.types) effects.add ≡ true
-  dels : list_all (is_pattern task q.types) effects.del ≡ true
+-- what an action does fits
+record AreFitting (task : TaskParts) (scope : Scope) (effects : Effects) : Type 0 where
+  adds : list_all (is_pattern task scope.parameters.types scope.bound.types) effects.add ≡ true
+  dels : list_all (is_pattern task scope.parameters.types scope.bound.types) effects.del ≡ true
+  inner : list_all (is_effect task scope.parameters.types scope.bound.types) effects.inner ≡ true
 
-changed_fits : (task : TaskParts) (q : Parameters) (e : Effects) (positive : Bool) (p : Pattern) → is_pattern task q.types p ≡ true → AreFitting task q e →
-    AreFitting task q (changed e positive p)
-unfolding changed
-changed_fits task q e true p fit rest =
-    record { adds = rw (list_all-append (is_pattern task q.types) e.add (p ∷ []), rest.adds, fit) refl; dels = rest.dels }
-changed_fits task q e false p fit rest =
-    record { adds = rest.adds; dels = rw (list_all-append (is_pattern task q.types) e.del (p ∷ []), rest.dels, fit) refl }
+module _ (task : TaskParts) (scope : Scope) where
+  changed_fits : (e : Effects) (positive : Bool) (p : Pattern) → is_pattern task scope.parameters.types scope.bound.types p ≡ true → AreFitting task scope e →
+      AreFitting task scope (changed e positive p)
+  unfolding changed
+  changed_fits e true p fit rest = record {
+    adds = rw (list_all-append (is_pattern task scope.parameters.types scope.bound.types) e.add (p ∷ []), rest.adds, fit) refl;
+    dels = rest.dels;
+    inner = rest.inner;
+  }
+  changed_fits e false p fit rest = record {
+    adds = rest.adds;
+    dels = rw (list_all-append (is_pattern task scope.parameters.types scope.bound.types) e.del (p ∷ []), rest.dels, fit) refl;
+    inner = rest.inner;
+  }
 
-change_fits : (task : TaskParts) (q : Parameters) (e : Effects) (positive : Bool) (pattern : Option Pattern) (more : Effects) →
-    ((p : Pattern) → pattern ≡ Some p → is_pattern task q.types p ≡ true) → AreFitting task q e → with_change e positive pattern ≡ Some more →
-    AreFitting task q more
-unfolding with_change
-change_fits task q e positive None more fits rest h = cc
-change_fits task q e positive (Some p) more fits rest h =
-    let P : Effects → Type 0 = λ e. AreFitting task q e in
-    let is : changed e positive p ≡ more = cc in
-    subst P is (changed_fits task q e positive p (fits p refl) rest)
+  change_fits : (e : Effects) (positive : Bool) (pattern : Option Pattern) (more : Effects) →
+      ((p : Pattern) → pattern ≡ Some p → is_pattern task scope.parameters.types scope.bound.types p ≡ true) → AreFitting task scope e → with_change e positive pattern ≡ Some more →
+      AreFitting task scope more
+  unfolding with_change
+  change_fits e positive None more fits rest h = cc
+  change_fits e positive (Some p) more fits rest h =
+      let is : changed e positive p ≡ more = cc in
+      subst (AreFitting task scope) is (changed_fits e positive p (fits p refl) rest)
 
-increase_fits : (task : TaskParts) (q : Parameters) (e : Effects) (increases : Option (List Amount)) (more : Effects) → AreFitting task q e →
-    option_map (increased e) increases ≡ Some more → AreFitting task q more
-increase_fits task q e None more rest h = cc
-increase_fits task q e (Some increases) more rest h =
-    let P : Effects → Type 0 = λ e. AreFitting task q e in
-    let is : increased e increases ≡ more = cc in
-    subst P is (record { adds = rest.adds; dels = rest.dels })
+  increase_fits : (e : Effects) (increases : Option (List Amount)) (more : Effects) → AreFitting task scope e →
+      option_map (increased e) increases ≡ Some more → AreFitting task scope more
+  increase_fits e None more rest h = cc
+  increase_fits e (Some increases) more rest h =
+      let is : increased e increases ≡ more = cc in
+      subst (AreFitting task scope) is (record { adds = rest.adds; dels = rest.dels; inner = rest.inner })
 
-effect_fits : (task : TaskParts) (functions : Known) (q : Parameters) (e : Effects) (l : LiteralForm) (more : Effects) → AreFitting task q e →
-    with_effect (vocabulary_of task functions) q e l ≡ Some more → AreFitting task q more
-unfolding with_effect
-effect_fits task functions q e (atom_literal positive atom) more rest h =
-    change_fits task q e positive (pattern_of (known_of task) q atom) more (pattern_fits task q atom) rest h
-effect_fits task functions q e (equality_literal positive sides) more rest h = cc
-effect_fits task functions q e (increase_literal amount) more rest h =
-    increase_fits task q e (with_increase (vocabulary_of task functions) q e.increases amount) more rest h
-effect_fits task functions q e (value_literal value) more rest h = cc
+  inner_fits : (e : Effects) (effect : Option EffectTree) (more : Effects) → ((x : EffectTree) → effect ≡ Some x → is_effect task scope.parameters.types scope.bound.types x ≡ true) →
+      AreFitting task scope e → option_map (joined e) effect ≡ Some more → AreFitting task scope more
+  inner_fits e None more fits rest h = cc
+  inner_fits e (Some x) more fits rest h =
+      let is : joined e x ≡ more = cc in
+      subst (AreFitting task scope) is (record {
+        adds = rest.adds;
+        dels = rest.dels;
+        inner = rw (list_all-append (is_effect task scope.parameters.types scope.bound.types) e.inner (x ∷ []), rest.inner, fits x refl) refl;
+      })
 
-effects_fit : (task : TaskParts) (functions : Known) (q : Parameters) (ls : List LiteralForm) (es : Effects) →
-    effects_of (vocabulary_of task functions) q ls ≡ Some es → AreFitting task q es
-unfolding effects_of
-effects_fit task functions q ls es h =
-    through_keeps (λ e. AreFitting task q e) (with_effect (vocabulary_of task functions) q) (effect_fits task functions q) no_effects ls es
-    (record { adds = refl; dels = refl }) h
+module _ (task : TaskParts) (functions : Known) (types : List (List ℕ)) (typed : length types ≡ length task.parents) (scope : Scope) (is : IsScope scope) where
+  with_effect_fits : (e : Effects) (form : EffectForm) (more : Effects) → AreFitting task scope e → with_effect types (vocabulary_of task functions) scope e form ≡ Some more →
+      AreFitting task scope more
+  unfolding with_effect
+  with_effect_fits e (atom_effect positive atom) more rest h =
+      change_fits task scope e positive (pattern_of (known_of task) scope atom) more (pattern_fits task scope atom) rest h
+  with_effect_fits e (increase_effect amount) more rest h =
+      increase_fits task scope e (with_increase (vocabulary_of task functions) scope e.increases amount) more rest h
+  with_effect_fits e (joint_effect parts) more rest h =
+      inner_fits task scope e (effect_meant types (known_of task) scope (joint_effect parts)) more (effect_fits task types typed scope is (joint_effect parts)) rest h
+  with_effect_fits e (conditional_effect condition effect) more rest h =
+      inner_fits task scope e (effect_meant types (known_of task) scope (conditional_effect condition effect)) more
+      (effect_fits task types typed scope is (conditional_effect condition effect)) rest h
+  with_effect_fits e (universal_effect groups effect) more rest h =
+      inner_fits task scope e (effect_meant types (known_of task) scope (universal_effect groups effect)) more
+      (effect_fits task types typed scope is (universal_effect groups effect)) rest h
 
-action_fits_by : (task : TaskParts) (q : Parameters) (pre : Option (List Cond)) (es : Option Effects) (meant : CostedAction) → are_variables task.parents q.types ≡ true →
-    ((cs : List Cond) → pre ≡ Some cs → list_all (λ c. is_formula task q.types c.formula) cs ≡ true) →
-    ((e : Effects) → es ≡ Some e → AreFitting task q e) →
+  effects_fit : (form : EffectForm) (es : Effects) → effects_of types (vocabulary_of task functions) scope form ≡ Some es → AreFitting task scope es
+  unfolding effects_of
+  effects_fit form es h =
+      through_keeps (AreFitting task scope) (with_effect types (vocabulary_of task functions) scope) with_effect_fits nothing_happens (single_effects form) es
+      (record { adds = refl; dels = refl; inner = refl }) h
+
+-- the scope of parameters that have types
+pub outermost_scope : (q : TypedVariables) → IsPaired q → IsScope (outermost q)
+outermost_scope q paired = record { parameters = paired; bound = refl }
+
+action_fits_by : (task : TaskParts) (q : TypedVariables) (pre : Option (List Tree)) (es : Option Effects) (meant : CostedAction) → are_variables task.parents q.types ≡ true →
+    ((cs : List Tree) → pre ≡ Some cs → list_all (is_formula task q.types []) cs ≡ true) →
+    ((e : Effects) → es ≡ Some e → AreFitting task (outermost q) e) →
     action_with q.types pre es ≡ Some meant → is_action task meant.action ≡ true
 unfolding action_with is_action
 action_fits_by task q None es meant typed pres effs h = cc
@@ -223,23 +214,24 @@ action_fits_by task q (Some cs) (Some e) meant typed pres effs h =
     let P : CostedAction → Type 0 = λ a. is_action task a.action ≡ true in
     let is : action_doing q.types cs e ≡ meant = cc in
     let fit = effs e refl in
-    subst P is (rw (typed, pres cs refl, fit.adds, fit.dels) refl)
+    subst P is (rw (typed, pres cs refl, fit.adds, fit.dels, fit.inner) refl)
 
-action_fits_with : (task : TaskParts) (functions : Known) (a : ActionForm) (q : Option Parameters) (meant : CostedAction) →
-    ((r : Parameters) → q ≡ Some r → are_variables task.parents r.types ≡ true) →
-    ((r : Parameters) → q ≡ Some r → IsPaired r) → action_by (vocabulary_of task functions) a q ≡ Some meant → is_action task meant.action ≡ true
+action_fits_with : (task : TaskParts) (functions : Known) (types : List (List ℕ)) → length types ≡ length task.parents → (a : ActionForm) (q : Option TypedVariables)
+    (meant : CostedAction) → ((r : TypedVariables) → q ≡ Some r → are_variables task.parents r.types ≡ true) →
+    ((r : TypedVariables) → q ≡ Some r → IsPaired r) → action_by types (vocabulary_of task functions) a q ≡ Some meant → is_action task meant.action ≡ true
 unfolding action_by
-action_fits_with task functions a None meant typed paired h = cc
-action_fits_with task functions a (Some q) meant typed paired h =
-    action_fits_by task q (conditions_of (known_of task) q a.precondition) (effects_of (vocabulary_of task functions) q a.effect) meant (typed q refl)
-    (conditions_fit task q (paired q refl) a.precondition) (effects_fit task functions q a.effect) h
+action_fits_with task functions types is a None meant typed paired h = cc
+action_fits_with task functions types is a (Some q) meant typed paired h =
+    let scoped = outermost_scope q (paired q refl) in
+    action_fits_by task q (conditions_of types (known_of task) (outermost q) a.precondition) (effects_of types (vocabulary_of task functions) (outermost q) a.effect) meant
+    (typed q refl) (conditions_fit task types is (outermost q) scoped a.precondition) (effects_fit task functions types is (outermost q) scoped a.effect) h
 
 action_fits : (task : TaskParts) (functions : Known) (types : List (List ℕ)) → length types ≡ length task.parents → (a : ActionForm) (meant : CostedAction) →
     action_meant types (vocabulary_of task functions) a ≡ Some meant → is_action task meant.action ≡ true
 unfolding action_meant
 action_fits task functions types is a meant h =
-    action_fits_with task functions a (parameters_of types a.parameters) meant (λ r e. parameters_kept task.parents types a.parameters r is e)
-    (λ r e. parameters_paired task.parents types a.parameters r is e) h
+    action_fits_with task functions types is a (variables_of types a.parameters) meant (λ r e. variables_kept task.parents types a.parameters r is e)
+    (λ r e. variables_paired task.parents types a.parameters r is e) h
 
 declared_action_kept : (task : TaskParts) (tables more : ActionTables) (name : List ℕ) (meant : Option CostedAction) →
     ((a : CostedAction) → meant ≡ Some a → is_action task a.action ≡ true) → IsKept (is_action task) tables.actions →
@@ -283,6 +275,7 @@ well_formed : (head : Head) (predicates functions : Predicates) (tables : Action
 well_formed head predicates functions tables h p f a = record {
   fits = record {
     types_form_a_tree = h.tree;
+    types_named = length-map (keys_of head.types) (λ name. (name, tt)) ∙ h.types_named;
     few_types = h.few_types;
     few_objects = h.objects.few;
     few_predicates = p.few;

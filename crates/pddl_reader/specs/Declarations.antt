@@ -4,19 +4,17 @@ use Rattle.std.specs.Prelude.{if◌then◌else◌, ℕ, Bool, false, ◌&&◌, n
 use Rattle.std.specs.Option.{option_map}
 use Rattle.std.specs.Map.{values_of}
 use Rattle.pddl_words.specs.Words.{folded}
-use Rattle.strips_task.specs.declared.atoms.Atom.{Atom}
-use Rattle.strips_task.specs.declared.actions.Pattern.{Pattern}
-use Rattle.strips_task.specs.declared.actions.Term.{Term}
-use Rattle.strips_task.specs.declared.actions.Term.TheVariants.{Param, Object}
+use Rattle.formulas.specs.declared.atoms.Atom.{Atom}
+use Rattle.formulas.specs.declared.terms.Pattern.{Pattern}
+use Rattle.formulas.specs.declared.terms.Term.{Term}
+use Rattle.formulas.specs.declared.terms.Term.TheVariants.{Object}
 use Rattle.strips_task.specs.WellFormed.{is_fitting, term_types}
 use Rattle.pddl_syntax.specs.Heads.{is_variable}
 use Rattle.pddl_reader.specs.Objects.{Objects}
-use Rattle.pddl_reader.specs.Variables.{Parameters, parameter_number}
-use Rattle.strips_task.specs.declared.actions.Formula.TheVariants as asked
-use Rattle.strips_task.specs.declared.actions.Cond.{Cond}
+use Rattle.pddl_reader.specs.Scopes.{Scope, variable_meant}
 use Rattle.strips_task.specs.Names.{number_named}
 use Rattle.pddl_syntax.specs.Optional.{guard, followed_by}
-use Rattle.pddl_syntax.specs.Syntax.{AtomForm, LiteralForm, atom_literal, equality_literal, increase_literal, value_literal}
+use Rattle.pddl_syntax.specs.Syntax.{AtomForm}
 
 -- the declared predicates: for each its name and, for each argument, the types that it may have
 abbrev pub Predicates : Type 0
@@ -70,25 +68,25 @@ fitted_arguments fit (Some argument_types) words = fitted_all fit argument_types
 unfoldable pub object_number : Objects → List ℕ → Option ℕ
 object_number objects word = number_named objects (folded word)
 
--- the term that a word stands for in an action: a parameter or a constant
-unfoldable pub term_named : Known → Parameters → List ℕ → Option Term
-term_named known parameters word =
-    (if is_variable word then option_map (λ number. Param number) (parameter_number parameters.names word)
-    else option_map (λ number. Object number) (object_number known.objects word))
+-- the term that a word stands for: a variable or an object
+unfoldable pub term_named : Known → Scope → List ℕ → Option Term
+term_named known scope word =
+    (if is_variable word then variable_meant scope word else option_map (λ number. Object number) (object_number known.objects word))
 
 -- a term that fits its argument: each of its types is below some type that the argument may have
-unfoldable pub term_fitted : Known → List (List ℕ) → List ℕ → Option Term → Option Term
-term_fitted known params allowed None = None
-term_fitted known params allowed (Some term) = guard (is_fitting known.parents (term_types known.objects params term) allowed) (Some term)
+unfoldable pub term_fitted : Known → Scope → List ℕ → Option Term → Option Term
+term_fitted known scope allowed None = None
+term_fitted known scope allowed (Some term) =
+    guard (is_fitting known.parents (term_types known.objects scope.parameters.types scope.bound.types term) allowed) (Some term)
 
 -- the term that a word stands for, if it fits its argument
-unfoldable pub fitting_term : Known → Parameters → List ℕ → List ℕ → Option Term
-fitting_term known parameters allowed word = term_fitted known parameters.types allowed (term_named known parameters word)
+unfoldable pub fitting_term : Known → Scope → List ℕ → List ℕ → Option Term
+fitting_term known scope allowed word = term_fitted known scope allowed (term_named known scope word)
 
 -- an object that fits its argument
 unfoldable pub object_fitted : Known → List ℕ → Option ℕ → Option ℕ
 object_fitted known allowed None = None
-object_fitted known allowed (Some number) = guard (is_fitting known.parents (term_types known.objects [] (Object number)) allowed) (Some number)
+object_fitted known allowed (Some number) = guard (is_fitting known.parents (term_types known.objects [] [] (Object number)) allowed) (Some number)
 
 -- the object that a word names, if it fits its argument
 unfoldable pub fitting_object : Known → List ℕ → List ℕ → Option ℕ
@@ -99,14 +97,14 @@ abbrev pub pattern_with : ℕ → List Term → Pattern
 pattern_with number terms = record { pred = number; terms = terms }
 
 -- a pattern of a predicate, if it is known, and of the terms that the words stand for
-unfoldable pub pattern_by : Known → Parameters → List (List ℕ) → Option ℕ → Option Pattern
-pattern_by known parameters words None = None
-pattern_by known parameters words (Some number) =
-    option_map (pattern_with number) (fitted_arguments (fitting_term known parameters) (slice_get (values_of known.predicates) number) words)
+unfoldable pub pattern_by : Known → Scope → List (List ℕ) → Option ℕ → Option Pattern
+pattern_by known scope words None = None
+pattern_by known scope words (Some number) =
+    option_map (pattern_with number) (fitted_arguments (fitting_term known scope) (slice_get (values_of known.predicates) number) words)
 
--- the pattern that an atom of an action stands for
-unfoldable pub pattern_of : Known → Parameters → AtomForm → Option Pattern
-pattern_of known parameters atom = pattern_by known parameters atom.terms (predicate_number known.predicates atom)
+-- the pattern that an atom stands for
+unfoldable pub pattern_of : Known → Scope → AtomForm → Option Pattern
+pattern_of known scope atom = pattern_by known scope atom.terms (predicate_number known.predicates atom)
 
 -- a ground atom of a predicate and objects
 abbrev pub ground_with : ℕ → List ℕ → Atom
@@ -121,26 +119,3 @@ ground_by known words (Some number) =
 -- the ground atom that an atom of a problem stands for
 unfoldable pub ground_of : Known → AtomForm → Option Atom
 ground_of known atom = ground_by known atom.terms (predicate_number known.predicates atom)
-
--- a condition on a pattern
-abbrev pub condition : Bool → Pattern → Cond
-condition positive pattern = record { positive = positive; formula = asked.Atom pattern }
-
--- the condition that two terms, of any types, stand for the same object, or for different ones, if both are known
-unfoldable pub equality_by : Bool → Option Term → Option Term → Option Cond
-equality_by positive None right = None
-equality_by positive (Some left) None = None
-equality_by positive (Some left) (Some right) = Some (record { positive = positive; formula = asked.Equal left right })
-
--- the condition that a literal of an action stands for
-unfoldable pub condition_of : Known → Parameters → LiteralForm → Option Cond
-condition_of known parameters (atom_literal positive atom) = option_map (condition positive) (pattern_of known parameters atom)
-condition_of known parameters (equality_literal positive sides) =
-    equality_by positive (term_named known parameters sides.left) (term_named known parameters sides.right)
-condition_of known parameters (increase_literal amount) = None
-condition_of known parameters (value_literal value) = None
-
--- the conditions that literals stand for, in text order
-unfoldable pub conditions_of : Known → Parameters → List LiteralForm → Option (List Cond)
-conditions_of known parameters [] = Some []
-conditions_of known parameters (literal ∷ literals) = followed_by (condition_of known parameters literal) (conditions_of known parameters literals)

@@ -1,29 +1,31 @@
 -- The domain that syntax stands for (PDDL 2.1, Fox and Long 2003, sections 2 and 3; the limits are this validator's choice).
 
-use Rattle.std.specs.Prelude.{ℕ, Bool, true, false, not, List, [], ◌∷◌, ◌++◌, Option, Some, None}
+use Rattle.std.specs.Prelude.{ℕ, Bool, true, not, List, [], ◌∷◌, ◌++◌, map, Option, Some, None}
 use Rattle.std.specs.Map.{keys_of}
 use Rattle.std.specs.Option.{option_map}
 use Rattle.std.specs.Str.{bytes_eq}
 use Rattle.pddl_words.specs.Words.{folded}
 use Rattle.strips_task.specs.declared.actions.Action.{Action}
-use Rattle.strips_task.specs.declared.actions.Cond.{Cond}
-use Rattle.strips_task.specs.declared.actions.Pattern.{Pattern}
+use Rattle.formulas.specs.Tree.{Tree}
 use Rattle.strips_task.specs.WellFormed.{most_predicates, most_actions}
 use Rattle.plan_cost.specs.declared.amounts.Amount.{Amount}
 use Rattle.pddl_reader.specs.declared.resolution.actions.ActionTables.{ActionTables}
 use Rattle.pddl_reader.specs.declared.resolution.actions.CostedAction.{CostedAction}
-use Rattle.pddl_reader.specs.declared.resolution.actions.Effects.{Effects}
+use Rattle.pddl_reader.specs.declared.resolution.effects.Effects.{Effects}
 use Rattle.pddl_reader.specs.declared.resolution.domain.Head.{Head}
 use Rattle.pddl_reader.specs.declared.resolution.types.KnownTypes.{KnownTypes}
-use Rattle.pddl_reader.specs.Functions.{Vocabulary, vocabulary, with_increase}
+use Rattle.pddl_reader.specs.Conditions.{conditions_of}
+use Rattle.pddl_reader.specs.Effects.{effects_of}
+use Rattle.pddl_reader.specs.Functions.{Vocabulary, vocabulary}
 use Rattle.pddl_reader.specs.Objects.{Objects, objects_from}
 use Rattle.pddl_reader.specs.TypeOrder.{types_of}
-use Rattle.pddl_reader.specs.Declarations.{Predicates, declared, pattern_of, conditions_of}
+use Rattle.pddl_reader.specs.Declarations.{Predicates, declared}
 use Rattle.pddl_syntax.specs.declared.dialect.Dialect.{Dialect}
 use Rattle.pddl_syntax.specs.Keywords.{total_cost_word}
 use Rattle.pddl_syntax.specs.Optional.{guard, through}
-use Rattle.pddl_reader.specs.Variables.{Parameters, parameters_of, argument_types_of}
-use Rattle.pddl_syntax.specs.Syntax.{VariableGroup, LiteralForm, atom_literal, equality_literal, increase_literal, value_literal, PredicateForm, ActionForm, DomainForm}
+use Rattle.pddl_reader.specs.Scopes.{outermost}
+use Rattle.pddl_reader.specs.Variables.{TypedVariables, variables_of, argument_types_of}
+use Rattle.pddl_syntax.specs.Syntax.{VariableGroup, PredicateForm, ActionForm, DomainForm}
 
 -- what a domain says: its part of a task, the names of its types, its functions, and the increases of each action
 pub record DomainValue : Type 0 where
@@ -35,6 +37,10 @@ pub record DomainValue : Type 0 where
   pub functions : List (List ℕ × List (List ℕ))
   pub actions : List (List ℕ × Action)
   pub increases : List (List Amount)
+
+-- the names of types as a task has them
+abbrev pub type_table : List (List ℕ) → List (List ℕ × Unit {0})
+type_table names = map (λ name. (name, tt)) names
 
 -- the table with one more predicate, if the types of its arguments are known
 unfoldable pub declared_predicate : Predicates → List ℕ → Option (List (List ℕ)) → Option Predicates
@@ -62,58 +68,29 @@ with_function types table function = guard (may_have (folded function.name) func
 unfoldable pub functions_from : List (List ℕ) → Predicates → List PredicateForm → Option Predicates
 functions_from types table functions = through (with_function types) table functions
 
--- no effects
-abbrev pub no_effects : Effects
-no_effects = record { add = []; del = []; increases = [] }
-
--- the effects with one more pattern, which is added (`true`) or deleted
-unfoldable pub changed : Effects → Bool → Pattern → Effects
-changed effects true pattern = record effects { add = effects.add ++ pattern ∷ [] }
-changed effects false pattern = record effects { del = effects.del ++ pattern ∷ [] }
-
--- the effects with one more pattern, if there is one
-unfoldable pub with_change : Effects → Bool → Option Pattern → Option Effects
-with_change effects positive None = None
-with_change effects positive (Some pattern) = Some (changed effects positive pattern)
-
--- the effects with these increases
-abbrev pub increased : Effects → List Amount → Effects
-increased effects increases = record effects { increases = increases }
-
--- the effects with those of one more literal: an atom is added, a negated one is deleted, and an increase joins the other increases
-unfoldable pub with_effect : Vocabulary → Parameters → Effects → LiteralForm → Option Effects
-with_effect vocabulary parameters effects (atom_literal positive atom) = with_change effects positive (pattern_of vocabulary.atoms parameters atom)
-with_effect vocabulary parameters effects (equality_literal positive sides) = None
-with_effect vocabulary parameters effects (increase_literal amount) =
-    option_map (increased effects) (with_increase vocabulary parameters effects.increases amount)
-with_effect vocabulary parameters effects (value_literal value) = None
-
--- the effects that literals stand for, in text order
-unfoldable pub effects_of : Vocabulary → Parameters → List LiteralForm → Option Effects
-effects_of vocabulary parameters literals = through (with_effect vocabulary parameters) no_effects literals
-
 -- an action with parameters of these types
-abbrev pub action_doing : List (List ℕ) → List Cond → Effects → CostedAction
+abbrev pub action_doing : List (List ℕ) → List Tree → Effects → CostedAction
 action_doing params pre effects = record {
-  action = record { params = params; pre = pre; add = effects.add; del = effects.del };
+  action = record { params = params; pre = pre; add = effects.add; del = effects.del; effects = effects.inner };
   increases = effects.increases;
 }
 
 -- an action with its precondition and its effects, if there are both
-unfoldable pub action_with : List (List ℕ) → Option (List Cond) → Option Effects → Option CostedAction
+unfoldable pub action_with : List (List ℕ) → Option (List Tree) → Option Effects → Option CostedAction
 action_with params None effects = None
 action_with params (Some pre) None = None
 action_with params (Some pre) (Some effects) = Some (action_doing params pre effects)
 
 -- the action with these parameters, if they are declared correctly
-unfoldable pub action_by : Vocabulary → ActionForm → Option Parameters → Option CostedAction
-action_by vocabulary action None = None
-action_by vocabulary action (Some parameters) =
-    action_with parameters.types (conditions_of vocabulary.atoms parameters action.precondition) (effects_of vocabulary parameters action.effect)
+unfoldable pub action_by : List (List ℕ) → Vocabulary → ActionForm → Option TypedVariables → Option CostedAction
+action_by types vocabulary action None = None
+action_by types vocabulary action (Some parameters) =
+    action_with parameters.types (conditions_of types vocabulary.atoms (outermost parameters) action.precondition)
+    (effects_of types vocabulary (outermost parameters) action.effect)
 
 -- the action that syntax stands for, with its increases
 unfoldable pub action_meant : List (List ℕ) → Vocabulary → ActionForm → Option CostedAction
-action_meant types vocabulary action = action_by vocabulary action (parameters_of types action.parameters)
+action_meant types vocabulary action = action_by types vocabulary action (variables_of types action.parameters)
 
 -- the declared actions
 abbrev pub Actions : Type 0

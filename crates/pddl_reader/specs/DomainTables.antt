@@ -3,7 +3,7 @@
 use Rattle.std.specs.Prelude.{◌≡◌, ◌≤◌, length, []}
 use Rattle.pddl_reader.specs.declared.resolution.domain.Domain.TheInside.{Inside}
 use Rattle.strips_task.specs.WellFormed.{IsWellFormed, most_predicates}
-use Rattle.pddl_reader.specs.Domain.{DomainValue, domain_value}
+use Rattle.pddl_reader.specs.Domain.{DomainValue, domain_value, type_table}
 use Rattle.strips_task.specs.declared.tasks.TaskParts.{TaskParts}
 
 -- the record of what is kept
@@ -15,6 +15,7 @@ abbrev pub bare_task : DomainValue → TaskParts
 bare_task domain = record {
   domain = domain.name;
   problem = [];
+  types = type_table domain.types;
   parents = domain.parents;
   objects = domain.objects;
   preds = domain.predicates;

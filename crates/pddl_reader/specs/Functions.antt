@@ -3,8 +3,8 @@
 
 use Rattle.std.specs.Prelude.{ℕ, Bool, true, false, nat_lt, is_some, List, [], ◌∷◌, ◌++◌, length, Option, Some, None}
 use Rattle.std.specs.Option.{option_map}
-use Rattle.strips_task.specs.declared.actions.Pattern.{Pattern}
-use Rattle.strips_task.specs.declared.atoms.Atom.{Atom}
+use Rattle.formulas.specs.declared.terms.Pattern.{Pattern}
+use Rattle.formulas.specs.declared.atoms.Atom.{Atom}
 use Rattle.strips_task.specs.Names.{number_named}
 use Rattle.plan_cost.specs.declared.amounts.Amount.{Amount}
 use Rattle.plan_cost.specs.declared.amounts.Amount.TheVariants.{Number, Function}
@@ -18,9 +18,9 @@ use Rattle.pddl_syntax.specs.Optional.{guard}
 use Rattle.pddl_syntax.specs.Syntax.{AmountForm, number_amount, function_amount, ValueForm}
 use Rattle.pddl_reader.specs.Declarations.{Known, Predicates, pattern_of, ground_of}
 use Rattle.pddl_reader.specs.Objects.{Objects}
-use Rattle.pddl_reader.specs.Variables.{Parameters}
+use Rattle.pddl_reader.specs.Scopes.{Scope}
 
--- what effects and initial literals may name: what atoms may, and functions, which are looked up like predicates
+-- what effects, and initial atoms and values, may name: what atoms may, and functions, which are looked up like predicates
 pub record Vocabulary : Type 0 where
   pub atoms : Known
   pub functions : Known
@@ -45,9 +45,9 @@ abbrev pub amount_by : Pattern → Amount
 amount_by function = Function function.pred function.terms
 
 -- the amount that an increase names
-unfoldable pub amount_meant : Known → Parameters → AmountForm → Option Amount
-amount_meant functions parameters (number_amount number) = Some (Number number)
-amount_meant functions parameters (function_amount function) = option_map amount_by (pattern_of functions parameters function)
+unfoldable pub amount_meant : Known → Scope → AmountForm → Option Amount
+amount_meant functions scope (number_amount number) = Some (Number number)
+amount_meant functions scope (function_amount function) = option_map amount_by (pattern_of functions scope function)
 
 -- the amounts with one more, if there is one
 unfoldable pub amount_behind : List Amount → Option Amount → Option (List Amount)
@@ -55,10 +55,10 @@ amount_behind amounts None = None
 amount_behind amounts (Some amount) = Some (amounts ++ amount ∷ [])
 
 -- the increases of an action with one more, if `total-cost` is declared and there are fewer increases than the limit
-unfoldable pub with_increase : Vocabulary → Parameters → List Amount → AmountForm → Option (List Amount)
-with_increase vocabulary parameters increases amount =
+unfoldable pub with_increase : Vocabulary → Scope → List Amount → AmountForm → Option (List Amount)
+with_increase vocabulary scope increases amount =
     guard (nat_lt (length increases) MOST_INCREASES)
-    (guard (counts_costs vocabulary.functions.predicates) (amount_behind increases (amount_meant vocabulary.functions parameters amount)))
+    (guard (counts_costs vocabulary.functions.predicates) (amount_behind increases (amount_meant vocabulary.functions scope amount)))
 
 -- whether a function has no other value yet
 unfoldable pub is_not_another : Given → Bool
@@ -71,7 +71,7 @@ unfoldable pub value_given : List (Atom × ℕ) → ℕ → Option Atom → Opti
 value_given values value None = None
 value_given values value (Some function) = guard (is_not_another (given_over (value_of values function) value)) (Some (with_value values function value))
 
--- the values with that of an initial literal
+-- the values with one that is given initially
 unfoldable pub with_value_of : Known → List (Atom × ℕ) → ValueForm → Option (List (Atom × ℕ))
 with_value_of functions values form = value_given values form.value (ground_of functions form.function)
 

@@ -4,8 +4,11 @@ pub mod TypeOrder
 pub mod TypeCycles
 pub mod Objects
 pub mod Variables
+pub mod Scopes
 pub mod Declarations
 pub mod Functions
+pub mod Conditions
+pub mod Effects
 pub mod Resolved
 pub mod Rows
 pub mod Domain

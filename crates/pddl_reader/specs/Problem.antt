@@ -3,41 +3,20 @@
 use Rattle.std.specs.Prelude.{ℕ, Bool, true, false, List, [], ◌∷◌, ◌++◌, Option, Some, None}
 use Rattle.std.specs.Option.{option_map}
 use Rattle.pddl_words.specs.Words.{folded}
-use Rattle.strips_task.specs.declared.atoms.Atom.{Atom}
-use Rattle.strips_task.specs.declared.atoms.GroundFormula.TheVariants as asked
-use Rattle.strips_task.specs.declared.atoms.GroundCond.{GroundCond}
+use Rattle.formulas.specs.declared.atoms.Atom.{Atom}
+use Rattle.formulas.specs.Tree.{Tree}
 use Rattle.strips_task.specs.declared.tasks.TaskParts.{TaskParts}
 use Rattle.plan_cost.specs.declared.costs.CostedTask.{CostedTask}
-use Rattle.pddl_syntax.specs.Optional.{followed_by, through}
+use Rattle.pddl_reader.specs.Scopes.{outermost}
+use Rattle.pddl_reader.specs.Variables.{no_variables}
+use Rattle.pddl_syntax.specs.Optional.{through}
 use Rattle.pddl_reader.specs.declared.resolution.initial.InitialState.{InitialState}
-use Rattle.pddl_reader.specs.Declarations.{Known, ground_of, object_number}
-use Rattle.pddl_reader.specs.Domain.{DomainValue}
+use Rattle.pddl_reader.specs.Conditions.{conditions_of}
+use Rattle.pddl_reader.specs.Declarations.{ground_of}
+use Rattle.pddl_reader.specs.Domain.{DomainValue, type_table}
 use Rattle.pddl_reader.specs.Functions.{Vocabulary, vocabulary, costs_of, with_value_of}
 use Rattle.pddl_reader.specs.Objects.{Objects, objects_from}
-use Rattle.pddl_syntax.specs.Syntax.{LiteralForm, NameGroup, ProblemForm, atom_literal, equality_literal, increase_literal, value_literal}
-
--- a ground condition on an atom
-abbrev pub ground_condition : Bool → Atom → GroundCond
-ground_condition positive atom = record { positive = positive; formula = asked.Atom atom }
-
--- the ground condition that two objects are the same, or different, if both are known
-unfoldable pub ground_equality_by : Bool → Option ℕ → Option ℕ → Option GroundCond
-ground_equality_by positive None right = None
-ground_equality_by positive (Some left) None = None
-ground_equality_by positive (Some left) (Some right) = Some (record { positive = positive; formula = asked.Equal left right })
-
--- the ground condition that a literal of a problem stands for
-unfoldable pub ground_condition_of : Known → LiteralForm → Option GroundCond
-ground_condition_of known (atom_literal positive atom) = option_map (ground_condition positive) (ground_of known atom)
-ground_condition_of known (equality_literal positive sides) =
-    ground_equality_by positive (object_number known.objects sides.left) (object_number known.objects sides.right)
-ground_condition_of known (increase_literal amount) = None
-ground_condition_of known (value_literal value) = None
-
--- the ground conditions that literals stand for, in text order
-unfoldable pub ground_conditions_of : Known → List LiteralForm → Option (List GroundCond)
-ground_conditions_of known [] = Some []
-ground_conditions_of known (literal ∷ literals) = followed_by (ground_condition_of known literal) (ground_conditions_of known literals)
+use Rattle.pddl_syntax.specs.Syntax.{InitialForm, initial_atom, initial_value, NameGroup, ProblemForm}
 
 -- nothing is given initially
 abbrev pub no_initial : InitialState
@@ -57,23 +36,22 @@ given_atoms initial atoms = record initial { atoms = atoms }
 abbrev pub given_values : InitialState → List (Atom × ℕ) → InitialState
 given_values initial values = record initial { values = values }
 
--- what is given initially, with one more literal: an atom, or the value of a function
-unfoldable pub with_initial : Vocabulary → InitialState → LiteralForm → Option InitialState
-with_initial vocabulary initial (atom_literal positive atom) =
+-- what is given initially, with one more item: an atom, or the value of a function
+unfoldable pub with_initial : Vocabulary → InitialState → InitialForm → Option InitialState
+with_initial vocabulary initial (initial_atom positive atom) =
     option_map (given_atoms initial) (with_atom initial.atoms positive (ground_of vocabulary.atoms atom))
-with_initial vocabulary initial (equality_literal positive sides) = None
-with_initial vocabulary initial (increase_literal amount) = None
-with_initial vocabulary initial (value_literal value) = option_map (given_values initial) (with_value_of vocabulary.functions initial.values value)
+with_initial vocabulary initial (initial_value value) = option_map (given_values initial) (with_value_of vocabulary.functions initial.values value)
 
--- what the initial literals give, in text order
-unfoldable pub initial_of : Vocabulary → List LiteralForm → Option InitialState
-initial_of vocabulary literals = through (with_initial vocabulary) no_initial literals
+-- what the initial atoms and values give, in text order
+unfoldable pub initial_of : Vocabulary → List InitialForm → Option InitialState
+initial_of vocabulary items = through (with_initial vocabulary) no_initial items
 
 -- a task of the domain, with the folded name of the problem
-abbrev pub task_named : DomainValue → List ℕ → List Atom → List GroundCond → TaskParts
+abbrev pub task_named : DomainValue → List ℕ → List Atom → List Tree → TaskParts
 task_named domain problem init goal = record {
   domain = domain.name;
   problem = problem;
+  types = type_table domain.types;
   parents = domain.parents;
   objects = domain.objects;
   preds = domain.predicates;
@@ -83,18 +61,18 @@ task_named domain problem init goal = record {
 }
 
 -- a task of the domain
-abbrev pub task_value : DomainValue → List ℕ → List Atom → List GroundCond → TaskParts
+abbrev pub task_value : DomainValue → List ℕ → List Atom → List Tree → TaskParts
 task_value domain problem init goal = task_named domain (folded problem) init goal
 
 -- a task of the domain, and what it says about costs
-abbrev pub costed_value : DomainValue → List ℕ → InitialState → List GroundCond → CostedTask
+abbrev pub costed_value : DomainValue → List ℕ → InitialState → List Tree → CostedTask
 costed_value domain problem initial goal = record {
   task = task_value domain problem initial.atoms goal;
   costs = costs_of domain.functions domain.increases initial.values;
 }
 
 -- the task with what is given initially and this goal
-unfoldable pub task_with : DomainValue → List ℕ → Option InitialState → Option (List GroundCond) → Option CostedTask
+unfoldable pub task_with : DomainValue → List ℕ → Option InitialState → Option (List Tree) → Option CostedTask
 task_with domain problem None goal = None
 task_with domain problem (Some initial) goal = option_map (costed_value domain problem initial) goal
 
@@ -106,7 +84,7 @@ domain_over domain objects = record domain { objects = objects }
 unfoldable pub domain_extended : DomainValue → List NameGroup → Option DomainValue
 domain_extended domain groups = option_map (domain_over domain) (objects_from domain.types domain.objects groups)
 
--- what the literals of a problem may name
+-- what the initial atoms, the values and the goal of a problem may name
 abbrev pub vocabulary_in : DomainValue → Vocabulary
 vocabulary_in domain = vocabulary domain.parents domain.objects domain.predicates domain.functions
 
@@ -114,7 +92,8 @@ vocabulary_in domain = vocabulary domain.parents domain.objects domain.predicate
 unfoldable pub problem_within : ProblemForm → Option DomainValue → Option CostedTask
 problem_within problem None = None
 problem_within problem (Some domain) =
-    task_with domain problem.name (initial_of (vocabulary_in domain) problem.init) (ground_conditions_of (vocabulary_in domain).atoms problem.goal)
+    task_with domain problem.name (initial_of (vocabulary_in domain) problem.init)
+    (conditions_of domain.types (vocabulary_in domain).atoms (outermost no_variables) problem.goal)
 
 -- the task that the syntax stands for, if its objects are declared correctly and all names that it uses are declared
 unfoldable pub problem_of : DomainValue → ProblemForm → Option CostedTask

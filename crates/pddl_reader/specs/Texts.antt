@@ -26,11 +26,11 @@ domain_in_text dialect text = unless_fault (text_fault text) (option_and_then (d
 unfoldable pub problem_in_text : Dialect → DomainValue → List ℕ → Option CostedTask
 problem_in_text dialect domain text = unless_fault (text_fault text) (option_and_then (problem_of domain) (problem_syntax dialect (trees text)))
 
--- the domain that a text stands for, without what the larger dialect adds
+-- the domain that a text stands for, without what the larger dialects add
 unfoldable pub domain_of_text : List ℕ → Option DomainValue
 domain_of_text text = domain_in_text Strips text
 
--- the task that a text and a domain stand for, without what the larger dialect adds
+-- the task that a text and a domain stand for, without what the larger dialects add
 unfoldable pub problem_of_text : DomainValue → List ℕ → Option TaskParts
 problem_of_text domain text = option_map (λ costed. costed.task) (problem_in_text Strips domain text)
 

@@ -10,7 +10,7 @@ use Rattle.strips_task.specs.WellFormed.{most_types}
 use Rattle.pddl_reader.specs.declared.resolution.types.KnownTypes.{KnownTypes}
 use Rattle.pddl_reader.specs.declared.resolution.types.TypeTables.{TypeTables}
 use Rattle.pddl_syntax.specs.declared.dialect.Dialect.{Dialect}
-use Rattle.pddl_syntax.specs.declared.dialect.Dialect.TheVariants.{Strips, Ipc}
+use Rattle.pddl_syntax.specs.declared.dialect.Dialect.TheVariants.{Strips, Ipc, Adl}
 use Rattle.pddl_syntax.specs.Keywords.{object_word}
 use Rattle.pddl_syntax.specs.Optional.{guard, through}
 use Rattle.pddl_syntax.specs.Syntax.{NameGroup}
@@ -35,11 +35,12 @@ unfoldable pub under : Option (List ℕ) → TypeParents → List ℕ → List �
 under None parents name parent = Some (parents ++ (name, parent) ∷ [])
 under (Some known) parents name parent = guard (bytes_eq known parent) (Some parents)
 
--- whether declarations under a parent count. In the larger dialect those under `object` do not: a type without another parent is below
+-- whether declarations under a parent count. In the larger dialects those under `object` do not: a type without another parent is below
 -- `object` anyway (this validator's choice)
 unfoldable pub counts_as_parent : Dialect → List ℕ → Bool
 counts_as_parent Strips parent = true
 counts_as_parent Ipc parent = not (bytes_eq parent object_word)
+counts_as_parent Adl parent = not (bytes_eq parent object_word)
 
 -- a type is declared under a parent
 unfoldable pub declared_under : Dialect → TypeParents → List ℕ → List ℕ → Option TypeParents

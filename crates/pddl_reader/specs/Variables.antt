@@ -1,4 +1,4 @@
--- The types that variables may have, and the parameters of actions.
+-- The types that variables may have, and lists of variables.
 
 use Rattle.std.specs.Prelude.{ℕ, ◌+◌, ◌&&◌, nat_le, nat_lt, is_none, List, [], ◌∷◌, ◌++◌, length, map, Option, Some, None}
 use Rattle.std.specs.List.{position_from}
@@ -36,34 +36,34 @@ with_group_types types argument_types group =
 unfoldable pub argument_types_of : List (List ℕ) → List VariableGroup → Option (List (List ℕ))
 argument_types_of types groups = through (with_group_types types) [] groups
 
--- the parameters of an action: their names, and for each the types that it may have
-pub record Parameters : Type 0 where
+-- the variables of a list: their names, and for each the types that it may have
+pub record TypedVariables : Type 0 where
   pub names : List (List ℕ)
   pub types : List (List ℕ)
 
--- the number of a parameter by its name
-unfoldable pub parameter_number : List (List ℕ) → List ℕ → Option ℕ
-parameter_number names word = position_from (is_same_word word) 0 names
+-- the number of a variable by its name
+unfoldable pub variable_number : List (List ℕ) → List ℕ → Option ℕ
+variable_number names word = position_from (is_same_word word) 0 names
 
--- a parameter has a name of its own; there are no more parameters than the limit
-unfoldable pub parameter_named : List (List ℕ) → List ℕ → Option (List (List ℕ))
-parameter_named names word = guard (nat_lt (length names) most_variables && is_none (parameter_number names word)) (Some (names ++ word ∷ []))
+-- a variable has a name of its own in its list; there are no more variables than the limit
+unfoldable pub variable_named : List (List ℕ) → List ℕ → Option (List (List ℕ))
+variable_named names word = guard (nat_lt (length names) most_variables && is_none (variable_number names word)) (Some (names ++ word ∷ []))
 
--- the parameters with those of a group, if its variables and its types are declared correctly
-unfoldable pub parameters_with : Parameters → List (List ℕ) → Option (List (List ℕ)) → Option (List ℕ) → Option Parameters
-parameters_with parameters variables None types = None
-parameters_with parameters variables (Some names) None = None
-parameters_with parameters variables (Some names) (Some types) = Some (record { names = names; types = argument_types_with parameters.types variables types })
+-- the variables with those of a group, if these and their types are declared correctly
+unfoldable pub variables_with : TypedVariables → List (List ℕ) → Option (List (List ℕ)) → Option (List ℕ) → Option TypedVariables
+variables_with declared variables None types = None
+variables_with declared variables (Some names) None = None
+variables_with declared variables (Some names) (Some types) = Some (record { names = names; types = argument_types_with declared.types variables types })
 
--- the parameters with those of a group
-unfoldable pub group_named : List (List ℕ) → Parameters → VariableGroup → Option Parameters
-group_named types parameters group =
-    parameters_with parameters group.variables (through parameter_named parameters.names group.variables) (alternatives_of types group.types)
+-- the variables with those of a group
+unfoldable pub group_named : List (List ℕ) → TypedVariables → VariableGroup → Option TypedVariables
+group_named types declared group =
+    variables_with declared group.variables (through variable_named declared.names group.variables) (alternatives_of types group.types)
 
--- no parameters
-abbrev pub no_parameters : Parameters
-no_parameters = record { names = []; types = [] }
+-- no variables
+abbrev pub no_variables : TypedVariables
+no_variables = record { names = []; types = [] }
 
--- the parameters that groups declare
-unfoldable pub parameters_of : List (List ℕ) → List VariableGroup → Option Parameters
-parameters_of types groups = through (group_named types) no_parameters groups
+-- the variables that groups declare: the parameters of an action
+unfoldable pub variables_of : List (List ℕ) → List VariableGroup → Option TypedVariables
+variables_of types groups = through (group_named types) no_variables groups

@@ -1,5 +1,5 @@
 //! Reads PDDL domains and problems (PDDL 2.1, Fox and Long 2003, level 1): STRIPS with types, and negated conditions. With [`Dialect::Ipc`] also
-//! equality, and functions whose values actions add to `total-cost`.
+//! equality, and functions whose values actions add to `total-cost`; with [`Dialect::Adl`] also all conditions and effects of this level.
 //!
 //! ```text
 //! let seed = Seed::new(&RandomState::new(&rt)?);    // the hash of this run; no answer depends on it

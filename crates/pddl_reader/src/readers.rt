@@ -13,8 +13,8 @@ use plan_cost::CostedTask;
 use std::alloc::Global;
 use strips_task::{Seed, Task};
 
-/// Reads a domain (PDDL 2.1, Fox and Long 2003, appendix A). Walks over the text twice, over formulas and lists of variables three times, and
-/// looks up each name with one hash. The tables of the domain, and those of the task made from it, hash with the seed; the domain does not depend
+/// Reads a domain (PDDL 2.1, Fox and Long 2003, appendix A). Walks over the text twice, over lists of variables three times, and looks up
+/// each name with one hash. The tables of the domain, and those of the task made from it, hash with the seed; the domain does not depend
 /// on it.
 #[tactic(auto, using(crate::proofs::TextLemmas::default_steps))]
 pub fn read_domain(alloc: Global, seed: Seed, text: &[u8]) -> Result<Domain, ReadFault>
@@ -36,7 +36,8 @@ pub fn read_problem(alloc: Global, domain: Domain, text: &[u8]) -> Result<Task, 
 }
 
 /// Reads a domain as [`read_domain`] does, in a dialect. With [`Dialect::Ipc`] it may declare functions (PDDL 2.1, Fox and Long 2003,
-/// section 3): at most 4,096, each with at most 32 variables. `total-cost` has no variables, and an action may increase it up to 32 times.
+/// section 3): at most 4,096, each with at most 32 variables. `total-cost` has no variables, and an action may increase it up to 32 times. With
+/// [`Dialect::Adl`] a quantifier has at most 32 variables.
 #[tactic(auto, using(crate::proofs::TextLemmas::domain_text_steps))]
 pub fn read_domain_in(
     alloc: Global,

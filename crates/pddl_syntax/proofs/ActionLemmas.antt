@@ -11,7 +11,7 @@ use Rattle.pddl_syntax.specs.Heads.{action_part, scope_at}
 use Rattle.pddl_syntax.specs.Optional.{guard}
 use Rattle.pddl_syntax.specs.Forms.{parts_form}
 use Rattle.pddl_syntax.specs.Trees.{Trees, none, word, list}
-use Rattle.pddl_syntax.specs.Syntax.{VariableGroup, LiteralForm, ActionParts, first_list, typed_variables, formula_in, no_parts, with_parameters, with_precondition, with_effect, is_part_given, part_by, part_named, parts_of, action_form, action_of}
+use Rattle.pddl_syntax.specs.Syntax.{VariableGroup, FormulaForm, EffectForm, ActionParts, first_list, typed_variables, formula_in, effect_in, no_parts, with_parameters, with_precondition, with_effect, is_part_given, part_by, part_named, parts_of, action_form, action_of}
 
 pub is_some-option_map : {A B : Type 0} (f : A → B) (o : Option A) → is_some (option_map f o) ≡ is_some o
 is_some-option_map f None = refl
@@ -28,21 +28,21 @@ pub no_parameters_part : (dialect : Dialect) (given : ActionParts) (k : Trees) �
 unfolding part_by
 no_parameters_part dialect given k h = rw h refl
 
-pub precondition_part : (dialect : Dialect) (given : ActionParts) (k : Trees) (value : List LiteralForm) → formula_in (scope_at dialect context.Precondition) k ≡ Some value →
+pub precondition_part : (dialect : Dialect) (given : ActionParts) (k : Trees) (value : FormulaForm) → formula_in (scope_at dialect context.Condition) k ≡ Some value →
     part_by dialect Precondition given k ≡ Some (with_precondition given value)
 unfolding part_by
 precondition_part dialect given k value h = rw h refl
 
-pub no_precondition_part : (dialect : Dialect) (given : ActionParts) (k : Trees) → formula_in (scope_at dialect context.Precondition) k ≡ None → part_by dialect Precondition given k ≡ None
+pub no_precondition_part : (dialect : Dialect) (given : ActionParts) (k : Trees) → formula_in (scope_at dialect context.Condition) k ≡ None → part_by dialect Precondition given k ≡ None
 unfolding part_by
 no_precondition_part dialect given k h = rw h refl
 
-pub effect_part : (dialect : Dialect) (given : ActionParts) (k : Trees) (value : List LiteralForm) → formula_in (scope_at dialect context.Effect) k ≡ Some value →
+pub effect_part : (dialect : Dialect) (given : ActionParts) (k : Trees) (value : EffectForm) → effect_in (scope_at dialect context.Effect) k ≡ Some value →
     part_by dialect Effect given k ≡ Some (with_effect given value)
 unfolding part_by
 effect_part dialect given k value h = rw h refl
 
-pub no_effect_part : (dialect : Dialect) (given : ActionParts) (k : Trees) → formula_in (scope_at dialect context.Effect) k ≡ None → part_by dialect Effect given k ≡ None
+pub no_effect_part : (dialect : Dialect) (given : ActionParts) (k : Trees) → effect_in (scope_at dialect context.Effect) k ≡ None → part_by dialect Effect given k ≡ None
 unfolding part_by
 no_effect_part dialect given k h = rw h refl
 

@@ -37,7 +37,7 @@ variable_is_marked : (word : List ℕ) → is_variable word ≡ true → is_mark
 unfolding is_variable kind_of_word
 variable_is_marked word is = grind arith
 
-term_is_word : (word : List ℕ) → is_term context.Precondition word ≡ true → is_word word ≡ true
+term_is_word : (word : List ℕ) → is_term context.Condition word ≡ true → is_word word ≡ true
 unfolding is_term
 term_is_word word is =
     ⊎_elim (name_is_word word) (λ (variable : is_variable word ≡ true). marked_is_word word (variable_is_marked word variable))
@@ -46,7 +46,7 @@ term_is_word word is =
 terms_are_words : (words : List (List ℕ)) → are_terms words ≡ true → All (λ w. IsTrue (is_word w)) words
 terms_are_words [] are = All-nil (λ w. IsTrue (is_word w))
 terms_are_words (word ∷ words) are =
-    let (first, others) = and_parts (is_term context.Precondition word) (are_terms words) are in
+    let (first, others) = and_parts (is_term context.Condition word) (are_terms words) are in
     All-cons (λ w. IsTrue (is_word w)) word words (term_is_word word first) (terms_are_words words others)
 
 plain_by : (words : List (List ℕ)) → (is_name (atom_of_words words).predicate && are_terms (atom_of_words words).terms) ≡ true → All (λ w. IsTrue (is_word w)) words
@@ -67,16 +67,17 @@ first_of_atom_row row is = (and_parts (is_name (atom_spelled row).predicate) (ar
 -- a name may be a term anywhere
 pub name_is_term : (context : Context) (word : List ℕ) → is_name word ≡ true → is_term context word ≡ true
 unfolding is_term
-name_is_term context.Precondition word is = rw is refl
-name_is_term context.Effect word is = rw is refl
-name_is_term context.Initial word is = is
+name_is_term context.Condition word is = rw is refl
 name_is_term context.Goal word is = is
+name_is_term context.Effect word is = rw is refl
+name_is_term context.InnerEffect word is = rw is refl
+name_is_term context.Initial word is = is
 
 names_are_terms : (words : List (List ℕ)) → list_all is_name words ≡ true → are_terms words ≡ true
 names_are_terms [] names = refl
 names_are_terms (word ∷ words) names =
     let (first, others) = and_parts (is_name word) (list_all is_name words) names in
-    rw (name_is_term context.Precondition word first, names_are_terms words others) refl
+    rw (name_is_term context.Condition word first, names_are_terms words others) refl
 
 names_by : (words : List (List ℕ)) → words ≢ [] → list_all is_name words ≡ true → (is_name (atom_of_words words).predicate && are_terms (atom_of_words words).terms) ≡ true
 names_by [] some names = absurd (some refl)

@@ -17,7 +17,7 @@ use Rattle.pddl_syntax.specs.Optional.{guard}
 use Rattle.pddl_syntax.specs.Forms.{predicate_form, predicate_forms, action_syntax_form, action_forms, domain_sections_form}
 use Rattle.pddl_syntax.specs.Trees.{Trees, none, word, list}
 use Rattle.pddl_syntax.specs.Syntax.{NameGroup, VariableGroup, typed_variables, PredicateForm, ActionForm, DomainForm, DomainSections, ended, keywords_of, typed_names, with_requirements, with_types, with_constants, end_of, first_list, behind_word, header_of, lists_of, predicate_of, predicate_in, action_of, no_domain_sections, functions_of, with_predicates, with_functions, with_action, is_domain_section_given, domain_section_by, domain_section_headed, domain_section_in, domain_sections_of, domain_form, domain_by, domain_body, domain_in, domain_syntax}
-use Rattle.pddl_syntax.proofs.FormulaLemmas.{head_is_name}
+use Rattle.pddl_syntax.proofs.AtomLemmas.{head_is_name}
 use Rattle.pddl_syntax.proofs.ListsOf.{lists_steps}
 
 pub predicate_untyped : (w : List ℕ) (f : Trees) → typed_variables [] f ≡ None → predicate_of w f ≡ None

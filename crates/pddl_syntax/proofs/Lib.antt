@@ -4,7 +4,9 @@ pub mod MarkLemmas
 mod BlockLemmas
 pub mod LevelLemmas
 pub mod ListLemmas
+pub mod AtomLemmas
 pub mod FormulaLemmas
+pub mod EffectLemmas
 pub mod ActionLemmas
 pub mod ListsOf
 pub mod Guards
@@ -17,10 +19,9 @@ pub mod TextLemmas
 pub mod Spelling
 pub mod Balanced
 pub mod Ahead
-pub mod LiteralLemmas
+pub mod InitialLemmas
 pub mod Memory
 pub mod FunctionLemmas
-pub mod KnownLemmas
 pub mod DialectLaws
 pub mod AtomRows
 pub mod RowLemmas

@@ -1,6 +1,6 @@
 -- The definitions of problems, one equation for each case.
 
-use Rattle.std.proofs.Common.{◌≡◌, ℕ, ◌&&◌, Bool, true, false, List, [], Option, Some, None, is_some, unwrap_or, refl}
+use Rattle.std.proofs.Common.{◌≡◌, ℕ, Bool, true, false, List, [], Option, Some, None, unwrap_or, refl}
 use Rattle.std.specs.Global.{Vec}
 use Rattle.std.specs.Option.{option_map, option_and_then}
 use Rattle.pddl_syntax.specs.declared.dialect.Dialect.{Dialect}
@@ -11,77 +11,16 @@ use Rattle.pddl_syntax.specs.declared.syntax.NameGroup as groups
 use Rattle.pddl_syntax.specs.declared.walk.NameWord.{NameWord}
 use Rattle.pddl_syntax.specs.Heads.{problem_section, scope_at}
 use Rattle.pddl_syntax.specs.Keywords.{define_word, problem_word}
-use Rattle.pddl_syntax.specs.Optional.{guard, followed_by}
+use Rattle.pddl_syntax.specs.Optional.{guard}
 use Rattle.pddl_syntax.specs.Forms.{name_groups, problem_sections_form}
 use Rattle.pddl_syntax.specs.Trees.{Trees, none, word, list}
-use Rattle.pddl_syntax.specs.Syntax.{NameGroup, keywords_of, typed_names, with_problem_requirements, with_objects, with_metric, with_length, LiteralForm, ProblemForm, ProblemSections, ended, end_of, first_list, behind_word, lone_name, header_of, lists_of, init_item_in, formula_in, goal_of, no_problem_sections, with_domain, with_init, with_goal, is_problem_section_given, problem_section_by, problem_section_headed, problem_section_in, problem_sections_of, problem_form, problem_by, problem_body, problem_in, problem_syntax}
-use Rattle.pddl_syntax.specs.Presence.{is_literal, is_init_item, are_initial}
+use Rattle.pddl_syntax.specs.Syntax.{NameGroup, keywords_of, typed_names, with_problem_requirements, with_objects, with_metric, with_length, InitialForm, FormulaForm, ProblemForm, ProblemSections, ended, end_of, first_list, behind_word, lone_name, header_of, initial_in, lone_formula, goal_of, no_problem_sections, with_domain, with_init, with_goal, is_problem_section_given, problem_section_by, problem_section_headed, problem_section_in, problem_sections_of, problem_form, problem_by, problem_body, problem_in, problem_syntax}
 
-pub init_item_none : (dialect : Dialect) → is_init_item dialect none ≡ false
-unfolding is_init_item init_item_in
-init_item_none dialect = refl
+pub goal_lone : (dialect : Dialect) (f : Trees) → goal_of dialect f ≡ lone_formula (scope_at dialect context.Goal) f
+unfolding goal_of
+goal_lone dialect f = refl
 
-pub init_item_list : (dialect : Dialect) (k f : Trees) → is_init_item dialect (list k f) ≡ false
-unfolding is_init_item init_item_in
-init_item_list dialect k f = refl
-
-pub init_item_word : (dialect : Dialect) (w : List ℕ) (f : Trees) → is_init_item dialect (word w f) ≡ is_literal (scope_at dialect context.Initial) w f
-unfolding is_init_item is_literal init_item_in
-init_item_word dialect w f = refl
-
-pub ruleset init_item_steps = (init_item_none, init_item_list, init_item_word)
-
-is_some-followed_by : (item : Option LiteralForm) (others : Option (List LiteralForm)) → is_some (followed_by item others) ≡ is_some item && is_some others
-unfolding followed_by
-is_some-followed_by None others = refl
-is_some-followed_by (Some l) None = refl
-is_some-followed_by (Some l) (Some ls) = refl
-
-initial_list : (dialect : Dialect) (k f : Trees) → are_initial dialect (list k f) ≡ is_init_item dialect k && are_initial dialect f
-unfolding are_initial is_init_item lists_of
-initial_list dialect k f = is_some-followed_by (init_item_in dialect k) (lists_of (init_item_in dialect) f)
-
-pub initial_end : (dialect : Dialect) → are_initial dialect none ≡ true
-unfolding are_initial lists_of
-initial_end dialect = refl
-
-pub initial_word : (dialect : Dialect) (w : List ℕ) (f : Trees) → are_initial dialect (word w f) ≡ false
-unfolding are_initial lists_of
-initial_word dialect w f = refl
-
-pub initial_first : (dialect : Dialect) (k f : Trees) → is_init_item dialect k ≡ true → are_initial dialect (list k f) ≡ are_initial dialect f
-initial_first dialect k f h = rw (initial_list dialect k f, h) refl
-
-pub initial_no_first : (dialect : Dialect) (k f : Trees) → is_init_item dialect k ≡ false → are_initial dialect (list k f) ≡ false
-initial_no_first dialect k f h = rw (initial_list dialect k f, h) refl
-
-pub ruleset init_steps = (initial_end, initial_word, initial_first, initial_no_first)
-
-pub goal_no_list : (dialect : Dialect) (f : Trees) → first_list f ≡ None → goal_of dialect f ≡ None
-unfolding goal_of first_list
-goal_no_list dialect none h = refl
-goal_no_list dialect (word w f) h = refl
-goal_no_list dialect (list k f) h = cc
-
-pub goal_refused : (dialect : Dialect) (k f : Trees) → formula_in (scope_at dialect context.Goal) k ≡ None → goal_of dialect (list k f) ≡ None
-unfolding goal_of ended
-goal_refused dialect k none h = h
-goal_refused dialect k (word w f) h = refl
-goal_refused dialect k (list j f) h = refl
-
-pub goal_more : (dialect : Dialect) (k f : Trees) → end_of f ≡ None → goal_of dialect (list k f) ≡ None
-unfolding goal_of end_of ended
-goal_more dialect k none h = cc
-goal_more dialect k (word w f) h = refl
-goal_more dialect k (list j f) h = refl
-
-pub goal_alone : (dialect : Dialect) (k f : Trees) → end_of f ≡ Some tt → goal_of dialect (list k f) ≡ formula_in (scope_at dialect context.Goal) k
-unfolding goal_of end_of ended
-goal_alone dialect k none h = refl
-goal_alone dialect k (word w f) h = cc
-goal_alone dialect k (list j f) h = cc
-
-pub ruleset goal_steps = (goal_no_list, goal_refused, goal_more, goal_alone)
+pub ruleset goal_steps = (goal_lone)
 
 pub domain_body : (dialect : Dialect) (given : ProblemSections) (k : Trees) (value : List ℕ) → lone_name k ≡ Some value →
     problem_section_by dialect Domain given k ≡ Some (with_domain given value)
@@ -117,16 +56,16 @@ pub length_body : (dialect : Dialect) (given : ProblemSections) (k : Trees) → 
 unfolding problem_section_by
 length_body dialect given k = refl
 
-pub init_body : (dialect : Dialect) (given : ProblemSections) (k : Trees) (value : List LiteralForm) → lists_of (init_item_in dialect) k ≡ Some value →
+pub init_body : (dialect : Dialect) (given : ProblemSections) (k : Trees) (value : List InitialForm) → initial_in dialect k ≡ Some value →
     problem_section_by dialect Init given k ≡ Some (with_init given value)
 unfolding problem_section_by
 init_body dialect given k value h = rw h refl
 
-pub no_init_body : (dialect : Dialect) (given : ProblemSections) (k : Trees) → lists_of (init_item_in dialect) k ≡ None → problem_section_by dialect Init given k ≡ None
+pub no_init_body : (dialect : Dialect) (given : ProblemSections) (k : Trees) → initial_in dialect k ≡ None → problem_section_by dialect Init given k ≡ None
 unfolding problem_section_by
 no_init_body dialect given k h = rw h refl
 
-pub goal_body : (dialect : Dialect) (given : ProblemSections) (k : Trees) (value : List LiteralForm) → goal_of dialect k ≡ Some value →
+pub goal_body : (dialect : Dialect) (given : ProblemSections) (k : Trees) (value : FormulaForm) → goal_of dialect k ≡ Some value →
     problem_section_by dialect Goal given k ≡ Some (with_goal given value)
 unfolding problem_section_by
 goal_body dialect given k value h = rw h refl
@@ -241,19 +180,19 @@ pub by_no_sections : (name : List ℕ) → problem_by (Some name) None ≡ None
 unfolding problem_by
 by_no_sections name = refl
 
-pub by_no_domain : (name : List ℕ) (r m l : Bool) (objects : Option (Vec groups.NameGroup)) (init goal : Option (List LiteralForm)) →
+pub by_no_domain : (name : List ℕ) (r m l : Bool) (objects : Option (Vec groups.NameGroup)) (init : Option (List InitialForm)) (goal : Option FormulaForm) →
     problem_by (Some name) (Some (problem_sections_form
     (record { domain = None; requirements = r; objects = objects; init = init; goal = goal; metric = m; length = l }))) ≡ None
 unfolding problem_by problem_sections_form problem_form
 by_no_domain name r m l objects init goal = refl
 
-pub by_no_goal : (name : List ℕ) (r m l : Bool) (domain : NameWord) (objects : Option (Vec groups.NameGroup)) (init : Option (List LiteralForm)) →
+pub by_no_goal : (name : List ℕ) (r m l : Bool) (domain : NameWord) (objects : Option (Vec groups.NameGroup)) (init : Option (List InitialForm)) →
     problem_by (Some name) (Some (problem_sections_form
     (record { domain = Some domain; requirements = r; objects = objects; init = init; goal = None; metric = m; length = l }))) ≡ None
 unfolding problem_by problem_sections_form problem_form
 by_no_goal name r m l domain objects init = refl
 
-pub by_all : (name : List ℕ) (r m l : Bool) (domain : NameWord) (objects : Option (Vec groups.NameGroup)) (init : Option (List LiteralForm)) (goal : List LiteralForm) →
+pub by_all : (name : List ℕ) (r m l : Bool) (domain : NameWord) (objects : Option (Vec groups.NameGroup)) (init : Option (List InitialForm)) (goal : FormulaForm) →
     problem_by (Some name) (Some (problem_sections_form
     (record { domain = Some domain; requirements = r; objects = objects; init = init; goal = Some goal; metric = m; length = l })))
     ≡ Some (record {

@@ -1,6 +1,6 @@
 -- Atoms that are written as words with a single space between each two.
 
-use Rattle.std.proofs.Common.{◌≡◌, ◌≢◌, ℕ, suc, ◌+◌, ◌<◌, ◌++◌, Bool, true, false, List, [], ◌∷◌, take, length, Option, Some, None, IsSome, refl, sym, ap, ◌∙◌, subst, arith, unwrap_or}
+use Rattle.std.proofs.Common.{◌≡◌, ◌≢◌, ℕ, suc, ◌+◌, ◌<◌, ◌++◌, Bool, true, false, List, [], ◌∷◌, take, length, Option, Some, None, IsSome, is_some, refl, sym, ap, ◌∙◌, subst, arith, unwrap_or}
 use Rattle.std.specs.Prelude.{not, ◌&&◌, if◌then◌else◌}
 use Rattle.std.specs.List.{list_all, onto_first, prefix_len}
 use Rattle.std.specs.Option.{option_map}
@@ -20,23 +20,20 @@ use Rattle.pddl_syntax.specs.declared.heads.Context.{Context}
 use Rattle.pddl_syntax.specs.declared.heads.Context.TheVariants as context
 use Rattle.pddl_syntax.specs.declared.heads.FormulaHead.{FormulaHead}
 use Rattle.pddl_syntax.specs.declared.heads.FormulaHead.TheVariants as formula
-use Rattle.pddl_syntax.specs.declared.heads.LiteralHead.TheVariants as head
+use Rattle.pddl_syntax.specs.declared.heads.ListHead.TheVariants as head
 use Rattle.pddl_syntax.specs.declared.heads.Scope.{Scope}
-use Rattle.pddl_syntax.specs.Heads.{formula_head, has_changes, is_and, literal_head, is_term, scope_at}
+use Rattle.pddl_syntax.specs.Heads.{formula_head, has_changes, has_functions, is_term, list_head, scope_at}
 use Rattle.pddl_syntax.specs.Keywords.{is_change}
 use Rattle.pddl_syntax.specs.Levels.{Levels, levels, or_end, here}
 use Rattle.pddl_syntax.specs.Optional.{followed_by, guard}
 use Rattle.pddl_syntax.specs.Rows.{AreNames, ComesNext, PassesAtom, PassesRow, is_in_word, is_name_head, atom_of_words, atom_spelled, heads_atom, word_trees}
 use Rattle.pddl_syntax.specs.Sizes.{size, sizes, ahead}
-use Rattle.pddl_syntax.specs.Syntax.{LiteralForm, alone, atom_literal, atom_of, atom_with, conjuncts_of, end_of, formula_in, literal_of, words_of}
-use Rattle.pddl_syntax.specs.Presence.{are_conjuncts, are_initial, are_words, is_formula, is_init_item, is_literal, is_negated, is_negated_in}
-use Rattle.pddl_syntax.specs.Remaining.{literals_in, remaining}
+use Rattle.pddl_syntax.specs.Syntax.{InitialForm, initial_atom, are_initial, is_init_item, atom_of, atom_with, init_item_in, initial_in, words_of}
 use Rattle.pddl_syntax.specs.Trees.{Trees, word, list, begins_with_list}
 use Rattle.pddl_syntax.proofs.AtomRows.{first_of_atom_row, name_is_term, names_are_atom_row}
-use Rattle.pddl_syntax.proofs.FormulaLemmas.{conjuncts_first, formula_literal, literal_atom, negated_alone, negated_in_atom, negated_more, words_end, words_word}
+use Rattle.pddl_syntax.proofs.AtomLemmas.{atom_some}
+use Rattle.pddl_syntax.proofs.InitialLemmas.{first_of_list, initial_first, item_atom_some, item_there, next_one}
 use Rattle.pddl_syntax.proofs.LevelLemmas.{some_behind_token}
-use Rattle.pddl_syntax.proofs.ProblemLemmas.{init_item_word, initial_first}
-use Rattle.pddl_syntax.proofs.LiteralLemmas.{conjuncts_left, is_first, is_second, literal_joined, next_one, one_left}
 
 first_of_parts : (b : ℕ) (bytes : List ℕ) (parts : List (List ℕ)) → parts ≢ [] → take (prefix_len is_in_word bytes) bytes ≡ (atom_of_words parts).predicate → b ∷ take (prefix_len is_in_word bytes) bytes ≡ (atom_of_words (onto_first b parts)).predicate
 first_of_parts b bytes [] some is = absurd (some refl)
@@ -112,12 +109,12 @@ read_whole test (w ∷ words) some = by (test w) (words_of test (word_trees word
     by true (Some others) whole some = cc (whole refl)
     by false read whole some = cc
 
-names_pass : (context : Context) (words : List (List ℕ)) → list_all is_name words ≡ true → are_words (is_term context) (word_trees words) ≡ true
-unfolding word_trees
-names_pass context [] names = words_end (is_term context)
-names_pass context (w ∷ words) names =
+names_read : (context : Context) (words : List (List ℕ)) → list_all is_name words ≡ true → words_of (is_term context) (word_trees words) ≡ Some words
+unfolding word_trees words_of guard followed_by
+names_read context [] names = refl
+names_read context (w ∷ words) names =
     let (first, others) = and_parts (is_name w) (list_all is_name words) names in
-    words_word (is_term context) w (word_trees words) (name_is_term context w first) ∙ names_pass context words others
+    rw (name_is_term context w first, names_read context words others) refl
 
 no_list_first : (words : List (List ℕ)) → begins_with_list (word_trees words) ≡ false
 unfolding begins_with_list word_trees
@@ -137,122 +134,83 @@ no_change true false = refl
 no_change true true = refl
 
 -- a name that is not reserved heads an atom, if no list follows
-heads_by : (scope : Scope) (w : List ℕ) (terms : List (List ℕ)) → formula_head w ≡ formula.Name → literal_head scope w (begins_with_list (word_trees terms)) ≡ head.Atom
-unfolding literal_head
-heads_by scope w terms is = rw (no_list_first terms, is, no_change (has_changes scope.dialect scope.context) (is_change w)) refl
-
-no_and : (w : List ℕ) → formula_head w ≡ formula.Name → is_and w ≡ false
-unfolding is_and formula_head
-no_and w is = grind arith
-
--- names whose first is not reserved are a literal wherever there may be one
-names_spell : (scope : Scope) (w : List ℕ) (terms : List (List ℕ)) → formula_head w ≡ formula.Name → list_all is_name terms ≡ true → is_literal scope w (word_trees terms) ≡ true
-names_spell scope w terms is names = literal_atom scope w (word_trees terms) (heads_by scope w terms is) ∙ names_pass scope.context terms names
+heads_by : (scope : Scope) (w : List ℕ) (terms : List (List ℕ)) → formula_head w ≡ formula.Name → list_head scope w (begins_with_list (word_trees terms)) ≡ head.Atom
+unfolding list_head
+heads_by scope w terms is = rw (no_list_first terms, is, no_change (has_functions scope.dialect && has_changes scope.context) (is_change w)) refl
 
 item_by : (dialect : Dialect) (words : List (List ℕ)) → words ≢ [] → is_name_head (formula_head (atom_of_words words).predicate) ≡ true → list_all is_name words ≡ true → is_init_item dialect (word_trees words) ≡ true
-unfolding word_trees
+unfolding word_trees is_init_item
 item_by dialect [] some heads names = absurd (some refl)
 item_by dialect (w ∷ words) some heads names =
     let (_, others) = and_parts (is_name w) (list_all is_name words) names in
-    init_item_word dialect w (word_trees words)
-    ∙ names_spell (scope_at dialect context.Initial) w words (name_by_head (formula_head w) heads) others
-
-formula_by : (scope : Scope) (words : List (List ℕ)) → words ≢ [] → is_name_head (formula_head (atom_of_words words).predicate) ≡ true → list_all is_name words ≡ true → is_formula scope (word_trees words) ≡ true
-unfolding word_trees
-formula_by scope [] some heads names = absurd (some refl)
-formula_by scope (w ∷ words) some heads names =
-    let (_, others) = and_parts (is_name w) (list_all is_name words) names in
-    let is = name_by_head (formula_head w) heads in
-    formula_literal scope w (word_trees words) (no_and w is) ∙ names_spell scope w words is others
-
-negated_by : (scope : Scope) (words : List (List ℕ)) → words ≢ [] → is_name_head (formula_head (atom_of_words words).predicate) ≡ true → list_all is_name words ≡ true → is_negated_in scope (word_trees words) ≡ true
-unfolding word_trees
-negated_by scope [] some heads names = absurd (some refl)
-negated_by scope (w ∷ words) some heads names =
-    let (_, others) = and_parts (is_name w) (list_all is_name words) names in
-    negated_in_atom scope w (word_trees words) (heads_by scope w words (name_by_head (formula_head w) heads)) ∙ names_pass scope.context words others
+    let found = names_read context.Initial words others in
+    let head = heads_by (scope_at dialect context.Initial) w words (name_by_head (formula_head w) heads) in
+    let atom : atom_of (is_term context.Initial) w (word_trees words) ≡ Some (atom_with w words) = atom_some (is_term context.Initial) w (word_trees words) words found in
+    ap is_some (item_atom_some dialect w (word_trees words) (atom_with w words) head atom)
 
 -- a row of names that heads an atom is an initial atom
 row_is_item : (dialect : Dialect) (row : List ℕ) → heads_atom row ≡ true → AreNames row → is_init_item dialect (word_trees (spaced.words_of row)) ≡ true
 unfolding heads_atom atom_spelled
 row_is_item dialect row heads names = item_by dialect (spaced.words_of row) (row_has_words row) heads names
 
--- and it is a formula too
-row_is_formula : (scope : Scope) (row : List ℕ) → heads_atom row ≡ true → AreNames row → is_formula scope (word_trees (spaced.words_of row)) ≡ true
-unfolding heads_atom atom_spelled
-row_is_formula scope row heads names = formula_by scope (spaced.words_of row) (row_has_words row) heads names
-
--- and `not` may negate it
-row_is_negated : (scope : Scope) (row : List ℕ) → heads_atom row ≡ true → AreNames row → is_negated_in scope (word_trees (spaced.words_of row)) ≡ true
-unfolding heads_atom atom_spelled
-row_is_negated scope row heads names = negated_by scope (spaced.words_of row) (row_has_words row) heads names
-
--- a formula of words whose first word heads an atom has that atom, if the others may be its terms
-formula_read : (scope : Scope) (w : List ℕ) (terms : List (List ℕ)) → formula_head w ≡ formula.Name → formula_in scope (word w (word_trees terms)) ≡
-    option_map alone (option_map (atom_literal true) (option_map (atom_with w) (words_of (is_term scope.context) (word_trees terms))))
-unfolding formula_in literal_of atom_of
-formula_read scope w terms is = rw (no_and w is, heads_by scope w terms is) refl
-
 some_mapped : {A B : Type 0} (f : A → B) (read : Option A) → IsSome (option_map f read) → IsSome read
 some_mapped f None some = cc
 some_mapped f (Some x) some = refl
 
-words_spell : (scope : Scope) (words : List (List ℕ)) → words ≢ [] → is_name_head (formula_head (atom_of_words words).predicate) ≡ true → IsSome (formula_in scope (word_trees words)) → formula_in scope (word_trees words) ≡ Some (atom_literal true (atom_of_words words) ∷ [])
+-- an initial atom of words whose first word heads an atom has that atom, if the others may be its terms
+item_read : (dialect : Dialect) (w : List ℕ) (terms : List (List ℕ)) → formula_head w ≡ formula.Name → init_item_in dialect (word w (word_trees terms)) ≡
+    option_map (initial_atom true) (option_map (atom_with w) (words_of (is_term context.Initial) (word_trees terms)))
+unfolding init_item_in atom_of
+item_read dialect w terms is = rw (heads_by (scope_at dialect context.Initial) w terms is) refl
+
+words_spell : (dialect : Dialect) (words : List (List ℕ)) → words ≢ [] → is_name_head (formula_head (atom_of_words words).predicate) ≡ true →
+    IsSome (init_item_in dialect (word_trees words)) → init_item_in dialect (word_trees words) ≡ Some (initial_atom true (atom_of_words words))
 unfolding word_trees
-words_spell scope [] some heads there = absurd (some refl)
-words_spell scope (w ∷ terms) some heads there =
-    let read = words_of (is_term scope.context) (word_trees terms) in
-    let is = formula_read scope w terms (name_by_head (formula_head w) heads) in
-    let literal : IsSome (option_map (atom_literal true) (option_map (atom_with w) read)) = some_mapped alone _ (subst IsSome is there) in
-    let whole : read ≡ Some terms = read_whole (is_term scope.context) terms (some_mapped (atom_with w) read (some_mapped (atom_literal true) _ literal)) in
-    is ∙ ap (λ (found : Option (List (List ℕ))). option_map alone (option_map (atom_literal true) (option_map (atom_with w) found))) whole
+words_spell dialect [] some heads there = absurd (some refl)
+words_spell dialect (w ∷ terms) some heads there =
+    let read = words_of (is_term context.Initial) (word_trees terms) in
+    let is = item_read dialect w terms (name_by_head (formula_head w) heads) in
+    let atom : IsSome (option_map (initial_atom true) (option_map (atom_with w) read)) = subst IsSome is there in
+    let whole : read ≡ Some terms = read_whole (is_term context.Initial) terms (some_mapped (atom_with w) read (some_mapped (initial_atom true) _ atom)) in
+    is ∙ ap (λ (found : Option (List (List ℕ))). option_map (initial_atom true) (option_map (atom_with w) found)) whole
 
--- a row that heads an atom spells it, if it is a formula
-row_spells : (scope : Scope) (row : List ℕ) → heads_atom row ≡ true → IsSome (formula_in scope (word_trees (spaced.words_of row))) → formula_in scope (word_trees (spaced.words_of row)) ≡ Some (atom_literal true (atom_spelled row) ∷ [])
+-- a row that heads an atom spells it, if it is an initial atom
+row_spells : (dialect : Dialect) (row : List ℕ) → heads_atom row ≡ true → IsSome (init_item_in dialect (word_trees (spaced.words_of row))) →
+    init_item_in dialect (word_trees (spaced.words_of row)) ≡ Some (initial_atom true (atom_spelled row))
 unfolding heads_atom atom_spelled
-row_spells scope row heads there = words_spell scope (spaced.words_of row) (row_has_words row) heads there
-
--- a formula of one literal has the first of the literals that are left
-first_literal : (scope : Scope) (k f : Trees) (l : LiteralForm) → (IsSome (formula_in scope k) → formula_in scope k ≡ Some (l ∷ [])) → IsSome (conjuncts_of scope (list k f)) → conjuncts_of scope (list k f) ≡ followed_by (Some l) (literals_in scope f)
-unfolding conjuncts_of
-first_literal scope k f l is some =
-    let here = is (is_first (formula_in scope k) (conjuncts_of scope f) some) in
-    let there = is_second (formula_in scope k) (conjuncts_of scope f) some in
-    rw (here, conjuncts_left scope f there) (literal_joined l (conjuncts_of scope f))
+row_spells dialect row heads there = words_spell dialect (spaced.words_of row) (row_has_words row) heads there
 
 -- what is left after a row is what is left before it, but for the atom that the row spells
-row_left : (scope : Scope) (row : List ℕ) (old new : Levels) → heads_atom row ≡ true → PassesRow row old new → IsSome (remaining scope 1 old) → remaining scope 1 old ≡ followed_by (Some (atom_literal true (atom_spelled row))) (remaining scope 1 new)
-unfolding literals_in
-row_left scope row old new heads passes some =
+row_left : (dialect : Dialect) (row : List ℕ) (old new : Levels) → heads_atom row ≡ true → PassesRow row old new → IsSome (initial_in dialect old.top) →
+    initial_in dialect old.top ≡ followed_by (Some (initial_atom true (atom_spelled row))) (initial_in dialect new.top)
+row_left dialect row old new heads passes some =
     let k = word_trees (spaced.words_of row) in
-    let l = atom_literal true (atom_spelled row) in
-    let here_old : remaining scope 1 old ≡ conjuncts_of scope (list k new.top) = one_left scope old.top old.below ∙ ap (literals_in scope) passes.0 in
-    let there : IsSome (conjuncts_of scope (list k new.top)) = subst IsSome here_old some in
-    here_old ∙ first_literal scope k new.top l (row_spells scope row heads) there ∙ ap (followed_by (Some l)) (sym (one_left scope new.top new.below))
+    let there : IsSome (initial_in dialect (list k new.top)) = subst (λ (f : Trees). IsSome (initial_in dialect f)) passes.0 some in
+    let item = row_spells dialect row heads (item_there dialect k new.top there) in
+    ap (initial_in dialect) passes.0 ∙ first_of_list dialect k new.top ∙ ap (λ (item : Option InitialForm). followed_by item (initial_in dialect new.top)) item
 
-left_after : (l : LiteralForm) (old new : Option (List LiteralForm)) → old ≡ followed_by (Some l) new → IsSome old → IsSome new
+left_after : (i : InitialForm) (old new : Option (List InitialForm)) → old ≡ followed_by (Some i) new → IsSome old → IsSome new
 unfolding followed_by
-left_after l old None is some = cc
-left_after l old (Some ls) is some = refl
+left_after i old None is some = cc
+left_after i old (Some is) same some = refl
 
--- there are literals after a row
-pub row_goes_on : (scope : Scope) (row : List ℕ) (old new : Levels) → heads_atom row ≡ true → PassesRow row old new → IsSome (remaining scope 1 old) → IsSome (remaining scope 1 new)
-row_goes_on scope row old new heads passes some =
-    left_after _ (remaining scope 1 old) _ (row_left scope row old new heads passes some) some
+-- there are initial atoms after a row
+pub row_goes_on : (dialect : Dialect) (row : List ℕ) (old new : Levels) → heads_atom row ≡ true → PassesRow row old new → IsSome (initial_in dialect old.top) → IsSome (initial_in dialect new.top)
+row_goes_on dialect row old new heads passes some =
+    left_after _ (initial_in dialect old.top) _ (row_left dialect row old new heads passes some) some
 
--- a row is the first of the literals
-pub row_first : (scope : Scope) (row : List ℕ) (old new : Levels) → heads_atom row ≡ true → PassesRow row old new → IsSome (remaining scope 1 old) → unwrap_or (remaining scope 1 old) [] ≡ atom_literal true (atom_spelled row) ∷ unwrap_or (remaining scope 1 new) []
-row_first scope row old new heads passes some =
-    next_one _ (remaining scope 1 old) _ some (row_left scope row old new heads passes some)
+-- a row is the first of the initial atoms
+pub row_first : (dialect : Dialect) (row : List ℕ) (old new : Levels) → heads_atom row ≡ true → PassesRow row old new → IsSome (initial_in dialect old.top) →
+    unwrap_or (initial_in dialect old.top) [] ≡ initial_atom true (atom_spelled row) ∷ unwrap_or (initial_in dialect new.top) []
+row_first dialect row old new heads passes some =
+    next_one _ (initial_in dialect old.top) _ some (row_left dialect row old new heads passes some)
 
--- a row of names is an initial atom in every dialect, and a formula, or negated in one, wherever there may be one
+-- a row of names is an initial atom in every dialect
 pub passes_atom : (row : List ℕ) (old new : Levels) → heads_atom row ≡ true → AreNames row → PassesRow row old new → PassesAtom old new
 passes_atom row old new heads names passes = record {
   inside = word_trees (spaced.words_of row);
   first = passes.0;
   atom = λ dialect. row_is_item dialect row heads names;
-  formula = λ scope. row_is_formula scope row heads names;
-  negated = λ scope. row_is_negated scope row heads names;
   below = passes.1;
 }
 
@@ -266,21 +224,10 @@ pub ruleset row_steps = (names_passed, names_are_plain)
 pub atom_passed : (dialect : Dialect) (old new : Levels) → PassesAtom old new → are_initial dialect old.top ≡ are_initial dialect new.top
 atom_passed dialect old new passes = ap (are_initial dialect) passes.first ∙ initial_first dialect passes.inside new.top (passes.atom dialect)
 
-pub conjunct_passed : (scope : Scope) (old new : Levels) → PassesAtom old new → are_conjuncts scope old.top ≡ are_conjuncts scope new.top
-conjunct_passed scope old new passes = ap (are_conjuncts scope) passes.first ∙ conjuncts_first scope passes.inside new.top (passes.formula scope)
-
 pub smaller_after : (old new : Levels) → PassesAtom old new → size new.top < size old.top
 smaller_after old new passes = omega (arith, ap size passes.first)
-
-pub ruleset atom_steps = (atom_passed, conjunct_passed, smaller_after)
-
-pub negation_more : (scope : Scope) (old new : Levels) → PassesAtom old new → end_of new.top ≡ None → is_negated scope old.top ≡ false
-negation_more scope old new passes more = ap (is_negated scope) passes.first ∙ negated_more scope passes.inside new.top more
-
-pub negation_alone : (scope : Scope) (old new : Levels) → PassesAtom old new → end_of new.top ≡ Some tt → is_negated scope old.top ≡ true
-negation_alone scope old new passes ends = ap (is_negated scope) passes.first ∙ negated_alone scope passes.inside new.top ends ∙ passes.negated scope
 
 pub below_passed : (old new : Levels) → PassesAtom old new → new.below ≡ old.below
 below_passed old new passes = passes.below
 
-pub ruleset negation_steps = (negation_more, negation_alone, below_passed)
+pub ruleset atom_steps = (atom_passed, smaller_after, below_passed)

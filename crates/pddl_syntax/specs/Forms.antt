@@ -9,8 +9,8 @@ use Rattle.pddl_syntax.specs.declared.syntax.EqualitySyntax.{EqualitySyntax}
 use Rattle.pddl_syntax.specs.declared.syntax.AmountSyntax.{AmountSyntax}
 use Rattle.pddl_syntax.specs.declared.syntax.AmountSyntax.TheVariants as amounts
 use Rattle.pddl_syntax.specs.declared.syntax.ValueSyntax.{ValueSyntax}
-use Rattle.pddl_syntax.specs.declared.syntax.LiteralSyntax.{LiteralSyntax}
-use Rattle.pddl_syntax.specs.declared.syntax.LiteralSyntax.TheVariants as literals
+use Rattle.pddl_syntax.specs.declared.syntax.InitialSyntax.{InitialSyntax}
+use Rattle.pddl_syntax.specs.declared.syntax.InitialSyntax.TheVariants as initials
 use Rattle.pddl_syntax.specs.declared.syntax.PredicateSyntax.{PredicateSyntax}
 use Rattle.pddl_syntax.specs.declared.syntax.NameGroup as groups
 use Rattle.pddl_syntax.specs.declared.syntax.VariableGroup as variables
@@ -20,7 +20,7 @@ use Rattle.pddl_syntax.specs.declared.syntax.DomainSections as domain
 use Rattle.pddl_syntax.specs.declared.syntax.DomainSyntax.{DomainSyntax}
 use Rattle.pddl_syntax.specs.declared.syntax.ProblemSections as problem
 use Rattle.pddl_syntax.specs.declared.syntax.ProblemSyntax.{ProblemSyntax}
-use Rattle.pddl_syntax.specs.Syntax.{NameGroup, VariableGroup, AtomForm, EqualityForm, AmountForm, number_amount, function_amount, ValueForm, LiteralForm, atom_literal, equality_literal, increase_literal, value_literal, PredicateForm, ActionForm, ActionParts, DomainForm, DomainSections, ProblemForm, ProblemSections, action_form, domain_form}
+use Rattle.pddl_syntax.specs.Syntax.{NameGroup, VariableGroup, AtomForm, EqualityForm, AmountForm, number_amount, function_amount, ValueForm, InitialForm, initial_atom, initial_value, conjunction, no_formulas, PredicateForm, ActionForm, ActionParts, DomainForm, DomainSections, ProblemForm, ProblemSections, action_form, domain_form}
 
 -- the bytes of a word
 abbrev pub word_form : Word → List ℕ
@@ -71,12 +71,10 @@ amount_form (amounts.Function f) = function_amount (atom_form f)
 abbrev pub value_form : ValueSyntax → ValueForm
 value_form v = record { function = atom_form v.function; value = v.value }
 
--- a literal
-abbrev pub literal_form : LiteralSyntax → LiteralForm
-literal_form (literals.Atom positive a) = atom_literal positive (atom_form a)
-literal_form (literals.Equality positive e) = equality_literal positive (equality_form e)
-literal_form (literals.Increase by) = increase_literal (amount_form by.amount)
-literal_form (literals.Value v) = value_literal (value_form v)
+-- an initial atom or value
+abbrev pub initial_form : InitialSyntax → InitialForm
+initial_form (initials.Atom positive a) = initial_atom positive (atom_form a)
+initial_form (initials.Value v) = initial_value (value_form v)
 
 -- a predicate with its variables
 abbrev pub predicate_form : PredicateSyntax → PredicateForm

@@ -23,6 +23,26 @@ and_word = codes "and"
 abbrev pub not_word : List ℕ
 not_word = codes "not"
 
+-- what joins formulas of which one has to hold
+abbrev pub or_word : List ℕ
+or_word = codes "or"
+
+-- what begins a premise and a conclusion
+abbrev pub imply_word : List ℕ
+imply_word = codes "imply"
+
+-- what begins variables for which a formula has to hold once
+abbrev pub exists_word : List ℕ
+exists_word = codes "exists"
+
+-- what begins variables for which a formula has to hold always, or an effect happens
+abbrev pub forall_word : List ℕ
+forall_word = codes "forall"
+
+-- what begins the condition of an effect
+abbrev pub when_word : List ℕ
+when_word = codes "when"
+
 -- what begins a choice of types
 abbrev pub either_word : List ℕ
 either_word = codes "either"
@@ -114,11 +134,11 @@ goal_keyword = codes ":goal"
 -- the words that join or guard formulas, besides `and` and `not`
 unfoldable pub is_connective : List ℕ → Bool
 is_connective w =
-    is_same_word w (codes "or") || is_same_word w (codes "imply") || is_same_word w (codes "when") || is_same_word w (codes "either")
+    is_same_word w or_word || is_same_word w imply_word || is_same_word w when_word || is_same_word w either_word
 
 -- the words that bind variables in a formula
 unfoldable pub is_quantifier : List ℕ → Bool
-is_quantifier w = is_same_word w (codes "exists") || is_same_word w (codes "forall")
+is_quantifier w = is_same_word w exists_word || is_same_word w forall_word
 
 -- the words that compare
 unfoldable pub is_comparison : List ℕ → Bool

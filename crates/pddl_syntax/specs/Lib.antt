@@ -11,9 +11,14 @@ pub mod Heads
 pub mod Optional
 pub mod Syntax
 pub mod TypesAhead
-pub mod Presence
 pub mod Reading
 pub mod Forms
+pub mod Nodes
+pub mod Heights
+pub mod FormulaCode
+pub mod EffectCode
+pub mod LowerFormulas
+pub mod LowerEffects
 pub mod Rows
-pub mod Remaining
+pub mod Initial
 pub mod Dialects

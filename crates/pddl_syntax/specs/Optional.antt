@@ -12,15 +12,15 @@ unfoldable pub followed_by : {A : Type 0} → Option A → Option (List A) → O
 followed_by None others = None
 followed_by (Some x) others = option_map (λ xs. x ∷ xs) others
 
+-- two values, if both exist
+unfoldable pub both : {A B : Type 0} → Option A → Option B → Option (A × B)
+both None second = None
+both (Some x) second = option_map (λ y. (x, y)) second
+
 -- the values of a given list, followed by others, if those exist
 unfoldable pub with_front : {A : Type 0} → List A → Option (List A) → Option (List A)
 with_front front None = None
 with_front front (Some others) = Some (front ++ others)
-
--- the values of one list and then those of another, if both exist
-unfoldable pub joined : {A : Type 0} → Option (List A) → Option (List A) → Option (List A)
-joined None others = None
-joined (Some xs) others = with_front xs others
 
 -- a state taken through a list, item by item, if each step is allowed
 unfoldable pub through : {S X : Type 0} → (S → X → Option S) → S → List X → Option S

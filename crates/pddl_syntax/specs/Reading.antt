@@ -30,15 +30,6 @@ abbrev pub PassesList : Result (Unit {0}) ReadFault → (Trees → Bool) → Lev
 PassesList (Ok _) test old new = (test old.top ≡ true) × (new ≡ behind old.below)
 PassesList (Err e) test old new = Refuses e (test old.top ≡ false)
 
--- as `ReadsList`, for what is known to be there: the only fault is that memory ran out
-abbrev pub ReadsAgain : {X Y : Type 0} → (X → Y) → Result X ReadFault → (Trees → Option Y) → Levels → Levels → Type 0
-ReadsAgain view (Ok x) read old new = (read old.top ≡ Some (view x)) × (new ≡ behind old.below)
-ReadsAgain view (Err e) read old new = e ≡ out_of_memory
-
--- as `ReadsAgain`, for what takes no memory
-abbrev pub Rereads : {Y : Type 0} → Y → (Trees → Option Y) → Levels → Levels → Type 0
-Rereads x read old new = (read old.top ≡ Some x) × (new ≡ behind old.below)
-
 -- as `ReadsList`, with the value in `after`
 abbrev pub ReadsInto : {Y : Type 0} → Result (Unit {0}) ReadFault → (Trees → Option Y) → Levels → Levels → Y → Type 0
 ReadsInto (Ok _) read old new after = (read old.top ≡ Some after) × (new ≡ behind old.below)
@@ -58,14 +49,6 @@ Enters (Err e) read old new = Refuses e (read old.top ≡ None)
 abbrev pub TakesName : Result NameWord ReadFault → Levels → Levels → Type 0
 TakesName (Ok name) old new = (old.top ≡ word name.text.now new.top) × (is_name name.text.now ≡ true) × (new.below ≡ old.below)
 TakesName (Err e) old new = Refuses e (leading_name old.top ≡ None)
-
--- steps over the word at the front
-abbrev pub Passes : Word → Levels → Levels → Type 0
-Passes w old new = (old.top ≡ word w.text.now new.top) × (new.below ≡ old.below)
-
--- steps over the name at the front
-abbrev pub PassesName : NameWord → Levels → Levels → Type 0
-PassesName name old new = (old.top ≡ word name.text.now new.top) × (new.below ≡ old.below)
 
 -- steps over the word at the front, if it passes the test
 abbrev pub TakesWord : Result Word ReadFault → (List ℕ → Bool) → Levels → Levels → Type 0

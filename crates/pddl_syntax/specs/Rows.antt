@@ -11,11 +11,9 @@ use Rattle.pddl_syntax.specs.declared.dialect.Dialect.{Dialect}
 use Rattle.pddl_syntax.specs.declared.heads.Context.TheVariants as context
 use Rattle.pddl_syntax.specs.declared.heads.FormulaHead.{FormulaHead}
 use Rattle.pddl_syntax.specs.declared.heads.FormulaHead.TheVariants as formula
-use Rattle.pddl_syntax.specs.declared.heads.Scope.{Scope}
 use Rattle.pddl_syntax.specs.Heads.{formula_head, is_term}
 use Rattle.pddl_syntax.specs.Levels.{Levels}
-use Rattle.pddl_syntax.specs.Presence.{is_formula, is_init_item, is_negated_in}
-use Rattle.pddl_syntax.specs.Syntax.{AtomForm, LiteralForm}
+use Rattle.pddl_syntax.specs.Syntax.{AtomForm, InitialForm, is_init_item}
 use Rattle.pddl_syntax.specs.Trees.{Trees, none, word, list}
 
 -- the words of a row are names
@@ -49,7 +47,7 @@ heads_atom row = is_name_head (formula_head (atom_spelled row).predicate)
 
 -- whether each of these words is a name or a variable
 abbrev pub are_terms : List (List ℕ) → Bool
-are_terms words = list_all (is_term context.Precondition) words
+are_terms words = list_all (is_term context.Condition) words
 
 -- whether the first word of a row is a name, and each other one a name or a variable
 unfoldable pub is_atom_row : List ℕ → Bool
@@ -68,16 +66,14 @@ ComesNext pieces range = IsPlain range.key.now → pieces ≡ range_pieces range
 abbrev pub PassesRow : List ℕ → Levels → Levels → Type 0
 PassesRow row old new = (old.top ≡ list (word_trees (words_of row)) new.top) × (new.below ≡ old.below)
 
--- a row of bytes, and the literals that were left when it was found. If its words may spell an atom, it is the first of these literals
+-- a row of bytes, and the initial atoms and values that were left when it was found. If its words may spell an atom, it is the first of these
 pub record RowAhead : Type 0 where
   pub bytes : List ℕ
-  pub before : List LiteralForm
+  pub before : List InitialForm
 
--- the walk steps over a list that is an initial atom in each dialect, a formula and an effect, and what `not` may negate
+-- the walk steps over a list that is an initial atom in each dialect
 pub record PassesAtom (old new : Levels) : Type 0 where
   pub inside : Trees
   pub first : old.top ≡ list inside new.top
   pub atom : (dialect : Dialect) → is_init_item dialect inside ≡ true
-  pub formula : (scope : Scope) → is_formula scope inside ≡ true
-  pub negated : (scope : Scope) → is_negated_in scope inside ≡ true
   pub below : new.below ≡ old.below

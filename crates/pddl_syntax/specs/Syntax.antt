@@ -1,7 +1,7 @@
 -- The grammar of domains and problems: which syntax a tree has (PDDL 2.1, Fox and Long 2003, appendix A; this validator's part
 -- of it is described in docs).
 
-use Rattle.std.specs.Prelude.{ℕ, List, [], ◌∷◌, ◌++◌, Bool, true, false, ◌&&◌, Option, Some, None, is_some, not, unwrap_or, if◌then◌else◌}
+use Rattle.std.specs.Prelude.{ℕ, List, [], ◌∷◌, ◌++◌, Bool, true, false, ◌&&◌, ◌||◌, Option, Some, None, is_some, not, unwrap_or, if◌then◌else◌}
 use Rattle.std.specs.Option.{option_map, option_and_then}
 use Rattle.pddl_words.specs.Words.{is_name}
 use Rattle.pddl_words.specs.Kinds.{is_same_word}
@@ -18,10 +18,10 @@ use Rattle.pddl_syntax.specs.Keywords.{define_word, domain_word, problem_word, e
 use Rattle.pddl_syntax.specs.declared.dialect.Dialect.{Dialect}
 use Rattle.pddl_syntax.specs.declared.heads.Context.TheVariants as context
 use Rattle.pddl_syntax.specs.declared.heads.Scope.{Scope}
-use Rattle.pddl_syntax.specs.declared.heads.LiteralHead.{LiteralHead}
-use Rattle.pddl_syntax.specs.declared.heads.LiteralHead.TheVariants as head
-use Rattle.pddl_syntax.specs.Heads.{is_and, is_dash, is_keyword, is_term, is_variable, scope_at, formula_head, literal_head, domain_section, action_part, problem_section}
-use Rattle.pddl_syntax.specs.Optional.{guard, followed_by, joined}
+use Rattle.pddl_syntax.specs.declared.heads.ListHead.{ListHead}
+use Rattle.pddl_syntax.specs.declared.heads.ListHead.TheVariants as head
+use Rattle.pddl_syntax.specs.Heads.{is_dash, is_keyword, is_term, is_variable, scope_at, has_connectives, formula_head, list_head, is_atom_head, is_literal_head, domain_section, action_part, problem_section}
+use Rattle.pddl_syntax.specs.Optional.{guard, followed_by, both}
 use Rattle.pddl_syntax.specs.Trees.{Trees, none, word, list, begins_with_list}
 
 -- an atom as written: the words of its predicate and of its terms. A function with its terms has the same form
@@ -44,29 +44,70 @@ pub record ValueForm : Type 0 where
   pub function : AtomForm
   pub value : ℕ
 
--- an atom or an equality, and whether it must hold; an amount by which `total-cost` is raised; or the value of a function
-pub data LiteralForm : Type 0 where
-  atom_literal : Bool → AtomForm → LiteralForm
-  equality_literal : Bool → EqualityForm → LiteralForm
-  increase_literal : AmountForm → LiteralForm
-  value_literal : ValueForm → LiteralForm
+-- an initial atom, and whether it holds; or the value of a function
+pub data InitialForm : Type 0 where
+  initial_atom : Bool → AtomForm → InitialForm
+  initial_value : ValueForm → InitialForm
 
 -- a group of a list of typed variables: its variables, and the names of the types that they may have
 pub record VariableGroup : Type 0 where
   pub variables : List (List ℕ)
   pub types : List (List ℕ)
 
+-- formulas, and lists of them
+mutual
+  -- an atom or an equality with its sign, or other formulas under `not`, `and`, `or`, `imply`, `exists` or `forall`
+  pub data FormulaForm : Type 0 where
+    atom_formula : Bool → AtomForm → FormulaForm
+    equality_formula : Bool → EqualityForm → FormulaForm
+    negation : FormulaForm → FormulaForm
+    conjunction : FormulaForms → FormulaForm
+    disjunction : FormulaForms → FormulaForm
+    implication : FormulaForm → FormulaForm → FormulaForm
+    exists : List VariableGroup → FormulaForm → FormulaForm
+    for_all : List VariableGroup → FormulaForm → FormulaForm
+
+  -- a list of formulas
+  pub data FormulaForms : Type 0 where
+    no_formulas : FormulaForms
+    formula_then : FormulaForm → FormulaForms → FormulaForms
+
+-- a list of formulas, as the parts of one
+abbrev pub formulas_of : List FormulaForm → FormulaForms
+formulas_of [] = no_formulas
+formulas_of (formula ∷ others) = formula_then formula (formulas_of others)
+
+-- effects, and lists of them
+mutual
+  -- an atom that becomes true or false, an amount by which `total-cost` is raised, or other effects under `and`, `when` or `forall`
+  pub data EffectForm : Type 0 where
+    atom_effect : Bool → AtomForm → EffectForm
+    increase_effect : AmountForm → EffectForm
+    joint_effect : EffectForms → EffectForm
+    conditional_effect : FormulaForm → EffectForm → EffectForm
+    universal_effect : List VariableGroup → EffectForm → EffectForm
+
+  -- a list of effects
+  pub data EffectForms : Type 0 where
+    no_effects : EffectForms
+    effect_then : EffectForm → EffectForms → EffectForms
+
+-- a list of effects, as the parts of one
+abbrev pub effects_of : List EffectForm → EffectForms
+effects_of [] = no_effects
+effects_of (effect ∷ others) = effect_then effect (effects_of others)
+
 -- the declaration of a predicate or a function
 pub record PredicateForm : Type 0 where
   pub name : List ℕ
   pub variables : List VariableGroup
 
--- an action, with the literals of its precondition and of its effect in text order
+-- an action
 pub record ActionForm : Type 0 where
   pub name : List ℕ
   pub parameters : List VariableGroup
-  pub precondition : List LiteralForm
-  pub effect : List LiteralForm
+  pub precondition : FormulaForm
+  pub effect : EffectForm
 
 -- a group of a list of typed names: its names, and the name of their type
 pub record NameGroup : Type 0 where
@@ -87,14 +128,14 @@ pub record ProblemForm : Type 0 where
   pub name : List ℕ
   pub domain : List ℕ
   pub objects : List NameGroup
-  pub init : List LiteralForm
-  pub goal : List LiteralForm
+  pub init : List InitialForm
+  pub goal : FormulaForm
 
 -- the parts of an action that are given
 pub record ActionParts : Type 0 where
   pub parameters : Option (List VariableGroup)
-  pub precondition : Option (List LiteralForm)
-  pub effect : Option (List LiteralForm)
+  pub precondition : Option FormulaForm
+  pub effect : Option EffectForm
 
 -- the sections of a domain that are given; of the requirements only whether they are given is kept
 pub record DomainSections : Type 0 where
@@ -110,8 +151,8 @@ pub record ProblemSections : Type 0 where
   pub domain : Option (List ℕ)
   pub requirements : Bool
   pub objects : Option (List NameGroup)
-  pub init : Option (List LiteralForm)
-  pub goal : Option (List LiteralForm)
+  pub init : Option (List InitialForm)
+  pub goal : Option FormulaForm
   pub metric : Bool
   pub length : Bool
 
@@ -315,64 +356,195 @@ value_of test none = None
 value_of test (word w others) = None
 value_of test (list inside others) = value_by (function_in test inside) (number_of others)
 
--- a literal that may be negated, with its sign, after the word that heads it
-abbrev pub signed_by : Bool → LiteralHead → (List ℕ → Bool) → List ℕ → Trees → Option LiteralForm
-signed_by positive head.Atom test w others = option_map (atom_literal positive) (atom_of test w others)
-signed_by positive head.Equality test w others = option_map (equality_literal positive) (equality_of test others)
-signed_by positive head.Not test w others = None
-signed_by positive head.Value test w others = None
-signed_by positive head.Increase test w others = None
-signed_by positive head.Reserved test w others = None
-signed_by positive head.Other test w others = None
+-- `(N` Term*`)`, after `not`, inside its parentheses
+unfoldable pub negated_atom_in : Scope → Trees → Option AtomForm
+negated_atom_in scope none = None
+negated_atom_in scope (word w others) = guard (is_atom_head (list_head scope w (begins_with_list others))) (atom_of (is_term scope.context) w others)
+negated_atom_in scope (list inside others) = None
 
--- what is in the parentheses after `not`: an atom or an equality
-unfoldable pub negated_in : Scope → Trees → Option LiteralForm
-negated_in scope none = None
-negated_in scope (word w others) = signed_by false (literal_head scope w (begins_with_list others)) (is_term scope.context) w others
-negated_in scope (list inside others) = None
+-- `(N` Term*`)` alone, after `not`
+unfoldable pub negated_atom_of : Scope → Trees → Option AtomForm
+negated_atom_of scope none = None
+negated_atom_of scope (word w others) = None
+negated_atom_of scope (list inside others) = ended others (negated_atom_in scope inside)
 
--- what `not` negates
-unfoldable pub negated_of : Scope → Trees → Option LiteralForm
-negated_of scope none = None
-negated_of scope (word w others) = None
-negated_of scope (list inside others) = ended others (negated_in scope inside)
+-- the initial atom or value that a word heads
+abbrev pub initial_by : ListHead → Scope → List ℕ → Trees → Option InitialForm
+initial_by head.Atom scope w others = option_map (initial_atom true) (atom_of (is_term scope.context) w others)
+initial_by head.Not scope w others = option_map (initial_atom false) (negated_atom_of scope others)
+initial_by head.Value scope w others = option_map initial_value (value_of (is_term scope.context) others)
+initial_by found scope w others = None
 
--- the literal that a word heads, where a literal may be
-abbrev pub literal_by : LiteralHead → Scope → List ℕ → Trees → Option LiteralForm
-literal_by head.Atom scope w others = signed_by true head.Atom (is_term scope.context) w others
-literal_by head.Equality scope w others = signed_by true head.Equality (is_term scope.context) w others
-literal_by head.Not scope w others = negated_of scope others
-literal_by head.Value scope w others = option_map value_literal (value_of (is_term scope.context) others)
-literal_by head.Increase scope w others = option_map increase_literal (increase_of (is_term scope.context) others)
-literal_by head.Reserved scope w others = None
-literal_by head.Other scope w others = None
-
--- Literal = `(N` Term*`)` | `(not (N` Term*`))`, and, if the dialect has them, `(= ` Term Term`)`, `(not (= ` Term Term`))`,
--- `(increase (total-cost) `Amount`)` and `(= (N ` Name*`) ` NUMBER`)`, from its first word
-unfoldable pub literal_of : Scope → List ℕ → Trees → Option LiteralForm
-literal_of scope w others = literal_by (literal_head scope w (begins_with_list others)) scope w others
-
--- InitItem = Literal
-unfoldable pub init_item_in : Dialect → Trees → Option LiteralForm
+-- InitItem = `(N` Name*`)` | `(not (N` Name*`))`, and, if the dialect has it, `(= (N ` Name*`) ` NUMBER`)`
+unfoldable pub init_item_in : Dialect → Trees → Option InitialForm
 init_item_in dialect none = None
-init_item_in dialect (word w others) = literal_of (scope_at dialect context.Initial) w others
+init_item_in dialect (word w others) = initial_by (list_head (scope_at dialect context.Initial) w (begins_with_list others)) (scope_at dialect context.Initial) w others
 init_item_in dialect (list inside others) = None
 
--- a literal as a conjunction
-abbrev pub alone : LiteralForm → List LiteralForm
-alone l = l ∷ []
+-- the initial atoms and values in what is left of their list
+unfoldable pub initial_in : Dialect → Trees → Option (List InitialForm)
+initial_in dialect trees = lists_of (init_item_in dialect) trees
 
--- Formula = `()` | `(and` Formula*`)` | Literal, and an Effect is the same; nested `and` is flattened in text order
+-- whether there is an initial atom or value
+unfoldable pub is_init_item : Dialect → Trees → Bool
+is_init_item dialect trees = is_some (init_item_in dialect trees)
+
+-- whether there are initial atoms and values
+unfoldable pub are_initial : Dialect → Trees → Bool
+are_initial dialect trees = is_some (initial_in dialect trees)
+
+-- a formula with `not` before it: that is the sign of an atom or an equality, and negates any other formula
+abbrev pub opposite : FormulaForm → FormulaForm
+opposite (atom_formula true atom) = atom_formula false atom
+opposite (equality_formula true equality) = equality_formula false equality
+opposite formula = negation formula
+
+-- whether the first word heads an atom or an equality
+unfoldable pub begins_literal : Scope → Trees → Bool
+begins_literal scope none = false
+begins_literal scope (word w others) = is_literal_head (list_head scope w (begins_with_list others))
+begins_literal scope (list inside others) = false
+
+-- whether a formula may be in the parentheses after `not`: any, if the dialect has connectives, and otherwise an atom or an equality
+unfoldable pub may_be_negated : Scope → Trees → Bool
+may_be_negated scope trees = has_connectives scope.dialect || begins_literal scope trees
+
+-- what follows the first word of a list, read as each of the things that a word may head in a formula
+pub record FormulaReadings : Type 0 where
+  pub atom : Option AtomForm
+  pub equality : Option EqualityForm
+  pub negated : Option FormulaForm
+  pub several : Option (List FormulaForm)
+  pub implied : Option (FormulaForm × FormulaForm)
+  pub bound : Option (List VariableGroup × FormulaForm)
+
+-- the formula that a word heads
+abbrev pub formula_by : ListHead → FormulaReadings → Option FormulaForm
+formula_by head.Atom read = option_map (atom_formula true) read.atom
+formula_by head.Equality read = option_map (equality_formula true) read.equality
+formula_by head.Not read = option_map opposite read.negated
+formula_by head.And read = option_map (λ formulas. conjunction (formulas_of formulas)) read.several
+formula_by head.Or read = option_map (λ formulas. disjunction (formulas_of formulas)) read.several
+formula_by head.Imply read = option_map (λ sides. implication sides.0 sides.1) read.implied
+formula_by head.Exists read = option_map (λ binding. exists binding.0 binding.1) read.bound
+formula_by head.ForAll read = option_map (λ binding. for_all binding.0 binding.1) read.bound
+formula_by found read = None
+
+-- Formula = `()` | `(N` Term*`)` | `(= `Term Term`)` | `(not` Formula`)` | `(and` Formula*`)` | `(or` Formula*`)` | `(imply` Formula Formula`)` |
+-- `(exists (`Typed(V)`)` Formula`)` | `(forall (`Typed(V)`)` Formula`)`, as far as the dialect has them; `()` is an `and` without parts
 unfoldable mutual
-  pub formula_in : Scope → Trees → Option (List LiteralForm)
-  formula_in scope none = Some []
-  formula_in scope (word w others) = (if is_and w then conjuncts_of scope others else option_map alone (literal_of scope w others))
+  pub formula_in : Scope → Trees → Option FormulaForm
+  formula_in scope none = Some (conjunction no_formulas)
+  formula_in scope (word w others) = formula_by (list_head scope w (begins_with_list others)) (record {
+    atom = atom_of (is_term scope.context) w others;
+    equality = equality_of (is_term scope.context) others;
+    negated = negated_in scope others;
+    several = formulas_in scope others;
+    implied = implied_in scope others;
+    bound = bound_in scope others;
+  })
   formula_in scope (list inside others) = None
 
-  pub conjuncts_of : Scope → Trees → Option (List LiteralForm)
-  conjuncts_of scope none = Some []
-  conjuncts_of scope (word w others) = None
-  conjuncts_of scope (list inside others) = joined (formula_in scope inside) (conjuncts_of scope others)
+  -- Formula*
+  pub formulas_in : Scope → Trees → Option (List FormulaForm)
+  formulas_in scope none = Some []
+  formulas_in scope (word w others) = None
+  formulas_in scope (list inside others) = followed_by (formula_in scope inside) (formulas_in scope others)
+
+  -- one formula
+  pub lone_formula : Scope → Trees → Option FormulaForm
+  lone_formula scope none = None
+  lone_formula scope (word w others) = None
+  lone_formula scope (list inside others) = ended others (formula_in scope inside)
+
+  -- one formula that may be negated
+  pub negated_in : Scope → Trees → Option FormulaForm
+  negated_in scope none = None
+  negated_in scope (word w others) = None
+  negated_in scope (list inside others) = ended others (guard (may_be_negated scope inside) (formula_in scope inside))
+
+  -- a premise and a conclusion
+  pub implied_in : Scope → Trees → Option (FormulaForm × FormulaForm)
+  implied_in scope none = None
+  implied_in scope (word w others) = None
+  implied_in scope (list premise others) = both (formula_in scope premise) (lone_formula scope others)
+
+  -- `(`Typed(V)`)` and one formula, in which terms may be variables
+  pub bound_in : Scope → Trees → Option (List VariableGroup × FormulaForm)
+  bound_in scope none = None
+  bound_in scope (word w others) = None
+  bound_in scope (list variables others) = both (typed_variables [] variables) (lone_formula (scope_at scope.dialect context.Condition) others)
+
+-- a formula that may be negated, inside its parentheses
+unfoldable pub negatable_in : Scope → Trees → Option FormulaForm
+negatable_in scope trees = guard (may_be_negated scope trees) (formula_in scope trees)
+
+-- a formula, after its first word
+unfoldable pub headed_formula : Scope → List ℕ → Trees → Option FormulaForm
+headed_formula scope w others = formula_in scope (word w others)
+
+-- what follows the first word of a list, read as each of the things that a word may head in an effect
+pub record EffectReadings : Type 0 where
+  pub atom : Option AtomForm
+  pub negated : Option AtomForm
+  pub raised : Option AmountForm
+  pub several : Option (List EffectForm)
+  pub conditional : Option (FormulaForm × EffectForm)
+  pub bound : Option (List VariableGroup × EffectForm)
+
+-- the effect that a word heads
+abbrev pub effect_by : ListHead → EffectReadings → Option EffectForm
+effect_by head.Atom read = option_map (atom_effect true) read.atom
+effect_by head.Not read = option_map (atom_effect false) read.negated
+effect_by head.Increase read = option_map increase_effect read.raised
+effect_by head.And read = option_map (λ effects. joint_effect (effects_of effects)) read.several
+effect_by head.When read = option_map (λ parts. conditional_effect parts.0 parts.1) read.conditional
+effect_by head.ForAll read = option_map (λ binding. universal_effect binding.0 binding.1) read.bound
+effect_by found read = None
+
+-- Effect = `()` | `(N` Term*`)` | `(not (N` Term*`))` | `(increase (total-cost) `Amount`)` | `(and` Effect*`)` | `(when` Formula Effect`)` |
+-- `(forall (`Typed(V)`)` Effect`)`, as far as the dialect has them; `()` is an `and` without parts
+unfoldable mutual
+  pub effect_in : Scope → Trees → Option EffectForm
+  effect_in scope none = Some (joint_effect no_effects)
+  effect_in scope (word w others) = effect_by (list_head scope w (begins_with_list others)) (record {
+    atom = atom_of (is_term scope.context) w others;
+    negated = negated_atom_of scope others;
+    raised = increase_of (is_term scope.context) others;
+    several = effects_in scope others;
+    conditional = conditional_in scope others;
+    bound = bound_effect_in scope others;
+  })
+  effect_in scope (list inside others) = None
+
+  -- Effect*
+  pub effects_in : Scope → Trees → Option (List EffectForm)
+  effects_in scope none = Some []
+  effects_in scope (word w others) = None
+  effects_in scope (list inside others) = followed_by (effect_in scope inside) (effects_in scope others)
+
+  -- one effect
+  pub lone_effect : Scope → Trees → Option EffectForm
+  lone_effect scope none = None
+  lone_effect scope (word w others) = None
+  lone_effect scope (list inside others) = ended others (effect_in scope inside)
+
+  -- a condition and one effect
+  pub conditional_in : Scope → Trees → Option (FormulaForm × EffectForm)
+  conditional_in scope none = None
+  conditional_in scope (word w others) = None
+  conditional_in scope (list condition others) =
+      both (formula_in (scope_at scope.dialect context.Condition) condition) (lone_effect (scope_at scope.dialect context.InnerEffect) others)
+
+  -- `(`Typed(V)`)` and one effect
+  pub bound_effect_in : Scope → Trees → Option (List VariableGroup × EffectForm)
+  bound_effect_in scope none = None
+  bound_effect_in scope (word w others) = None
+  bound_effect_in scope (list variables others) = both (typed_variables [] variables) (lone_effect (scope_at scope.dialect context.InnerEffect) others)
+
+-- an effect, after its first word
+unfoldable pub headed_effect : Scope → List ℕ → Trees → Option EffectForm
+headed_effect scope w others = effect_in scope (word w others)
 
 -- a predicate or a function with its variables
 abbrev pub predicate_with : List ℕ → List VariableGroup → PredicateForm
@@ -410,11 +582,11 @@ abbrev pub with_parameters : ActionParts → List VariableGroup → ActionParts
 with_parameters given value = record given { parameters = Some value }
 
 -- the parts of an action with its precondition
-abbrev pub with_precondition : ActionParts → List LiteralForm → ActionParts
+abbrev pub with_precondition : ActionParts → FormulaForm → ActionParts
 with_precondition given value = record given { precondition = Some value }
 
 -- the parts of an action with its effect
-abbrev pub with_effect : ActionParts → List LiteralForm → ActionParts
+abbrev pub with_effect : ActionParts → EffectForm → ActionParts
 with_effect given value = record given { effect = Some value }
 
 -- whether a part is given already
@@ -426,8 +598,8 @@ is_part_given part.Effect given = is_some given.effect
 -- the parts with this one, whose value is the list
 unfoldable pub part_by : Dialect → ActionPart → ActionParts → Trees → Option ActionParts
 part_by dialect part.Parameters given value = option_map (with_parameters given) (typed_variables [] value)
-part_by dialect part.Precondition given value = option_map (with_precondition given) (formula_in (scope_at dialect context.Precondition) value)
-part_by dialect part.Effect given value = option_map (with_effect given) (formula_in (scope_at dialect context.Effect) value)
+part_by dialect part.Precondition given value = option_map (with_precondition given) (formula_in (scope_at dialect context.Condition) value)
+part_by dialect part.Effect given value = option_map (with_effect given) (effect_in (scope_at dialect context.Effect) value)
 
 -- the parts with the one that a word names, each at most once
 unfoldable pub part_named : Dialect → Option ActionPart → ActionParts → Trees → Option ActionParts
@@ -442,13 +614,13 @@ parts_of dialect given (word w (word v others)) = None
 parts_of dialect given (word w (list value others)) = option_and_then (λ more. parts_of dialect more others) (part_named dialect (action_part w) given value)
 parts_of dialect given (list inside others) = None
 
--- an action with its name; a part that is not given holds nothing
+-- an action with its name; if a part is not given, there are no parameters, nothing is required, and nothing is done
 unfoldable pub action_form : List ℕ → ActionParts → ActionForm
 action_form name parts = record {
   name = name;
   parameters = unwrap_or parts.parameters [];
-  precondition = unwrap_or parts.precondition [];
-  effect = unwrap_or parts.effect [];
+  precondition = unwrap_or parts.precondition (conjunction no_formulas);
+  effect = unwrap_or parts.effect (joint_effect no_effects);
 }
 
 -- `(:action N` ActPart*`)`, after the keyword
@@ -581,19 +753,17 @@ with_metric given = record given { metric = true }
 abbrev pub with_length : ProblemSections → ProblemSections
 with_length given = record given { length = true }
 
--- the sections of a problem with its initial literals
-abbrev pub with_init : ProblemSections → List LiteralForm → ProblemSections
+-- the sections of a problem with its initial atoms and values
+abbrev pub with_init : ProblemSections → List InitialForm → ProblemSections
 with_init given value = record given { init = Some value }
 
 -- the sections of a problem with its goal
-abbrev pub with_goal : ProblemSections → List LiteralForm → ProblemSections
+abbrev pub with_goal : ProblemSections → FormulaForm → ProblemSections
 with_goal given value = record given { goal = Some value }
 
 -- one formula
-unfoldable pub goal_of : Dialect → Trees → Option (List LiteralForm)
-goal_of dialect none = None
-goal_of dialect (word w others) = None
-goal_of dialect (list inside others) = ended others (formula_in (scope_at dialect context.Goal) inside)
+unfoldable pub goal_of : Dialect → Trees → Option FormulaForm
+goal_of dialect trees = lone_formula (scope_at dialect context.Goal) trees
 
 -- whether a section is given already
 unfoldable pub is_problem_section_given : ProblemSection → ProblemSections → Bool
@@ -610,7 +780,7 @@ unfoldable pub problem_section_by : Dialect → ProblemSection → ProblemSectio
 problem_section_by dialect problem.Domain given trees = option_map (with_domain given) (lone_name trees)
 problem_section_by dialect problem.Requirements given trees = option_map (λ _. with_problem_requirements given) (keywords_of trees)
 problem_section_by dialect problem.Objects given trees = option_map (with_objects given) (typed_names [] trees)
-problem_section_by dialect problem.Init given trees = option_map (with_init given) (lists_of (init_item_in dialect) trees)
+problem_section_by dialect problem.Init given trees = option_map (with_init given) (initial_in dialect trees)
 problem_section_by dialect problem.Goal given trees = option_map (with_goal given) (goal_of dialect trees)
 problem_section_by dialect problem.Metric given trees = Some (with_metric given)
 problem_section_by dialect problem.Length given trees = Some (with_length given)
@@ -634,7 +804,7 @@ problem_sections_of dialect given (word w others) = None
 problem_sections_of dialect given (list inside others) = option_and_then (λ more. problem_sections_of dialect more others) (problem_section_in dialect given inside)
 
 -- a problem with its name; `:domain` and `:goal` must be given
-unfoldable pub problem_form : List ℕ → ProblemSections → Option (List ℕ) → Option (List LiteralForm) → Option ProblemForm
+unfoldable pub problem_form : List ℕ → ProblemSections → Option (List ℕ) → Option FormulaForm → Option ProblemForm
 problem_form name given None goal = None
 problem_form name given (Some domain) None = None
 problem_form name given (Some domain) (Some goal) =

@@ -6,7 +6,7 @@ ghost use Rattle.pddl_syntax.specs.Keywords.{is_change, is_connective, is_quanti
 ghost use Rattle.pddl_syntax.specs.Levels.{here};
 ghost use Rattle.pddl_syntax.specs.Rows.{atom_spelled, heads_atom};
 ghost use Rattle.pddl_syntax.specs.Trees.{begins_with_list};
-ghost use Rattle.pddl_syntax.specs.Heads.{is_and, is_dash, is_either, is_keyword, is_term, is_variable, equals_head, has_changes, has_functions, formula_head, literal_head, name_head, reserved_head, domain_section, action_part, problem_section};
+ghost use Rattle.pddl_syntax.specs.Heads.{is_dash, is_either, is_keyword, is_term, is_variable, and_head, change_head, connective_head, effect_connective, equals_head, formula_connective, has_changes, has_connectives, has_functions, formula_head, list_head, name_head, reserved_head, domain_section, action_part, problem_section};
 
 use crate::dialect::Dialect;
 use crate::walk::Walk;
@@ -24,12 +24,19 @@ pub(crate) enum FormulaHead {
     Other,
 }
 
-/// What a word heads where a literal is due.
+/// What a word heads where a formula, an effect or an initial atom is due, by the place and the dialect.
 #[derive(Clone, Copy)]
-pub(crate) enum LiteralHead {
+pub(crate) enum ListHead {
     /// An atom: the word names its predicate.
     Atom,
     Not,
+    And,
+    Or,
+    Imply,
+    Exists,
+    ForAll,
+    /// `when` before a condition and an effect.
+    When,
     /// `=` before two terms.
     Equality,
     /// `=` before a function and its value.
@@ -42,16 +49,22 @@ pub(crate) enum LiteralHead {
     Other,
 }
 
-/// Where a literal is.
+/// Where a list is.
 #[derive(Clone, Copy)]
 pub(crate) enum Context {
-    Precondition,
-    Effect,
-    Initial,
+    /// In a precondition, in the condition of an effect, or inside a quantifier of the goal: in formulas whose terms may be variables.
+    Condition,
+    /// In the goal, outside every quantifier.
     Goal,
+    /// In an effect, but under neither `when` nor `forall`.
+    Effect,
+    /// In an effect under `when` or `forall`.
+    InnerEffect,
+    /// Among the initial atoms.
+    Initial,
 }
 
-/// Where a literal is, and in a text of which dialect.
+/// Where a list is, and in a text of which dialect.
 #[derive(Clone, Copy)]
 pub(crate) struct Scope {
     pub(crate) dialect: Dialect,
@@ -87,14 +100,6 @@ pub(crate) enum ProblemSection {
     Goal,
     Metric,
     Length,
-}
-
-/// Whether a word heads a conjunction.
-#[tactic(auto, unfolding(crate::specs::Heads::is_and))]
-pub(crate) fn is_and(word: &[u8]) -> bool
-    ensures { result ≡ is_and word.now }
-{
-    same_folded(word, b"and")
 }
 
 /// Whether the word is the dash before a type.
@@ -141,16 +146,17 @@ pub fn is_variable(word: &[u8]) -> bool
     }
 }
 
-/// Whether the word may be a term. Variables may be terms only in actions.
+/// Whether the word may be a term. Variables may be terms only in actions and inside quantifiers.
 #[tactic(auto, unfolding(crate::specs::Heads::is_term))]
 pub(crate) fn is_term(context: Context, word: &[u8]) -> bool
     ensures { result ≡ is_term context word.now }
 {
     match context {
-        Context::Precondition => is_name(word) || is_variable(word),
-        Context::Effect => is_name(word) || is_variable(word),
-        Context::Initial => is_name(word),
+        Context::Condition => is_name(word) || is_variable(word),
         Context::Goal => is_name(word),
+        Context::Effect => is_name(word) || is_variable(word),
+        Context::InnerEffect => is_name(word) || is_variable(word),
+        Context::Initial => is_name(word),
     }
 }
 
@@ -197,39 +203,70 @@ pub(crate) fn formula_head(word: &[u8]) -> FormulaHead
     }
 }
 
-/// What `=` heads. The walk is right after it.
-fn equals_head(scope: Scope, walk: &Walk<'_>) -> LiteralHead
-    ensures { result ≡ equals_head scope.dialect scope.context (begins_with_list (here walk.now.cursor).top) }
+/// Whether texts of the dialect have functions, what raises them, and equality.
+fn has_functions(dialect: Dialect) -> bool
+    ensures { result ≡ has_functions dialect }
 {
-    match scope.dialect {
-        Dialect::Strips => LiteralHead::Reserved,
-        Dialect::Ipc => match scope.context {
-            Context::Precondition => LiteralHead::Equality,
-            Context::Goal => LiteralHead::Equality,
-            Context::Initial => {
-                if walk.begins_with_list() {
-                    LiteralHead::Value
-                } else {
-                    LiteralHead::Reserved
-                }
-            }
-            Context::Effect => LiteralHead::Reserved,
-        },
+    match dialect {
+        Dialect::Strips => false,
+        Dialect::Ipc => true,
+        Dialect::Adl => true,
     }
 }
 
-/// Whether numbers may be changed here.
-fn has_changes(scope: Scope) -> bool
-    ensures { result ≡ has_changes scope.dialect scope.context }
+/// Whether texts of the dialect have more than literals and `and`.
+pub(crate) fn has_connectives(dialect: Dialect) -> bool
+    ensures { result ≡ has_connectives dialect }
 {
-    match scope.dialect {
+    match dialect {
         Dialect::Strips => false,
-        Dialect::Ipc => match scope.context {
-            Context::Effect => true,
-            Context::Precondition => false,
-            Context::Initial => false,
-            Context::Goal => false,
-        },
+        Dialect::Ipc => false,
+        Dialect::Adl => true,
+    }
+}
+
+/// What `and` heads.
+fn and_head(context: Context) -> ListHead
+    ensures { result ≡ and_head context }
+{
+    match context {
+        Context::Condition => ListHead::And,
+        Context::Goal => ListHead::And,
+        Context::Effect => ListHead::And,
+        Context::InnerEffect => ListHead::And,
+        Context::Initial => ListHead::Reserved,
+    }
+}
+
+/// What `=` heads where there are functions. The walk is right after it.
+fn equals_head(context: Context, walk: &Walk<'_>) -> ListHead
+    ensures { result ≡ equals_head context (begins_with_list (here walk.now.cursor).top) }
+{
+    match context {
+        Context::Condition => ListHead::Equality,
+        Context::Goal => ListHead::Equality,
+        Context::Effect => ListHead::Reserved,
+        Context::InnerEffect => ListHead::Reserved,
+        Context::Initial => {
+            if walk.begins_with_list() {
+                ListHead::Value
+            } else {
+                ListHead::Reserved
+            }
+        }
+    }
+}
+
+/// Whether numbers are changed here.
+fn has_changes(context: Context) -> bool
+    ensures { result ≡ has_changes context }
+{
+    match context {
+        Context::Condition => false,
+        Context::Goal => false,
+        Context::Effect => true,
+        Context::InnerEffect => true,
+        Context::Initial => false,
     }
 }
 
@@ -245,52 +282,110 @@ fn is_change(word: &[u8]) -> bool
         || same_folded(word, b"scale-down")
 }
 
+/// What a word that changes a number heads.
+fn change_head(context: Context, word: &[u8]) -> ListHead
+    ensures { result ≡ change_head context word.now }
+{
+    match context {
+        Context::Condition => ListHead::Reserved,
+        Context::Goal => ListHead::Reserved,
+        Context::Effect => {
+            if same_folded(word, b"increase") {
+                ListHead::Increase
+            } else {
+                ListHead::Reserved
+            }
+        }
+        Context::InnerEffect => ListHead::Reserved,
+        Context::Initial => ListHead::Reserved,
+    }
+}
+
 /// What a name heads. The walk is right after it.
-fn name_head(scope: Scope, word: &[u8], walk: &Walk<'_>) -> LiteralHead
+fn name_head(scope: Scope, word: &[u8], walk: &Walk<'_>) -> ListHead
     ensures { result ≡ name_head scope word.now (begins_with_list (here walk.now.cursor).top) }
 {
-    if !has_changes(scope) || !is_change(word) || !walk.begins_with_list() {
-        return LiteralHead::Atom;
+    if !has_functions(scope.dialect) || !has_changes(scope.context) {
+        return ListHead::Atom;
     }
-    if same_folded(word, b"increase") {
-        LiteralHead::Increase
+    if !is_change(word) || !walk.begins_with_list() {
+        return ListHead::Atom;
+    }
+    change_head(scope.context, word)
+}
+
+/// What a word that joins formulas or binds variables heads in a formula.
+fn formula_connective(word: &[u8]) -> ListHead
+    ensures { result ≡ formula_connective word.now }
+{
+    if same_folded(word, b"or") {
+        ListHead::Or
+    } else if same_folded(word, b"imply") {
+        ListHead::Imply
+    } else if same_folded(word, b"exists") {
+        ListHead::Exists
+    } else if same_folded(word, b"forall") {
+        ListHead::ForAll
     } else {
-        LiteralHead::Reserved
+        ListHead::Reserved
+    }
+}
+
+/// What such a word heads in an effect.
+fn effect_connective(word: &[u8]) -> ListHead
+    ensures { result ≡ effect_connective word.now }
+{
+    if same_folded(word, b"when") {
+        ListHead::When
+    } else if same_folded(word, b"forall") {
+        ListHead::ForAll
+    } else {
+        ListHead::Reserved
+    }
+}
+
+/// What such a word heads here, where there are connectives.
+fn connective_head(context: Context, word: &[u8]) -> ListHead
+    ensures { result ≡ connective_head context word.now }
+{
+    match context {
+        Context::Condition => formula_connective(word),
+        Context::Goal => formula_connective(word),
+        Context::Effect => effect_connective(word),
+        Context::InnerEffect => effect_connective(word),
+        Context::Initial => ListHead::Reserved,
     }
 }
 
 /// What a reserved word besides `and` and `not` heads. The walk is right after it.
-fn reserved_head(scope: Scope, word: &[u8], walk: &Walk<'_>) -> LiteralHead
+fn reserved_head(scope: Scope, word: &[u8], walk: &Walk<'_>) -> ListHead
     ensures { result ≡ reserved_head scope word.now (begins_with_list (here walk.now.cursor).top) }
 {
     if same_folded(word, b"=") {
-        equals_head(scope, walk)
+        if has_functions(scope.dialect) {
+            equals_head(scope.context, walk)
+        } else {
+            ListHead::Reserved
+        }
+    } else if has_connectives(scope.dialect) {
+        connective_head(scope.context, word)
     } else {
-        LiteralHead::Reserved
+        ListHead::Reserved
     }
 }
 
-/// What the word heads where a literal is due. The walk is right after it, and looks ahead if that depends on what follows.
-#[tactic(auto, unfolding(crate::specs::Heads::literal_head))]
-pub(crate) fn literal_head(scope: Scope, word: &[u8], walk: &Walk<'_>) -> LiteralHead
-    ensures { result ≡ literal_head scope word.now (begins_with_list (here walk.now.cursor).top) }
+/// What the word heads where a formula, an effect or an initial atom is due. The walk is right after it, and looks ahead if that depends on what
+/// follows.
+#[tactic(auto, unfolding(crate::specs::Heads::list_head))]
+pub(crate) fn list_head(scope: Scope, word: &[u8], walk: &Walk<'_>) -> ListHead
+    ensures { result ≡ list_head scope word.now (begins_with_list (here walk.now.cursor).top) }
 {
     match formula_head(word) {
-        FormulaHead::And => LiteralHead::Reserved,
-        FormulaHead::Not => LiteralHead::Not,
+        FormulaHead::And => and_head(scope.context),
+        FormulaHead::Not => ListHead::Not,
         FormulaHead::Reserved => reserved_head(scope, word, walk),
         FormulaHead::Name => name_head(scope, word, walk),
-        FormulaHead::Other => LiteralHead::Other,
-    }
-}
-
-/// Whether domains of the dialect have functions.
-fn has_functions(dialect: Dialect) -> bool
-    ensures { result ≡ has_functions dialect }
-{
-    match dialect {
-        Dialect::Strips => false,
-        Dialect::Ipc => true,
+        FormulaHead::Other => ListHead::Other,
     }
 }
 

@@ -8,7 +8,7 @@
 //! ```
 //!
 //! Call [`check_text`] first: the two readers take only texts that it accepts. They work by recursive descent, at most as deep as it lets lists
-//! be nested. They read one of two languages, a [`Dialect`]. A refusal is a [`ReadFault`]: its kind and the span of the faulty bytes.
+//! be nested. They read one of three languages, a [`Dialect`]. A refusal is a [`ReadFault`]: its kind and the span of the faulty bytes.
 #![tactic(auto)]
 
 mod dialect;
@@ -24,12 +24,13 @@ pub use dialect::Dialect;
 pub use fault::{FaultKind, ReadFault};
 pub use heads::is_variable;
 pub use syntax::domain::domain_text;
-pub use syntax::literals::{AtomRow, Literals};
+pub use syntax::initial::{AtomRow, InitialItems};
 pub use syntax::problem::problem_text;
+pub use syntax::trees::{EffectNode, EffectSyntax, FormulaNode, FormulaSyntax};
 pub use syntax::variables::VariableList;
 pub use syntax::{
     ActionParts, ActionSyntax, AmountSyntax, AtomSyntax, DomainSections, DomainSyntax,
-    EqualitySyntax, IncreaseSyntax, LiteralSyntax, NameGroup, Names, PredicateSyntax,
+    EqualitySyntax, IncreaseSyntax, InitialSyntax, NameGroup, Names, PredicateSyntax,
     ProblemSections, ProblemSyntax, Terms, ValueSyntax, VariableGroup, Variables,
 };
 pub use text::check_text;

@@ -1,21 +1,25 @@
-//! The second layer: what the grammar allows, kept as slices of the text with their spans. Formulas and lists of variables are not kept, but only
-//! where they begin.
+//! The second layer: what the grammar allows, kept as slices of the text with their spans. Initial atoms and the variables of declarations are not kept,
+//! but only where they begin.
 //!
 //! Each reader here starts inside a list, reads what is left of it, and leaves it after its `)`. Lists are nested at most 64 deep, since the first
 //! layer refuses deeper ones, and the recursion goes as deep.
 
 pub(crate) mod action;
+pub(crate) mod atoms;
+pub(crate) mod costs;
 pub(crate) mod domain;
+pub(crate) mod effect;
 pub(crate) mod formula;
-pub(crate) mod known;
+pub(crate) mod initial;
 pub(crate) mod lists;
-pub(crate) mod literals;
 pub(crate) mod problem;
 pub(crate) mod refusals;
+pub(crate) mod trees;
 pub(crate) mod typed;
 pub(crate) mod variables;
 
-use crate::syntax::literals::Literals;
+use crate::syntax::initial::InitialItems;
+use crate::syntax::trees::{EffectSyntax, FormulaSyntax};
 use crate::syntax::variables::VariableList;
 use crate::walk::{NameWord, Word};
 use pddl_tokens::Span;
@@ -73,22 +77,15 @@ pub struct ValueSyntax<'a> {
     pub span: Span,
 }
 
-/// A literal of a precondition, an effect, the initial atoms or the goal.
+/// An initial atom, or the value of a function.
 #[derive(Drop)]
-pub enum LiteralSyntax<'a> {
+pub enum InitialSyntax<'a> {
     /// An atom, or the negation of one.
     Atom {
         positive: bool,
         atom: AtomSyntax<'a>,
     },
-    /// An equality of two terms, or the negation of one. Only preconditions and goals of [`Dialect::Ipc`](crate::Dialect::Ipc) have it.
-    Equality {
-        positive: bool,
-        equality: EqualitySyntax<'a>,
-    },
-    /// An increase of `total-cost`. Only effects of [`Dialect::Ipc`](crate::Dialect::Ipc) have it.
-    Increase(IncreaseSyntax<'a>),
-    /// The value of a function. Only the initial atoms of [`Dialect::Ipc`](crate::Dialect::Ipc) have it.
+    /// The value of a function. [`Dialect::Strips`](crate::Dialect::Strips) has none.
     Value(ValueSyntax<'a>),
 }
 
@@ -110,8 +107,8 @@ pub struct PredicateSyntax<'a> {
 #[derive(Drop)]
 pub struct ActionParts<'a> {
     pub parameters: Option<VariableList<'a>>,
-    pub precondition: Option<Literals<'a>>,
-    pub effect: Option<Literals<'a>>,
+    pub precondition: Option<FormulaSyntax<'a>>,
+    pub effect: Option<EffectSyntax<'a>>,
 }
 
 /// An action with its name.
@@ -152,8 +149,8 @@ pub struct ProblemSections<'a> {
     pub domain: Option<NameWord<'a>>,
     pub requirements: bool,
     pub objects: Option<Vec<NameGroup<'a>>>,
-    pub init: Option<Literals<'a>>,
-    pub goal: Option<Literals<'a>>,
+    pub init: Option<InitialItems<'a>>,
+    pub goal: Option<FormulaSyntax<'a>>,
     pub metric: bool,
     pub length: bool,
 }
@@ -164,6 +161,6 @@ pub struct ProblemSyntax<'a> {
     pub name: NameWord<'a>,
     pub domain: NameWord<'a>,
     pub objects: Option<Vec<NameGroup<'a>>>,
-    pub init: Option<Literals<'a>>,
-    pub goal: Literals<'a>,
+    pub init: Option<InitialItems<'a>>,
+    pub goal: FormulaSyntax<'a>,
 }

@@ -2,7 +2,7 @@
 
 use Rattle.std.proofs.Common.{◌≡◌, ℕ, true, List, [], ◌∷◌, map, refl, ap, sym, true≢false}
 use Rattle.std.specs.List.{list_all}
-use Rattle.strips_task.specs.declared.atoms.Atom.{Atom}
+use Rattle.formulas.specs.declared.atoms.Atom.{Atom}
 use Rattle.plan_cost.specs.declared.amounts.Amount.{Amount}
 use Rattle.plan_cost.specs.declared.amounts.Amount.TheVariants.{Number, Function}
 use Rattle.plan_cost.specs.Amounts.{is_number}

@@ -3,13 +3,13 @@
 
 use Rattle.std.specs.Prelude.{ℕ, ◌+◌, List, [], ◌∷◌, Option, Some, None, map, slice_get, unwrap_or, option_and_then}
 use Rattle.std.specs.List.{flat_map}
-use Rattle.strips_task.specs.declared.atoms.Atom.{Atom}
+use Rattle.formulas.specs.declared.atoms.Atom.{Atom}
 use Rattle.strips_task.specs.declared.plans.Plan.{Plan}
 use Rattle.strips_task.specs.declared.plans.Plan.TheVariants.{Steps, Unreadable}
 use Rattle.strips_task.specs.declared.steps.StepText.{StepText}
 use Rattle.strips_task.specs.declared.tasks.TaskParts.{TaskParts}
 use Rattle.strips_task.specs.Names.{number_named}
-use Rattle.strips_judge.specs.Grounding.{ground_term}
+use Rattle.formulas.specs.Meaning.{object_of}
 use Rattle.strips_judge.specs.Step.{objects_named}
 use Rattle.plan_cost.specs.declared.amounts.Amount.{Amount}
 use Rattle.plan_cost.specs.declared.amounts.Amount.TheVariants.{Number, Function}
@@ -21,7 +21,7 @@ use Rattle.plan_cost.specs.Values.{value_of}
 -- an amount when the parameters stand for these objects: its number, or the value of its ground function, if that has one
 abbrev pub amount_of : List (Atom × ℕ) → List ℕ → Amount → Option ℕ
 amount_of values objects (Number number) = Some number
-amount_of values objects (Function function terms) = value_of values (record { pred = function; args = map (ground_term objects) terms })
+amount_of values objects (Function function terms) = value_of values (record { pred = function; args = map (object_of objects []) terms })
 
 -- the increases of the action that a word names; a word that names no action has none
 abbrev pub increases_of : TaskParts → Costs → List ℕ → List Amount

@@ -2,8 +2,8 @@
 
 use Rattle.std.specs.Prelude.{ℕ, ◌==◌, List, [], ◌∷◌, ◌++◌, Option, Some, None, if◌then◌else◌}
 use Rattle.std.specs.Map.{lookup}
-use Rattle.strips_task.specs.declared.atoms.Atom.{Atom}
-use Rattle.strips_task.specs.Atom.{atom_eq}
+use Rattle.formulas.specs.declared.atoms.Atom.{Atom}
+use Rattle.formulas.specs.Atom.{atom_eq}
 use Rattle.plan_cost.specs.declared.values.Given.{Given}
 use Rattle.plan_cost.specs.declared.values.Given.TheVariants.{First, Again, Another}
 

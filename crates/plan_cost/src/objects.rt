@@ -1,8 +1,8 @@
 //! The objects of a step, and the ground functions of its amounts.
-ghost use Rattle.std.specs.Prelude.{◌≡◌, ℕ, List, map, OnOk};
+ghost use Rattle.std.specs.Prelude.{◌≡◌, ℕ, List, [], map, OnOk};
 ghost use Rattle.std.specs.List.{list_all};
 ghost use Rattle.strips_task.specs.StepView.{step_shown};
-ghost use Rattle.strips_judge.specs.Grounding.{ground_term};
+ghost use Rattle.formulas.specs.Meaning.{object_of};
 ghost use Rattle.strips_judge.specs.Step.{objects_named};
 ghost use Rattle.plan_cost.specs.Costs.{amount_of};
 ghost use Rattle.plan_cost.specs.Amounts.{is_number};
@@ -49,21 +49,22 @@ fn find_objects(task: &Task, step: StepView<'_>, objects: &mut Vec<u16>) -> Resu
     Ok(())
 }
 
-/// Makes an atom the ground function with these terms. A parameter without an object stands for object 0; a valid plan has none, if the
-/// terms speak of parameters of the action.
+/// Makes an atom the ground function with these terms. A parameter without an object stands for object 0, and so does a bound variable; a valid plan has
+/// none, if the terms speak of parameters of the action.
 pub(crate) fn ground(
     function: u16,
     terms: &[Term],
     objects: &[u16],
     atom: &mut Atom,
 ) -> Result<(), AllocError>
-    ensures { OnOk result (atom.new ≡ record { pred = function; args = map (ground_term objects.now) terms.now }) }
+    ensures { OnOk result (atom.new ≡ record { pred = function; args = map (object_of objects.now []) terms.now }) }
 {
     atom.pred = function;
     atom.args.clear();
     for term in terms {
         let object = match term {
             Term::Param(index) => objects.get(*index as usize).copied().unwrap_or(0),
+            Term::Bound(_) => 0,
             Term::Object(object) => *object,
         };
         atom.args.push(object)?;

@@ -34,7 +34,7 @@ impl Drop for FunctionValues {
 
 impl Model for FunctionValues {
     ghost use Rattle.std.specs.Prelude.{List, ℕ};
-    ghost use Rattle.strips_task.specs.declared.atoms.Atom.{Atom};
+    ghost use Rattle.formulas.specs.declared.atoms.Atom.{Atom};
 
     ghost Value = { List (Atom × ℕ) };
 

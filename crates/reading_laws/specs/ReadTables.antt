@@ -1,7 +1,8 @@
 -- Types that the reader does not export. Each is named here by a value that has it.
 
 use Rattle.std.specs.Prelude.{[], Option, Some, None}
-use Rattle.pddl_reader.specs.Domain.{no_effects, action_doing, no_actions}
+use Rattle.pddl_reader.specs.Domain.{action_doing, no_actions}
+use Rattle.pddl_reader.specs.Effects.{nothing_happens}
 use Rattle.pddl_reader.specs.TypeOrder.{ordered}
 
 -- the type of a value that may be missing
@@ -10,7 +11,7 @@ type_given {A} value = A
 
 -- an action with its increases
 abbrev pub CostedAction : Type 0
-CostedAction = type_given (Some (action_doing [] [] no_effects))
+CostedAction = type_given (Some (action_doing [] [] nothing_happens))
 
 -- the declared actions, and beside them the increases of each
 abbrev pub ActionTables : Type 0

@@ -10,7 +10,7 @@ use plan_cost::CostedTask;
 use plan_text::read_plan;
 use std::alloc::{AllocError, Global};
 use std::sync::Arc;
-use strips_judge::{GroundCond, GroundFormula, Plan, Task, Verdict, Why, judge};
+use strips_judge::{Formula, Node, Plan, Task, Verdict, Why, judge};
 
 /// The task of a domain and a problem, which counts no costs.
 fn task(alloc: Global, domain: &[u8], problem: &[u8]) -> Result<CostedTask, ReadFault> {
@@ -73,11 +73,11 @@ fn failure(step: u32, why: &Why) -> Found {
 }
 
 /// The predicate of the first condition. The domains here ask for atoms alone.
-fn first(conditions: &[GroundCond]) -> u16 {
+fn first(conditions: &[Formula]) -> u16 {
     match conditions.first() {
-        Some(condition) => match &condition.formula {
-            GroundFormula::Atom(atom) => atom.pred,
-            GroundFormula::Equal(_, _) => u16::MAX,
+        Some(condition) => match condition.node() {
+            Node::Atom(_, pattern) => pattern.pred,
+            _ => u16::MAX,
         },
         None => u16::MAX,
     }

@@ -1,3 +1,4 @@
+pub mod ConditionTexts
 pub mod CostTexts
 pub mod Rendering
 pub mod RowTexts

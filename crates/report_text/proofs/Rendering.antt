@@ -3,8 +3,7 @@
 use Rattle.std.proofs.Common.{◌≡◌, ℕ, ◌+◌, zero, suc, List, [], ◌∷◌, ◌++◌, map, take, slice_get, Some, Result, Ok, Err, OnOk, ap, sym, ◌∙◌, arith, append-nil, append_assoc, codes}
 use Rattle.std.proofs.lemmas.Grind.{flat_map-append}
 use Rattle.std.proofs.lemmas.List.{map-append}
-use Rattle.report_text.specs.Format.{after_commas}
-use Rattle.report_text.specs.Report.{spaced}
+use Rattle.report_text.specs.Pieces.{after_commas, spaced}
 
 -- one item more at the end of a front
 pub take_one_more : {A : Type 0} (xs : List A) (i : ℕ) (x : A) → slice_get xs i ≡ Some x → take (suc i) xs ≡ take i xs ++ x ∷ []

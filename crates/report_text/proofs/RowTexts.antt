@@ -15,7 +15,8 @@ use Rattle.strips_task.specs.declared.tasks.TaskParts.{TaskParts}
 use Rattle.strips_task.specs.Spelled.{step_spelled}
 use Rattle.strips_task.specs.Steps.{step_of}
 use Rattle.strips_judge.specs.declared.verdict.Why.{Why}
-use Rattle.report_text.specs.Report.{name_at, spaced, step_text, why_text, failure_text}
+use Rattle.report_text.specs.Pieces.{name_at, spaced}
+use Rattle.report_text.specs.Report.{step_text, why_text, failure_text}
 
 -- the names of a step, with a space between each two
 abbrev pub names_text : StepText → List ℕ

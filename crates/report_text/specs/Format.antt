@@ -1,13 +1,9 @@
 -- The report of a run: the text that stands for a task, the planners, their plans, the verdicts and the costs, as lines, as a table and as JSON (this
 -- validator's choice).
 
-use Rattle.std.specs.Prelude.{ℕ, ◌+◌, ◌-◌, ◌/◌, ◌%◌, ◌==◌, nat_lt, List, [], ◌∷◌, ◌++◌, Option, None, Some, codes, decimal, map, length, if◌then◌else◌}
+use Rattle.std.specs.Prelude.{ℕ, ◌-◌, ◌==◌, List, [], ◌∷◌, ◌++◌, Option, None, Some, codes, decimal, map, length, if◌then◌else◌}
 use Rattle.std.specs.List.{flat_map, enumerate_from}
-use Rattle.std.specs.Map.{keys_of}
-use Rattle.strips_task.specs.declared.atoms.Atom.{Atom}
-use Rattle.strips_task.specs.declared.atoms.GroundFormula.{GroundFormula}
-use Rattle.strips_task.specs.declared.atoms.GroundFormula.TheVariants as asked
-use Rattle.strips_task.specs.declared.atoms.GroundCond.{GroundCond}
+use Rattle.formulas.specs.Tree.{Tree}
 use Rattle.strips_task.specs.declared.plans.Plan.{Plan}
 use Rattle.strips_task.specs.declared.steps.StepText.{StepText}
 use Rattle.strips_task.specs.declared.tasks.TaskParts.{TaskParts}
@@ -23,14 +19,12 @@ use Rattle.plan_cost.specs.declared.costs.CostedTask.{CostedTask}
 use Rattle.report_text.specs.declared.format.Format.{Format}
 use Rattle.report_text.specs.declared.format.Format.TheVariants.{Lines, Table, Json}
 use Rattle.report_text.specs.CostText.{billionths_text}
-use Rattle.report_text.specs.Report.{Judged, Planner, condition_text, conditions_text, failure_text, header_line, least, least_cost, name_at, plan_line, step_text, summary_text, valid_costs, valid_steps}
-
--- pieces, each after a comma
-abbrev pub after_commas : List (List ℕ) → List ℕ
-after_commas pieces = flat_map (λ piece. codes "," ++ piece) pieces
+use Rattle.report_text.specs.Report.{Judged, Planner, conditions_text, failure_text, header_line, least, least_cost, plan_line, step_text, summary_text, valid_costs, valid_steps}
+use Rattle.report_text.specs.Conditions.{condition_text, json_condition}
+use Rattle.report_text.specs.Pieces.{after_commas, json_string, name_at}
 
 -- conditions with single spaces between them
-abbrev pub spaced_conditions : TaskParts → List GroundCond → List ℕ
+abbrev pub spaced_conditions : TaskParts → List Tree → List ℕ
 spaced_conditions task [] = []
 spaced_conditions task (cond ∷ conds) = condition_text task cond ++ conditions_text task conds
 
@@ -87,40 +81,8 @@ table_row task name number judged =
     task.domain ++ codes "\t" ++ task.problem ++ codes "\t" ++ field name ++ codes "\t" ++ decimal number ++ codes "\t"
     ++ found_fields task judged ++ codes "\n"
 
--- a digit of a number to the base 16
-unfoldable pub hex_digit : ℕ → ℕ
-hex_digit digit = if nat_lt digit 10 then 48 + digit else 87 + digit
-
--- a byte of a JSON string: a quotation mark and a backslash have a backslash in front, and a control character is written as `\u00` and two digits
-unfoldable pub string_byte : ℕ → List ℕ
-string_byte byte =
-    (if byte == 34 then 92 ∷ 34 ∷ []
-    else (if byte == 92 then 92 ∷ 92 ∷ []
-    else (if nat_lt byte 32 then 92 ∷ 117 ∷ 48 ∷ 48 ∷ hex_digit (byte / 16) ∷ hex_digit (byte % 16) ∷ [] else byte ∷ [])))
-
--- a JSON string
-unfoldable pub json_string : List ℕ → List ℕ
-json_string bytes = codes "\"" ++ flat_map string_byte bytes ++ codes "\""
-
--- an atom as a list, `["p","a","b"]`
-abbrev pub json_atom : TaskParts → Atom → List ℕ
-json_atom task atom =
-    codes "[" ++ json_string (name_at (keys_of task.preds) atom.pred)
-    ++ after_commas (map (λ number. json_string (name_at (keys_of task.objects) number)) atom.args) ++ codes "]"
-
--- a formula: an atom, or an equality as `["=","a","b"]`
-abbrev pub json_formula : TaskParts → GroundFormula → List ℕ
-json_formula task (asked.Atom atom) = json_atom task atom
-json_formula task (asked.Equal left right) =
-    codes "[\"=\"," ++ json_string (name_at (keys_of task.objects) left) ++ codes "," ++ json_string (name_at (keys_of task.objects) right) ++ codes "]"
-
--- a condition: its formula, or `["not",["p","a"]]`
-abbrev pub json_condition : TaskParts → GroundCond → List ℕ
-json_condition task cond =
-    if cond.positive then json_formula task cond.formula else codes "[\"not\"," ++ json_formula task cond.formula ++ codes "]"
-
--- conditions with commas between them
-abbrev pub json_conditions : TaskParts → List GroundCond → List ℕ
+-- conditions in JSON, with commas between them
+abbrev pub json_conditions : TaskParts → List Tree → List ℕ
 json_conditions task [] = []
 json_conditions task (cond ∷ conds) = json_condition task cond ++ after_commas (map (json_condition task) conds)
 

@@ -1,13 +1,9 @@
 -- The lines of a report: the text that stands for plans, verdicts and costs (this validator's choice).
 
-use Rattle.std.specs.Prelude.{ℕ, ◌-◌, List, [], ◌∷◌, ◌++◌, Option, None, Some, codes, decimal, map, slice_get, unwrap_or, if◌then◌else◌, min}
-use Rattle.std.specs.List.{flat_map, filter_map}
+use Rattle.std.specs.Prelude.{ℕ, ◌-◌, List, [], ◌∷◌, ◌++◌, Option, None, Some, codes, decimal, map, unwrap_or, min}
+use Rattle.std.specs.List.{filter_map}
 use Rattle.std.specs.Option.{option_map}
-use Rattle.std.specs.Map.{keys_of}
-use Rattle.strips_task.specs.declared.atoms.Atom.{Atom}
-use Rattle.strips_task.specs.declared.atoms.GroundFormula.{GroundFormula}
-use Rattle.strips_task.specs.declared.atoms.GroundFormula.TheVariants as asked
-use Rattle.strips_task.specs.declared.atoms.GroundCond.{GroundCond}
+use Rattle.formulas.specs.Tree.{Tree}
 use Rattle.strips_task.specs.declared.plans.Plan.{Plan}
 use Rattle.strips_task.specs.declared.steps.StepText.{StepText}
 use Rattle.strips_task.specs.declared.tasks.TaskParts.{TaskParts}
@@ -21,34 +17,12 @@ use Rattle.plan_cost.specs.declared.costs.Cost.TheVariants.{NotCounted, Undefine
 use Rattle.plan_cost.specs.declared.costs.Costs.{Costs}
 use Rattle.plan_cost.specs.Costs.{cost_answer}
 use Rattle.intake_rules.specs.declared.finding.Finding.{Finding}
+use Rattle.report_text.specs.Conditions.{condition_text}
 use Rattle.report_text.specs.CostText.{cost_text}
-
--- words, each after a space
-abbrev pub spaced : List (List ℕ) → List ℕ
-spaced words = flat_map (λ word. codes " " ++ word) words
-
--- the name with a number
-abbrev pub name_at : List (List ℕ) → ℕ → List ℕ
-name_at names number = unwrap_or (slice_get names number) []
-
--- an atom, as `(p a b)`
-abbrev pub atom_text : TaskParts → Atom → List ℕ
-atom_text task atom =
-    codes "(" ++ name_at (keys_of task.preds) atom.pred ++ spaced (map (name_at (keys_of task.objects)) atom.args) ++ codes ")"
-
--- a formula: an atom, or an equality as `(= a b)`
-abbrev pub formula_text : TaskParts → GroundFormula → List ℕ
-formula_text task (asked.Atom atom) = atom_text task atom
-formula_text task (asked.Equal left right) =
-    codes "(= " ++ name_at (keys_of task.objects) left ++ codes " " ++ name_at (keys_of task.objects) right ++ codes ")"
-
--- a condition: its formula, or `(not (p a b))`
-abbrev pub condition_text : TaskParts → GroundCond → List ℕ
-condition_text task cond =
-    if cond.positive then formula_text task cond.formula else codes "(not " ++ formula_text task cond.formula ++ codes ")"
+use Rattle.report_text.specs.Pieces.{name_at, spaced}
 
 -- conditions, each after a space
-abbrev pub conditions_text : TaskParts → List GroundCond → List ℕ
+abbrev pub conditions_text : TaskParts → List Tree → List ℕ
 conditions_text task conds = spaced (map (condition_text task) conds)
 
 -- a step, as `(act a b)`

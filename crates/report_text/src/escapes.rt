@@ -1,7 +1,8 @@
 //! Names in fields of a table and in JSON strings, where some bytes have to be written differently.
 ghost use Rattle.std.specs.Prelude.{◌≡◌, ◌++◌, ◌<◌, OnOk};
 ghost use Rattle.std.specs.List.{flat_map};
-ghost use Rattle.report_text.specs.Format.{field, field_byte, hex_digit, json_string, string_byte};
+ghost use Rattle.report_text.specs.Format.{field, field_byte};
+ghost use Rattle.report_text.specs.Pieces.{hex_digit, json_string, string_byte};
 
 use crate::text::Text;
 use std::alloc::AllocError;
@@ -38,7 +39,7 @@ fn push_field_byte(text: &mut Text, byte: u8) -> Result<(), AllocError>
 }
 
 /// Adds a JSON string.
-#[tactic(auto, unfolding(crate::specs::Format::json_string))]
+#[tactic(auto, unfolding(crate::specs::Pieces::json_string))]
 pub fn push_json_string(text: &mut Text, bytes: &[u8]) -> Result<(), AllocError>
     ensures { OnOk result (text.new ≡ text.old ++ json_string bytes.now) }
 {
@@ -48,7 +49,7 @@ pub fn push_json_string(text: &mut Text, bytes: &[u8]) -> Result<(), AllocError>
 }
 
 /// Adds what is between the quotation marks of a JSON string.
-fn push_inside(text: &mut Text, bytes: &[u8]) -> Result<(), AllocError>
+pub(crate) fn push_inside(text: &mut Text, bytes: &[u8]) -> Result<(), AllocError>
     ensures { OnOk result (text.new ≡ text.old ++ flat_map string_byte bytes.now) }
 {
     for byte in bytes {
@@ -58,7 +59,7 @@ fn push_inside(text: &mut Text, bytes: &[u8]) -> Result<(), AllocError>
 }
 
 /// Adds a byte of a JSON string.
-#[tactic(auto, unfolding(crate::specs::Format::string_byte))]
+#[tactic(auto, unfolding(crate::specs::Pieces::string_byte))]
 fn push_string_byte(text: &mut Text, byte: u8) -> Result<(), AllocError>
     ensures { OnOk result (text.new ≡ text.old ++ string_byte byte) }
 {
@@ -82,7 +83,7 @@ fn push_string_byte(text: &mut Text, byte: u8) -> Result<(), AllocError>
 }
 
 /// A digit of a number to the base 16.
-#[tactic(auto, unfolding(crate::specs::Format::hex_digit))]
+#[tactic(auto, unfolding(crate::specs::Pieces::hex_digit))]
 fn hex_digit(digit: u8) -> u8
     requires { digit < 16 }
     ensures { result ≡ hex_digit digit }

@@ -1,10 +1,12 @@
 //! The report as JSON: records of a run, its plans and its planners, each an object on a line of its own.
 ghost use Rattle.std.specs.Prelude.{◌≡◌, ◌++◌, OnOk, Some, decimal, map};
-ghost use Rattle.std.specs.Map.{keys_of};
 ghost use Rattle.strips_task.specs.StepView.{step_shown};
-ghost use Rattle.report_text.specs.Format.{after_commas, json_atom, json_best, json_condition, json_conditions, json_cost, json_failure, json_formula, json_found, json_plan, json_planner, json_run, json_step, json_string, json_verdict, json_why};
-ghost use Rattle.report_text.specs.Report.{as_judged, name_at};
+ghost use Rattle.report_text.specs.Pieces.{after_commas, json_string};
+ghost use Rattle.report_text.specs.Format.{json_best, json_conditions, json_cost, json_failure, json_found, json_plan, json_planner, json_run, json_step, json_verdict, json_why};
+ghost use Rattle.report_text.specs.Conditions.{json_condition};
+ghost use Rattle.report_text.specs.Report.{as_judged};
 
+use crate::conditions::push_json_condition;
 use crate::costs::push_billionths;
 use crate::escapes::push_json_string;
 use crate::format::Format;
@@ -14,7 +16,7 @@ use intake_rules::{Finding, SubmittedPlan};
 use plan_cost::Cost;
 use std::alloc::AllocError;
 use strips_judge::{Verdict, Why};
-use strips_task::{Atom, GroundCond, GroundFormula, StepView, Task};
+use strips_task::{Formula, StepView, Task};
 
 /// Adds the record of a run.
 pub(crate) fn push_run(text: &mut Text, task: &Task) -> Result<(), AllocError>
@@ -193,98 +195,25 @@ fn push_arguments(text: &mut Text, step: &StepView) -> Result<(), AllocError>
 }
 
 /// Adds conditions with commas between them.
-fn push_conditions(text: &mut Text, task: &Task, conds: &[GroundCond]) -> Result<(), AllocError>
+fn push_conditions(text: &mut Text, task: &Task, conds: &[Formula]) -> Result<(), AllocError>
     ensures { OnOk result (text.new ≡ text.old ++ json_conditions task.now conds.now) }
 {
     match conds {
         [] => Ok(()),
         [first, rest @ ..] => {
-            push_condition(text, task, first)?;
+            push_json_condition(text, task, first)?;
             push_more_conditions(text, task, rest)
         }
     }
 }
 
 /// Adds conditions, each after a comma.
-fn push_more_conditions(
-    text: &mut Text,
-    task: &Task,
-    conds: &[GroundCond],
-) -> Result<(), AllocError>
+fn push_more_conditions(text: &mut Text, task: &Task, conds: &[Formula]) -> Result<(), AllocError>
     ensures { OnOk result (text.new ≡ text.old ++ after_commas (map (json_condition task.now) conds.now)) }
 {
     for cond in conds {
         text.push(b",")?;
-        push_condition(text, task, cond)?;
-    }
-    Ok(())
-}
-
-/// Adds a condition.
-fn push_condition(text: &mut Text, task: &Task, cond: &GroundCond) -> Result<(), AllocError>
-    ensures { OnOk result (text.new ≡ text.old ++ json_condition task.now cond.now) }
-{
-    if cond.positive {
-        return push_formula(text, task, &cond.formula);
-    }
-    text.push(b"[\"not\",")?;
-    push_formula(text, task, &cond.formula)?;
-    text.push(b"]")
-}
-
-/// Adds a formula: an atom, or an equality.
-fn push_formula(text: &mut Text, task: &Task, formula: &GroundFormula) -> Result<(), AllocError>
-    ensures { OnOk result (text.new ≡ text.old ++ json_formula task.now formula.now) }
-{
-    match formula {
-        GroundFormula::Atom(atom) => push_atom(text, task, atom),
-        GroundFormula::Equal(left, right) => {
-            text.push(b"[\"=\",")?;
-            push_object(text, task, *left)?;
-            text.push(b",")?;
-            push_object(text, task, *right)?;
-            text.push(b"]")
-        }
-    }
-}
-
-/// Adds an atom.
-fn push_atom(text: &mut Text, task: &Task, atom: &Atom) -> Result<(), AllocError>
-    ensures { OnOk result (text.new ≡ text.old ++ json_atom task.now atom.now) }
-{
-    text.push(b"[")?;
-    push_predicate(text, task, atom.pred)?;
-    push_objects(text, task, atom.args.as_slice())?;
-    text.push(b"]")
-}
-
-/// Adds the name of the predicate with a number; a number that no predicate has adds an empty name.
-fn push_predicate(text: &mut Text, task: &Task, number: u16) -> Result<(), AllocError>
-    ensures { OnOk result (text.new ≡ text.old ++ json_string (name_at (keys_of task.now.preds) number)) }
-{
-    if usize::from(number) < task.pred_count() {
-        return push_json_string(text, task.pred_name(number).as_bytes());
-    }
-    push_json_string(text, b"")
-}
-
-/// Adds the name of the object with a number; a number that no object has adds an empty name.
-fn push_object(text: &mut Text, task: &Task, number: u16) -> Result<(), AllocError>
-    ensures { OnOk result (text.new ≡ text.old ++ json_string (name_at (keys_of task.now.objects) number)) }
-{
-    if usize::from(number) < task.object_count() {
-        return push_json_string(text, task.object_name(number).as_bytes());
-    }
-    push_json_string(text, b"")
-}
-
-/// Adds the names of objects, each after a comma.
-fn push_objects(text: &mut Text, task: &Task, numbers: &[u16]) -> Result<(), AllocError>
-    ensures { OnOk result (text.new ≡ text.old ++ after_commas (map (λ number. json_string (name_at (keys_of task.now.objects) number)) numbers.now)) }
-{
-    for number in numbers {
-        text.push(b",")?;
-        push_object(text, task, *number)?;
+        push_json_condition(text, task, cond)?;
     }
     Ok(())
 }

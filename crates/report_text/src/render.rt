@@ -1,20 +1,20 @@
-//! The text of atoms, steps, verdicts and findings, as reports show them.
+//! The text of steps, verdicts and findings, as reports show them.
 //!
-//! Each function adds its piece at the end of the text. Names come from the task, by number.
+//! Each function adds its piece at the end of the text.
 ghost use Rattle.std.specs.Prelude.{◌≡◌, ◌<◌, ◌++◌, ◌-◌, OnOk, IfSome, Some, length, map, slice_get};
 ghost use Rattle.std.specs.Option.{option_copied};
 ghost use Rattle.pddl_words.specs.SpacedWords.{words_of};
 ghost use Rattle.pddl_words.specs.Words.{folded};
 ghost use Rattle.plan_text.specs.PlanReading.{plan_of};
 ghost use Rattle.plan_text.specs.StepAt.{step_at};
-ghost use Rattle.std.specs.Map.{keys_of};
-ghost use Rattle.report_text.specs.Report.{name_at, spaced, atom_text, formula_text, condition_text, conditions_text, step_text, why_text, plain_why_text, failure_text, verdict_text, judged_text};
+ghost use Rattle.report_text.specs.Pieces.{name_at, spaced};
+ghost use Rattle.report_text.specs.Report.{conditions_text, step_text, why_text, plain_why_text, failure_text, verdict_text, judged_text, as_judged};
 ghost use Rattle.report_text.specs.Format.{failure_in};
-ghost use Rattle.report_text.specs.Report.{as_judged};
 ghost use Rattle.strips_task.specs.Spelled.{IsSpelled, step_spelled};
 ghost use Rattle.strips_task.specs.Steps.{step_of};
 ghost use Rattle.strips_task.specs.StepView.{step_shown};
 
+use crate::conditions::push_condition;
 use crate::costs::push_cost;
 use crate::format::Format;
 use crate::json::push_failure_members;
@@ -25,85 +25,16 @@ use pddl_words::RowWords;
 use plan_text::{FoundStep, find_step_at};
 use std::alloc::AllocError;
 use strips_judge::{Verdict, Why};
-use strips_task::{Atom, GroundCond, GroundFormula, OpenSteps, Plan, StepView, Task};
+use strips_task::{Formula, OpenSteps, Plan, StepView, Task};
 
 /// Room for what is around a row in a line: parentheses, a fault that names nothing, and the end of the line.
 const AROUND_ROW: usize = 64;
-
-/// Adds the name of the object with a number; a number that no object has adds nothing.
-pub(crate) fn push_object(text: &mut Text, task: &Task, number: u16) -> Result<(), AllocError>
-    ensures { OnOk result (text.new ≡ text.old ++ name_at (keys_of task.now.objects) number) }
-{
-    if usize::from(number) < task.object_count() {
-        return text.push(task.object_name(number).as_bytes());
-    }
-    Ok(())
-}
-
-/// Adds the name of the predicate with a number; a number that no predicate has adds nothing.
-pub(crate) fn push_predicate(text: &mut Text, task: &Task, number: u16) -> Result<(), AllocError>
-    ensures { OnOk result (text.new ≡ text.old ++ name_at (keys_of task.now.preds) number) }
-{
-    if usize::from(number) < task.pred_count() {
-        return text.push(task.pred_name(number).as_bytes());
-    }
-    Ok(())
-}
-
-/// Adds the names of objects, each after a space.
-fn push_objects(text: &mut Text, task: &Task, numbers: &[u16]) -> Result<(), AllocError>
-    ensures { OnOk result (text.new ≡ text.old ++ spaced (map (name_at (keys_of task.now.objects)) numbers.now)) }
-{
-    for number in numbers {
-        text.push(b" ")?;
-        push_object(text, task, *number)?;
-    }
-    Ok(())
-}
-
-/// Adds an atom.
-pub fn push_atom(text: &mut Text, task: &Task, atom: &Atom) -> Result<(), AllocError>
-    ensures { OnOk result (text.new ≡ text.old ++ atom_text task.now atom.now) }
-{
-    text.push(b"(")?;
-    push_predicate(text, task, atom.pred)?;
-    push_objects(text, task, atom.args.as_slice())?;
-    text.push(b")")
-}
-
-/// Adds a formula: an atom, or an equality as `(= a b)`.
-fn push_formula(text: &mut Text, task: &Task, formula: &GroundFormula) -> Result<(), AllocError>
-    ensures { OnOk result (text.new ≡ text.old ++ formula_text task.now formula.now) }
-{
-    match formula {
-        GroundFormula::Atom(atom) => push_atom(text, task, atom),
-        GroundFormula::Equal(left, right) => {
-            text.push(b"(= ")?;
-            push_object(text, task, *left)?;
-            text.push(b" ")?;
-            push_object(text, task, *right)?;
-            text.push(b")")
-        }
-    }
-}
-
-/// Adds a condition.
-pub fn push_condition(text: &mut Text, task: &Task, cond: &GroundCond) -> Result<(), AllocError>
-    ensures { OnOk result (text.new ≡ text.old ++ condition_text task.now cond.now) }
-{
-    if cond.positive {
-        return push_formula(text, task, &cond.formula);
-    }
-    text.push(b"(not ")?;
-    push_formula(text, task, &cond.formula)?;
-    text.push(b")")
-}
 
 /// Adds conditions, each after a space.
 pub(crate) fn push_conditions(
     text: &mut Text,
     task: &Task,
-    conds: &[GroundCond],
+    conds: &[Formula],
 ) -> Result<(), AllocError>
     ensures { OnOk result (text.new ≡ text.old ++ conditions_text task.now conds.now) }
 {

@@ -4,16 +4,17 @@ ghost use Rattle.strips_task.specs.StepView.{step_shown};
 ghost use Rattle.report_text.specs.Format.{cost_field, failure_fields, found_fields, spaced_conditions, table_head, table_row, verdict_fields, why_fields};
 ghost use Rattle.report_text.specs.Report.{as_judged};
 
+use crate::conditions::push_condition;
 use crate::costs::push_billionths;
 use crate::escapes::push_field;
 use crate::format::Format;
-use crate::render::{push_argument, push_condition, push_conditions, push_failing_step, push_step};
+use crate::render::{push_argument, push_conditions, push_failing_step, push_step};
 use crate::text::Text;
 use intake_rules::{Finding, SubmittedPlan};
 use plan_cost::Cost;
 use std::alloc::AllocError;
 use strips_judge::{Verdict, Why};
-use strips_task::{GroundCond, StepView, Task};
+use strips_task::{Formula, StepView, Task};
 
 /// Adds the names of the columns.
 pub(crate) fn push_table_head(text: &mut Text) -> Result<(), AllocError>
@@ -95,7 +96,7 @@ fn push_valid_fields(text: &mut Text, steps: u32, cost: Cost) -> Result<(), Allo
 }
 
 /// Adds the fields of a plan that misses the goal.
-fn push_goal_fields(text: &mut Text, task: &Task, missing: &[GroundCond]) -> Result<(), AllocError>
+fn push_goal_fields(text: &mut Text, task: &Task, missing: &[Formula]) -> Result<(), AllocError>
     ensures { OnOk result (text.new ≡ text.old ++ codes "goal\t\t\t\t\t\t" ++ spaced_conditions task.now missing.now ++ codes "\t") }
 {
     text.push(b"goal\t\t\t\t\t\t")?;
@@ -165,11 +166,7 @@ fn push_why_fields(
 }
 
 /// Adds conditions with single spaces between them.
-fn push_spaced_conditions(
-    text: &mut Text,
-    task: &Task,
-    conds: &[GroundCond],
-) -> Result<(), AllocError>
+fn push_spaced_conditions(text: &mut Text, task: &Task, conds: &[Formula]) -> Result<(), AllocError>
     ensures { OnOk result (text.new ≡ text.old ++ spaced_conditions task.now conds.now) }
 {
     match conds {

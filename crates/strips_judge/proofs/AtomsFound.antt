@@ -1,8 +1,8 @@
 -- Each atom that has a number is found: more atoms get numbers, and those before them stay.
 
 use Rattle.std.proofs.Common.{◌≡◌, ◌<◌, ◌≤◌, ◌+◌, ◌*◌, ◌^◌, ℕ, Bool, true, false, List, [], ◌∷◌, ◌++◌, Option, Some, None, option_map, length, length-append, arith, refl, ap, sym, ◌∙◌, subst, append_assoc, slice_index_or}
-use Rattle.strips_task.specs.declared.atoms.Atom.{Atom}
-use Rattle.strips_task.specs.Atom.{atom_eq}
+use Rattle.formulas.specs.declared.atoms.Atom.{Atom}
+use Rattle.formulas.specs.Atom.{atom_eq}
 use Rattle.strips_task.proofs.AtomEquality.{atom_same}
 use Rattle.strips_task.specs.declared.atom_keys.AtomKey.{AtomKey}
 use Rattle.strips_task.specs.AtomKeys.{atom_of}

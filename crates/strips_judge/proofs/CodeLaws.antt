@@ -1,28 +1,29 @@
 -- Codes: what atoms and their numbers say of each other, one by one, and what growth leaves of it.
 
-use Rattle.std.proofs.Common.{◌≡◌, ◌<◌, ◌≤◌, ◌+◌, ℕ, zero, suc, Bool, true, false, not, List, [], ◌∷◌, ◌++◌, Option, Some, None, All, IsTrue, refl, ap, sym, ◌∙◌, length, map, slice_get, take, get_or, subst, ⊎_elim, arith, append-nil}
-use Rattle.std.specs.Bool.{beq}
+use Rattle.std.proofs.Common.{◌≡◌, ◌<◌, ◌≤◌, ◌+◌, ◌↔◌, ℕ, zero, suc, Bool, true, false, not, nat_eq, List, [], ◌∷◌, ◌++◌, Option, Some, None, All, IsTrue, refl, ap, sym, ◌∙◌, length, map, slice_get, take, get_or, subst, ⊎_elim, arith}
 use Rattle.std.specs.Option.{option_or}
-use Rattle.std.specs.List.{cons_option}
+use Rattle.std.proofs.Math.Bool.{not-not}
 use Rattle.std.proofs.lemmas.List.{take_all, map-append}
 use Rattle.std.proofs.lemmas.Option.{get_or_from_slice_get, slice_get_cases, slice_get-get_or}
-use Rattle.std.proofs.lemmas.List.Elements.{All-append, All-nil, All-cons, All-head, All-tail, filter_map-append}
+use Rattle.std.proofs.lemmas.List.Elements.{All-append, All-nil, All-cons, All-push, All-pop}
+use Rattle.formulas.specs.declared.atoms.Atom.{Atom}
+use Rattle.formulas.specs.declared.terms.Term.{Term}
+use Rattle.formulas.specs.declared.terms.Pattern.{Pattern}
+use Rattle.formulas.specs.Grounding.{with_objects}
+use Rattle.formulas.specs.Meaning.{object_of, signed}
+use Rattle.formulas.specs.Tree.{Tree, atom, equality}
 use Rattle.strips_task.specs.declared.actions.Action.{Action}
-use Rattle.strips_task.specs.declared.atoms.Atom.{Atom}
-use Rattle.strips_task.specs.declared.atoms.GroundCond.{GroundCond}
-use Rattle.strips_task.specs.declared.atoms.GroundFormula.{GroundFormula}
-use Rattle.strips_task.specs.declared.atoms.GroundFormula.TheVariants as grounded
 use Rattle.strips_task.specs.declared.steps.StepText.{StepText}
 use Rattle.strips_task.specs.declared.tasks.TaskParts.{TaskParts}
-use Rattle.strips_judge.specs.Codes.{Code, AreNumbers, asked_by, asked, HoldsIfEquality, AsksFor, IsCode, asking_more}
+use Rattle.strips_judge.specs.Codes.{Code, AreNumbers, AsksFor, IsCode, asking_more}
+use Rattle.strips_judge.specs.Grounding.{ground}
 use Rattle.strips_judge.specs.Step.{deletes, deletes_by, adds, adds_by, action_named, objects_named, fault_by, hindrance, after, after_by, precondition, missing, missing_why}
 use Rattle.strips_task.specs.AtomNumbers.{number_in}
 use Rattle.strips_judge.specs.NumberedState.{KeepsNumbers}
-use Rattle.strips_judge.specs.State.{State, is_true, holds, after_effects, without, with_all}
-use Rattle.strips_judge.specs.Validity.{Satisfies}
+use Rattle.strips_judge.specs.State.{State, is_in, holds, after_effects, without, with_all}
 use Rattle.strips_judge.proofs.Applicable.{missing_from_satisfied}
 use Rattle.strips_task.proofs.Numbering.{number_in-lt}
-use Rattle.strips_judge.proofs.StepLaws.{taken_more, without-more, with_all-more}
+use Rattle.strips_judge.proofs.StepLaws.{taken_more, without-more, with_all-more, grounded_holds}
 
 module _ {A B C : Type 0} (f : A → C) (g : B → C) where
   -- beside each item of the one list stands one of the other
@@ -64,7 +65,7 @@ numbers_within atoms (a ∷ more) (n ∷ ns) e =
 
 -- the added atoms of a code have numbers
 pub added_within : (parts : TaskParts) (atoms : List Atom) (step : StepText) (code : Code) → IsCode parts atoms step code → All (λ n. n < length atoms) code.added
-added_within parts atoms step code is = numbers_within atoms (adds parts step) code.added is.added
+added_within parts atoms step code is = numbers_within atoms (adds parts (is_in []) step) code.added (is.added (is_in []))
 
 -- growth leaves numbers, what a code asks for, and codes
 pub numbers_kept : (old new : List Atom) → KeepsNumbers old new → (ground : List Atom) (numbers : List ℕ) → AreNumbers old ground numbers → AreNumbers new ground numbers
@@ -76,26 +77,29 @@ numbers_kept old new keep (a ∷ more) (n ∷ ns) e =
     let rest : map (number_in old) more ≡ map Some ns = cc in
     ap (λ o. o ∷ map (number_in new) more) (keep a n here) ∙ ap (λ l. Some n ∷ l) (numbers_kept old new keep more ns rest)
 
-pub asks_kept : (old new : List Atom) → KeepsNumbers old new → (conds : List GroundCond) (code : Code) → AsksFor old conds code → AsksFor new conds code
-asks_kept old new keep conds code h =
+pub asks_kept : (parts : TaskParts) (old new : List Atom) → KeepsNumbers old new → (conditions : List Tree) (code : Code) → AsksFor parts old conditions code → AsksFor parts new conditions code
+asks_kept parts old new keep conditions code h =
     record {
-      needed = numbers_kept old new keep (asked true conds) code.needed h.needed;
-      forbidden = numbers_kept old new keep (asked false conds) code.forbidden h.forbidden;
-      equalities = h.equalities;
+      trues = h.trues;
+      falses = h.falses;
+      needed = numbers_kept old new keep h.trues code.needed h.needed;
+      forbidden = numbers_kept old new keep h.falses code.forbidden h.forbidden;
+      exactly = h.exactly;
     }
 
 -- what a code asks for is not what it does
-pub asks_whatever : (atoms : List Atom) (conds : List GroundCond) (code : Code) (deleted added : List ℕ) → AsksFor atoms conds code
-    → AsksFor atoms conds (record code { deleted = deleted; added = added })
-asks_whatever atoms conds code deleted added h = record { needed = h.needed; forbidden = h.forbidden; equalities = h.equalities }
+pub asks_whatever : (parts : TaskParts) (atoms : List Atom) (conditions : List Tree) (code : Code) (deleted added : List ℕ) → AsksFor parts atoms conditions code
+    → AsksFor parts atoms conditions (record code { deleted = deleted; added = added })
+asks_whatever parts atoms conditions code deleted added h =
+    record { trues = h.trues; falses = h.falses; needed = h.needed; forbidden = h.forbidden; exactly = h.exactly }
 
 pub code_kept : (parts : TaskParts) (old new : List Atom) → KeepsNumbers old new → (step : StepText) (code : Code) → IsCode parts old step code → IsCode parts new step code
 code_kept parts old new keep step code h =
     record {
       faultless = h.faultless;
-      asks = asks_kept old new keep (precondition parts step) code h.asks;
-      deleted = numbers_kept old new keep (deletes parts step) code.deleted h.deleted;
-      added = numbers_kept old new keep (adds parts step) code.added h.added;
+      asks = asks_kept parts old new keep (precondition parts step) code h.asks;
+      deleted = λ state. numbers_kept old new keep (deletes parts state step) code.deleted (h.deleted state);
+      added = λ state. numbers_kept old new keep (adds parts state step) code.added (h.added state);
     }
 
 module _ (atoms : List Atom) (ground : List Atom) (numbers : List ℕ) (i : ℕ) (same : AreNumbers atoms ground numbers) (lt : i < length numbers) where
@@ -131,88 +135,108 @@ numbers_more old new keep before all numbers more a n is_all is_more so_far here
     ∙ ap (λ o. map Some numbers ++ o ∷ []) here
     ∙ sym (map-append Some numbers (n ∷ [])) ∙ ap (map Some) (sym is_more)
 
--- the atoms that one condition more asks for
-asked-more : (truth : Bool) (before : List GroundCond) (condition : GroundCond)
-    → asked truth (before ++ condition ∷ []) ≡ asked truth before ++ cons_option (asked_by truth condition.positive condition.formula) []
-asked-more truth before condition = filter_map-append (λ c. asked_by truth c.positive c.formula) before (condition ∷ [])
-
--- a condition more that asks for an atom
-pub asks_atom : (old new : List Atom) → KeepsNumbers old new → (before : List GroundCond) (code : Code) (positive : Bool) (atom : Atom) (n : ℕ) → number_in new atom ≡ Some n
-    → AsksFor old before code → AsksFor new (before ++ record { positive = positive; formula = grounded.Atom atom } ∷ []) (asking_more code positive n)
-asks_atom old new keep before code true atom n here h =
-    let condition : GroundCond = record { positive = true; formula = grounded.Atom atom } in
+-- a code that asks for nothing
+pub asks_nothing : (parts : TaskParts) (atoms : List Atom) (code : Code) → code.needed ≡ [] → code.forbidden ≡ [] → AsksFor parts atoms [] code
+asks_nothing parts atoms code none nor =
     record {
-      needed = numbers_more old new keep (asked true before) (asked true (before ++ condition ∷ [])) code.needed (code.needed ++ n ∷ []) atom n (asked-more true before condition) refl h.needed here;
-      forbidden = ap (map (number_in new)) (asked-more false before condition ∙ append-nil (asked false before)) ∙ numbers_kept old new keep (asked false before) code.forbidden h.forbidden;
-      equalities = All-append (λ c. HoldsIfEquality c c.formula) before (condition ∷ []) h.equalities
-          (All-cons (λ c. HoldsIfEquality c c.formula) condition [] tt (All-nil (λ c. HoldsIfEquality c c.formula)));
-    }
-asks_atom old new keep before code false atom n here h =
-    let condition : GroundCond = record { positive = false; formula = grounded.Atom atom } in
-    record {
-      needed = ap (map (number_in new)) (asked-more true before condition ∙ append-nil (asked true before)) ∙ numbers_kept old new keep (asked true before) code.needed h.needed;
-      forbidden = numbers_more old new keep (asked false before) (asked false (before ++ condition ∷ [])) code.forbidden (code.forbidden ++ n ∷ []) atom n (asked-more false before condition) refl h.forbidden here;
-      equalities = All-append (λ c. HoldsIfEquality c c.formula) before (condition ∷ []) h.equalities
-          (All-cons (λ c. HoldsIfEquality c c.formula) condition [] tt (All-nil (λ c. HoldsIfEquality c c.formula)));
+      trues = [];
+      falses = [];
+      needed = sym (ap (map Some) none);
+      forbidden = sym (ap (map Some) nor);
+      exactly = λ state. (λ h. All-nil (λ tree. IsTrue (holds parts state [] tree)), λ h. (All-nil (λ atom. state atom ≡ true), All-nil (λ atom. state atom ≡ false)));
     }
 
--- an equality holds in every state where it has the truth that its condition wants
-equality_holds : (state : State) (positive found : Bool) (left right : ℕ) → is_true state (grounded.Equal left right) ≡ found → beq found positive ≡ true
-    → holds state (record { positive = positive; formula = grounded.Equal left right }) ≡ true
-equality_holds state true true left right is fits = is
-equality_holds state true false left right is fits = cc
-equality_holds state false true left right is fits = cc
-equality_holds state false false left right is fits = ap not is
+-- all of these, and one more
+pub all_more : {A : Type 0} (P : A → Type 0) (xs : List A) (x : A) → (All P xs × P x) ↔ All P (xs ++ x ∷ [])
+all_more P xs x = (λ h. All-push P xs x h.0 h.1, λ h. All-pop P (xs ++ x ∷ []) xs (Some x) refl h)
 
--- a condition more that is an equality and holds
-pub asks_equality : (atoms : List Atom) (before : List GroundCond) (code : Code) (positive found : Bool) (left right : ℕ)
-    → ((state : State) → is_true state (grounded.Equal left right) ≡ found) → beq found positive ≡ true
-    → AsksFor atoms before code → AsksFor atoms (before ++ record { positive = positive; formula = grounded.Equal left right } ∷ []) code
-asks_equality atoms before code positive found left right is fits h =
-    let condition : GroundCond = record { positive = positive; formula = grounded.Equal left right } in
-    record {
-      needed = ap (map (number_in atoms)) (asked-more true before condition ∙ append-nil (asked true before)) ∙ h.needed;
-      forbidden = ap (map (number_in atoms)) (asked-more false before condition ∙ append-nil (asked false before)) ∙ h.forbidden;
-      equalities = All-append (λ c. HoldsIfEquality c c.formula) before (condition ∷ []) h.equalities
-          (All-cons (λ c. HoldsIfEquality c c.formula) condition [] (λ state. equality_holds state positive found left right (is state) fits) (All-nil (λ c. HoldsIfEquality c c.formula)));
-    }
+module _ (parts : TaskParts) (old new : List Atom) (keep : KeepsNumbers old new) (before : List Tree) (more : Tree) (code : Code) (h : AsksFor parts old before code) where
+  abbrev Holds : State → Tree → Type 0
+  Holds state tree = IsTrue (holds parts state [] tree)
 
--- conditions hold where the atoms that they want to be true are true, and those that they want to be false are false
-pub satisfied_by : (state : State) (conds : List GroundCond) → All (λ atom. state atom ≡ true) (asked true conds) → All (λ atom. state atom ≡ false) (asked false conds)
-    → All (λ c. HoldsIfEquality c c.formula) conds → Satisfies state conds
-satisfied_by state [] needs forbids equalities = All-nil (λ c. IsTrue (holds state c))
-satisfied_by state (condition ∷ conds) needs forbids equalities =
-    by condition.positive condition.formula (All-head (λ c. HoldsIfEquality c c.formula) condition conds equalities) needs forbids
-    (λ n f. satisfied_by state conds n f (All-tail (λ c. HoldsIfEquality c c.formula) condition conds equalities))
-  where
-    by : (positive : Bool) (formula : GroundFormula) → HoldsIfEquality (record { positive = positive; formula = formula }) formula
-        → All (λ atom. state atom ≡ true) (cons_option (asked_by true positive formula) (asked true conds))
-        → All (λ atom. state atom ≡ false) (cons_option (asked_by false positive formula) (asked false conds))
-        → (All (λ atom. state atom ≡ true) (asked true conds) → All (λ atom. state atom ≡ false) (asked false conds) → Satisfies state conds)
-        → Satisfies state (record { positive = positive; formula = formula } ∷ conds)
-    by true (grounded.Atom atom) fixed n f rest =
-        All-cons (λ c. IsTrue (holds state c)) (record { positive = true; formula = grounded.Atom atom }) conds (All-head (λ a. state a ≡ true) atom (asked true conds) n)
-        (rest (All-tail (λ a. state a ≡ true) atom (asked true conds) n) f)
-    by false (grounded.Atom atom) fixed n f rest =
-        All-cons (λ c. IsTrue (holds state c)) (record { positive = false; formula = grounded.Atom atom }) conds (ap not (All-head (λ a. state a ≡ false) atom (asked false conds) f))
-        (rest n (All-tail (λ a. state a ≡ false) atom (asked false conds) f))
-    by positive (grounded.Equal left right) fixed n f rest =
-        All-cons (λ c. IsTrue (holds state c)) (record { positive = positive; formula = grounded.Equal left right }) conds (fixed state) (rest n f)
+  -- a condition more that holds exactly where an atom is true
+  pub asks_true : (fact : Atom) (number : ℕ) → number_in new fact ≡ Some number → ((state : State) → holds parts state [] more ≡ state fact)
+      → AsksFor parts new (before ++ more ∷ []) (asking_more code true number)
+  asks_true fact number here means =
+      record {
+        trues = h.trues ++ fact ∷ [];
+        falses = h.falses;
+        needed = numbers_more old new keep h.trues (h.trues ++ fact ∷ []) code.needed (code.needed ++ number ∷ []) fact number refl refl h.needed here;
+        forbidden = numbers_kept old new keep h.falses code.forbidden h.forbidden;
+        exactly = λ state. (
+          λ given. let parted = (all_more (λ a. state a ≡ true) h.trues fact).1 given.0 in
+              (all_more (Holds state) before more).0 ((h.exactly state).0 (parted.0, given.1), means state ∙ parted.1),
+          λ holding. let parted = (all_more (Holds state) before more).1 holding in
+              let so_far = (h.exactly state).1 parted.0 in
+              ((all_more (λ a. state a ≡ true) h.trues fact).0 (so_far.0, sym (means state) ∙ parted.1), so_far.1),
+        );
+      }
+
+  -- a condition more that holds exactly where an atom is false
+  pub asks_false : (fact : Atom) (number : ℕ) → number_in new fact ≡ Some number → ((state : State) → holds parts state [] more ≡ not (state fact))
+      → AsksFor parts new (before ++ more ∷ []) (asking_more code false number)
+  asks_false fact number here means =
+      record {
+        trues = h.trues;
+        falses = h.falses ++ fact ∷ [];
+        needed = numbers_kept old new keep h.trues code.needed h.needed;
+        forbidden = numbers_more old new keep h.falses (h.falses ++ fact ∷ []) code.forbidden (code.forbidden ++ number ∷ []) fact number refl refl h.forbidden here;
+        exactly = λ state. (
+          λ given. let parted = (all_more (λ a. state a ≡ false) h.falses fact).1 given.1 in
+              (all_more (Holds state) before more).0 ((h.exactly state).0 (given.0, parted.0), means state ∙ ap not parted.1),
+          λ holding. let parted = (all_more (Holds state) before more).1 holding in
+              let so_far = (h.exactly state).1 parted.0 in
+              (so_far.0, (all_more (λ a. state a ≡ false) h.falses fact).0 (so_far.1, sym (not-not (state fact)) ∙ ap not (sym (means state) ∙ parted.1))),
+        );
+      }
+
+  -- a condition more that holds in every state
+  pub asks_always : ((state : State) → holds parts state [] more ≡ true) → AsksFor parts new (before ++ more ∷ []) code
+  asks_always always =
+      record {
+        trues = h.trues;
+        falses = h.falses;
+        needed = numbers_kept old new keep h.trues code.needed h.needed;
+        forbidden = numbers_kept old new keep h.falses code.forbidden h.forbidden;
+        exactly = λ state. (
+          λ given. (all_more (Holds state) before more).0 ((h.exactly state).0 given, always state),
+          λ holding. (h.exactly state).1 ((all_more (Holds state) before more).1 holding).0,
+        );
+      }
+
+-- a literal more
+pub asks_literal : (parts : TaskParts) (old new : List Atom) → KeepsNumbers old new → (before : List Tree) (code : Code) (objects : List ℕ) (tree : Tree) (positive : Bool) (pattern : Pattern) (number : ℕ)
+    → tree ≡ atom positive pattern → number_in new (ground objects pattern) ≡ Some number
+    → AsksFor parts old before code → AsksFor parts new (before ++ with_objects objects [] tree ∷ []) (asking_more code positive number)
+asks_literal parts old new keep before code objects tree true pattern number is here h =
+    asks_true parts old new keep before (with_objects objects [] tree) code h (ground objects pattern) number here
+    (λ state. grounded_holds parts state objects tree ∙ ap (holds parts state objects) is)
+asks_literal parts old new keep before code objects tree false pattern number is here h =
+    asks_false parts old new keep before (with_objects objects [] tree) code h (ground objects pattern) number here
+    (λ state. grounded_holds parts state objects tree ∙ ap (holds parts state objects) is)
+
+-- an equality more that holds
+pub asks_equality : (parts : TaskParts) (atoms : List Atom) (before : List Tree) (code : Code) (objects : List ℕ) (tree : Tree) (positive : Bool) (left right : Term)
+    → tree ≡ equality positive left right → signed positive (nat_eq (object_of objects [] left) (object_of objects [] right)) ≡ true
+    → AsksFor parts atoms before code → AsksFor parts atoms (before ++ with_objects objects [] tree ∷ []) code
+asks_equality parts atoms before code objects tree positive left right is fits h =
+    asks_always parts atoms atoms (λ a n e. e) before (with_objects objects [] tree) code h
+    (λ state. grounded_holds parts state objects tree ∙ ap (holds parts state objects) is ∙ fits)
 
 module _ (parts : TaskParts) (atoms : List Atom) (state : State) (step : StepText) (code : Code) (is : IsCode parts atoms step code) where
   -- a step with a code is not hindered where all is as the code asks
   pub code_hinders_not : ((ground : List Atom) → AreNumbers atoms ground code.needed → All (λ atom. state atom ≡ true) ground)
       → ((ground : List Atom) → AreNumbers atoms ground code.forbidden → All (λ atom. state atom ≡ false) ground) → hindrance parts state step ≡ None
   code_hinders_not needs forbids =
-      let conds = precondition parts step in
-      ap (λ o. option_or o (missing_why (missing state conds))) is.faultless
-      ∙ ap missing_why (missing_from_satisfied state conds (satisfied_by state conds (needs (asked true conds) is.asks.needed) (forbids (asked false conds) is.asks.forbidden) is.asks.equalities))
+      let conditions = precondition parts step in
+      ap (λ o. option_or o (missing_why (missing parts state conditions))) is.faultless
+      ∙ ap missing_why (missing_from_satisfied parts state conditions ((is.asks.exactly state).0 (needs is.asks.trues is.asks.needed, forbids is.asks.falses is.asks.forbidden)))
 
   -- and leads to the state after its deletes and adds
-  pub code_leads : (middle next : State) → middle ≡ without state (deletes parts step) → next ≡ with_all middle (adds parts step) → next ≡ after parts state step
-  code_leads middle next cleared set = set ∙ ap (λ s. with_all s (adds parts step)) cleared ∙ by (action_named parts step.action) is.faultless
+  pub code_leads : (middle next : State) → middle ≡ without state (deletes parts state step) → next ≡ with_all middle (adds parts state step) → next ≡ after parts state step
+  code_leads middle next cleared set = set ∙ ap (λ s. with_all s (adds parts state step)) cleared ∙ by (action_named parts step.action) is.faultless
     where
       by : (o : Option Action) → fault_by parts o step.args ≡ None
-          → after_effects state (deletes_by (objects_named parts step.args) o) (adds_by (objects_named parts step.args) o) ≡ after_by (objects_named parts step.args) state o
+          → after_effects state (deletes_by parts (objects_named parts step.args) state o) (adds_by parts (objects_named parts step.args) state o) ≡ after_by parts (objects_named parts step.args) state o
       by None e = cc
       by (Some action) e = refl

@@ -6,6 +6,12 @@ pub mod AtomsFound
 pub mod SingleCells
 pub mod CodeLaws
 pub mod Fits
+pub mod Weights
+pub mod VariableTypes
+pub mod Evaluations
+pub mod EffectWeights
+pub mod ActionEffects
+pub mod Gathering
 pub mod Growth
 pub mod Runs
 pub mod Searches

@@ -5,8 +5,8 @@ use Rattle.std.proofs.Math.Path.{fun_ext}
 use Rattle.std.proofs.lemmas.Bool.{lt-ltb, le-ltb}
 use Rattle.std.proofs.lemmas.Map.Views.{any-filter_same}
 use Rattle.std.specs.List.{list_any}
-use Rattle.strips_task.specs.declared.atoms.Atom.{Atom}
-use Rattle.strips_task.specs.Atom.{atom_eq}
+use Rattle.formulas.specs.declared.atoms.Atom.{Atom}
+use Rattle.formulas.specs.Atom.{atom_eq}
 use Rattle.strips_task.specs.FirstOccurrences.{first_occurrences}
 use Rattle.strips_task.proofs.AtomEquality.{atom_equiv, atom_same}
 use Rattle.strips_task.specs.AtomNumbers.{number_in}

@@ -2,7 +2,7 @@
 
 use Rattle.std.proofs.Common.{◌≡◌, ℕ, ◌+◌, suc, List, [], ◌∷◌, Option, Some, None, slice_get, take, inl, inr, refl, ap, sym, ◌∙◌, arith}
 use Rattle.std.specs.Option.{option_or}
-use Rattle.strips_task.specs.declared.atoms.GroundCond.{GroundCond}
+use Rattle.formulas.specs.Tree.{Tree}
 use Rattle.strips_task.specs.declared.plans.Plan.{Plan}
 use Rattle.strips_task.specs.declared.plans.Plan.TheVariants.{Steps, Unreadable}
 use Rattle.strips_task.specs.declared.steps.StepText.{StepText}
@@ -22,16 +22,16 @@ use Rattle.strips_judge.proofs.UnmetConditions.{are_unmet}
 module _ (parts : TaskParts) where
   -- what hinders a step is the reason that it is not applicable
   reason : (state : State) (step : StepText) (why : Why) → hindrance parts state step ≡ Some why → IsReason parts state step why
-  reason state step why e = by (fault parts step) (missing state (precondition parts step)) refl refl
+  reason state step why e = by (fault parts step) (missing parts state (precondition parts step)) refl refl
     where
-      by : (o : Option Why) (m : List GroundCond) → fault parts step ≡ o → missing state (precondition parts step) ≡ m → IsReason parts state step why
-      by (Some found) m f g = inl (f ∙ sym (ap (λ x. option_or x (missing_why (missing state (precondition parts step)))) f) ∙ e)
+      by : (o : Option Why) (m : List Tree) → fault parts step ≡ o → missing parts state (precondition parts step) ≡ m → IsReason parts state step why
+      by (Some found) m f g = inl (f ∙ sym (ap (λ x. option_or x (missing_why (missing parts state (precondition parts step)))) f) ∙ e)
       by None [] f g =
-          let apart : missing_why [] ≡ Some why = sym (ap missing_why g) ∙ sym (ap (λ x. option_or x (missing_why (missing state (precondition parts step)))) f) ∙ e in
+          let apart : missing_why [] ≡ Some why = sym (ap missing_why g) ∙ sym (ap (λ x. option_or x (missing_why (missing parts state (precondition parts step)))) f) ∙ e in
           cc
       by None (condition ∷ conds) f g =
-          let same : missing_why (condition ∷ conds) ≡ Some why = sym (ap missing_why g) ∙ sym (ap (λ x. option_or x (missing_why (missing state (precondition parts step)))) f) ∙ e in
-          inr (f, (condition ∷ conds, cc, are_unmet state (precondition parts step) (condition ∷ conds) g (λ none. cc)))
+          let same : missing_why (condition ∷ conds) ≡ Some why = sym (ap missing_why g) ∙ sym (ap (λ x. option_or x (missing_why (missing parts state (precondition parts step)))) f) ∙ e in
+          inr (f, (condition ∷ conds, cc, are_unmet parts state (precondition parts step) (condition ∷ conds) g (λ none. cc)))
 
   abbrev FailsFrom : ℕ → State → List StepText → ℕ → Why → Type 0
   FailsFrom n state steps i why = (before : ℕ) × (step : StepText) × (at : State) × (i ≡ n + before + 1) × (slice_get steps before ≡ Some step)
@@ -39,9 +39,9 @@ module _ (parts : TaskParts) where
 
   fails_for : (n : ℕ) (state : State) (steps : List StepText) (i : ℕ) (why : Why) → verdict_from parts n state steps ≡ answer.Fails i why
       → FailsFrom n state steps i why
-  fails_for n state [] i why e = by (missing state parts.goal) refl
+  fails_for n state [] i why e = by (missing parts state parts.goal) refl
     where
-      by : (unmet : List GroundCond) → missing state parts.goal ≡ unmet → FailsFrom n state [] i why
+      by : (unmet : List Tree) → missing parts state parts.goal ≡ unmet → FailsFrom n state [] i why
       by [] f = let apart : answer.Valid n ≡ answer.Fails i why = sym (ap (goal_verdict n) f) ∙ e in cc
       by (condition ∷ conds) f = let apart : answer.Goal (condition ∷ conds) ≡ answer.Fails i why = sym (ap (goal_verdict n) f) ∙ e in cc
   fails_for n state (first ∷ steps) i why e = by (hindrance parts state first) refl (fails_for (n + 1) (after parts state first) steps i why)
@@ -58,22 +58,22 @@ module _ (parts : TaskParts) where
           let (before, step, at, number, of, leads, because) = rest (sym (verdict_split parts n state first steps None f) ∙ e) in
           (suc before, step, at, omega arith, of, lead_more parts state at first (take before steps) (applicable_from_hindrance parts state first f) leads, because)
 
-  goal_for : (n : ℕ) (state : State) (steps : List StepText) (unmet : List GroundCond) → verdict_from parts n state steps ≡ answer.Goal unmet
-      → (end : State) × LeadTo parts state steps end × AreUnmet end parts.goal unmet
-  goal_for n state [] unmet e = by (missing state parts.goal) refl
+  goal_for : (n : ℕ) (state : State) (steps : List StepText) (unmet : List Tree) → verdict_from parts n state steps ≡ answer.Goal unmet
+      → (end : State) × LeadTo parts state steps end × AreUnmet parts end parts.goal unmet
+  goal_for n state [] unmet e = by (missing parts state parts.goal) refl
     where
-      by : (found : List GroundCond) → missing state parts.goal ≡ found → (end : State) × LeadTo parts state [] end × AreUnmet end parts.goal unmet
+      by : (found : List Tree) → missing parts state parts.goal ≡ found → (end : State) × LeadTo parts state [] end × AreUnmet parts end parts.goal unmet
       by [] f = let apart : answer.Valid n ≡ answer.Goal unmet = sym (ap (goal_verdict n) f) ∙ e in cc
       by (condition ∷ conds) f =
           let same : answer.Goal (condition ∷ conds) ≡ answer.Goal unmet = sym (ap (goal_verdict n) f) ∙ e in
           let told : condition ∷ conds ≡ unmet = cc in
-          (state, lead_none parts state, are_unmet state parts.goal unmet (f ∙ told) (λ none. let apart : condition ∷ conds ≡ [] = told ∙ none in cc))
+          (state, lead_none parts state, are_unmet parts state parts.goal unmet (f ∙ told) (λ none. let apart : condition ∷ conds ≡ [] = told ∙ none in cc))
   goal_for n state (step ∷ steps) unmet e = by (hindrance parts state step) refl (goal_for (n + 1) (after parts state step) steps unmet)
     where
       by : (o : Option Why) → hindrance parts state step ≡ o
           → (verdict_from parts (n + 1) (after parts state step) steps ≡ answer.Goal unmet
-          → (end : State) × LeadTo parts (after parts state step) steps end × AreUnmet end parts.goal unmet)
-          → (end : State) × LeadTo parts state (step ∷ steps) end × AreUnmet end parts.goal unmet
+          → (end : State) × LeadTo parts (after parts state step) steps end × AreUnmet parts end parts.goal unmet)
+          → (end : State) × LeadTo parts state (step ∷ steps) end × AreUnmet parts end parts.goal unmet
       by (Some why) f rest = let apart : answer.Fails (n + 1) why ≡ answer.Goal unmet = sym (verdict_split parts n state step steps (Some why) f) ∙ e in cc
       by None f rest =
           let (end, leads, lacks) = rest (sym (verdict_split parts n state step steps None f) ∙ e) in

@@ -42,5 +42,5 @@ module _ (parts : TaskParts) (all : Verdict) (state : State) (steps : List StepT
       ∙ ap (λ s. verdict_from parts (i + 1) s (drop (i + 1) steps)) (sym is)
 
   -- after the last step the goal decides
-  pub steps_end : length steps ≤ i → all ≡ goal_verdict i (missing state parts.goal)
+  pub steps_end : length steps ≤ i → all ≡ goal_verdict i (missing parts state parts.goal)
   steps_end past = so_far ∙ ap (verdict_from parts i state) (drop_all i steps past)

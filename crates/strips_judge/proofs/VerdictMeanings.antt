@@ -5,7 +5,7 @@ use Rattle.strips_task.specs.declared.plans.Plan.{Plan}
 use Rattle.strips_task.specs.declared.plans.Plan.TheVariants.{Steps, Unreadable}
 use Rattle.strips_task.specs.declared.steps.StepText.{StepText}
 use Rattle.strips_task.specs.declared.tasks.TaskParts.{TaskParts}
-use Rattle.strips_task.specs.declared.atoms.GroundCond.{GroundCond}
+use Rattle.formulas.specs.Tree.{Tree}
 use Rattle.strips_judge.specs.declared.verdict.Verdict.TheVariants as answer
 use Rattle.strips_judge.specs.declared.verdict.Why.{Why}
 use Rattle.strips_judge.specs.State.{State, is_in}
@@ -23,30 +23,30 @@ module _ (parts : TaskParts) where
   verdict_split n state step steps o e = ap (λ w. step_verdict (n + 1) w (verdict_from parts (n + 1) (after parts state step) steps)) e
 
   valid_from_verdict : (n : ℕ) (state : State) (steps : List StepText) (m : ℕ) → verdict_from parts n state steps ≡ answer.Valid m
-      → (end : State) × LeadTo parts state steps end × Satisfies end parts.goal × (n + length steps ≡ m)
-  valid_from_verdict n state [] m e = by (missing state parts.goal) refl
+      → (end : State) × LeadTo parts state steps end × Satisfies parts end parts.goal × (n + length steps ≡ m)
+  valid_from_verdict n state [] m e = by (missing parts state parts.goal) refl
     where
-      by : (unmet : List GroundCond) → missing state parts.goal ≡ unmet → (end : State) × LeadTo parts state [] end × Satisfies end parts.goal × (n + 0 ≡ m)
+      by : (unmet : List Tree) → missing parts state parts.goal ≡ unmet → (end : State) × LeadTo parts state [] end × Satisfies parts end parts.goal × (n + 0 ≡ m)
       by [] f =
           let same : answer.Valid n ≡ answer.Valid m = sym (ap (goal_verdict n) f) ∙ e in
           let count : n ≡ m = cc in
-          (state, lead_none parts state, satisfied_from_missing state parts.goal f, omega arith)
+          (state, lead_none parts state, satisfied_from_missing parts state parts.goal f, omega arith)
       by (condition ∷ conds) f = let apart : answer.Goal (condition ∷ conds) ≡ answer.Valid m = sym (ap (goal_verdict n) f) ∙ e in cc
   valid_from_verdict n state (step ∷ steps) m e = by (hindrance parts state step) refl (valid_from_verdict (n + 1) (after parts state step) steps m)
     where
       by : (o : Option Why) → hindrance parts state step ≡ o
           → (verdict_from parts (n + 1) (after parts state step) steps ≡ answer.Valid m
-          → (end : State) × LeadTo parts (after parts state step) steps end × Satisfies end parts.goal × (n + 1 + length steps ≡ m))
-          → (end : State) × LeadTo parts state (step ∷ steps) end × Satisfies end parts.goal × (n + length (step ∷ steps) ≡ m)
+          → (end : State) × LeadTo parts (after parts state step) steps end × Satisfies parts end parts.goal × (n + 1 + length steps ≡ m))
+          → (end : State) × LeadTo parts state (step ∷ steps) end × Satisfies parts end parts.goal × (n + length (step ∷ steps) ≡ m)
       by (Some why) f rest = let apart : answer.Fails (n + 1) why ≡ answer.Valid m = sym (verdict_split n state step steps (Some why) f) ∙ e in cc
       by None f rest =
           let (end, leads, holds, count) = rest (sym (verdict_split n state step steps None f) ∙ e) in
           (end, lead_more parts state end step steps (applicable_from_hindrance parts state step f) leads, holds, omega arith)
 
-  verdict_from_valid : (n : ℕ) (state end : State) (steps : List StepText) → LeadTo parts state steps end → Satisfies end parts.goal
+  verdict_from_valid : (n : ℕ) (state end : State) (steps : List StepText) → LeadTo parts state steps end → Satisfies parts end parts.goal
       → verdict_from parts n state steps ≡ answer.Valid (n + length steps)
   verdict_from_valid n state end [] leads holds =
-      ap (goal_verdict n) (ap (λ s. missing s parts.goal) (lead_none_same parts state end leads) ∙ missing_from_satisfied end parts.goal holds)
+      ap (goal_verdict n) (ap (λ s. missing parts s parts.goal) (lead_none_same parts state end leads) ∙ missing_from_satisfied parts end parts.goal holds)
       ∙ ap answer.Valid (let e : n ≡ n + 0 = omega arith in e)
   verdict_from_valid n state end (step ∷ steps) leads holds =
       let (can, rest) = lead_first parts state end step steps leads in
@@ -61,9 +61,9 @@ module _ (parts : TaskParts) where
   fails_from_verdict : (n : ℕ) (state : State) (steps : List StepText) (i : ℕ) (why : Why) → verdict_from parts n state steps ≡ answer.Fails i why
       → (before : ℕ) × (step : StepText) × (at : State) × (i ≡ n + before + 1) × (slice_get steps before ≡ Some step)
       × LeadTo parts state (take before steps) at × (IsApplicable parts at step → ⊥)
-  fails_from_verdict n state [] i why e = by (missing state parts.goal) refl
+  fails_from_verdict n state [] i why e = by (missing parts state parts.goal) refl
     where
-      by : (unmet : List GroundCond) → missing state parts.goal ≡ unmet
+      by : (unmet : List Tree) → missing parts state parts.goal ≡ unmet
           → (before : ℕ) × (step : StepText) × (at : State) × (i ≡ n + before + 1) × (slice_get [] before ≡ Some step)
           × LeadTo parts state (take before []) at × (IsApplicable parts at step → ⊥)
       by [] f = let apart : answer.Valid n ≡ answer.Fails i why = sym (ap (goal_verdict n) f) ∙ e in cc
@@ -106,32 +106,32 @@ module _ (parts : TaskParts) where
             ∙ ap (λ k. answer.Fails k why) (let index : n + 1 + before + 1 ≡ n + suc before + 1 = omega arith in index),
       )
 
-  goal_from_verdict : (n : ℕ) (state : State) (steps : List StepText) (unmet : List GroundCond) → verdict_from parts n state steps ≡ answer.Goal unmet
-      → (end : State) × LeadTo parts state steps end × (Satisfies end parts.goal → ⊥)
-  goal_from_verdict n state [] unmet e = by (missing state parts.goal) refl
+  goal_from_verdict : (n : ℕ) (state : State) (steps : List StepText) (unmet : List Tree) → verdict_from parts n state steps ≡ answer.Goal unmet
+      → (end : State) × LeadTo parts state steps end × (Satisfies parts end parts.goal → ⊥)
+  goal_from_verdict n state [] unmet e = by (missing parts state parts.goal) refl
     where
-      by : (found : List GroundCond) → missing state parts.goal ≡ found → (end : State) × LeadTo parts state [] end × (Satisfies end parts.goal → ⊥)
+      by : (found : List Tree) → missing parts state parts.goal ≡ found → (end : State) × LeadTo parts state [] end × (Satisfies parts end parts.goal → ⊥)
       by [] f = let apart : answer.Valid n ≡ answer.Goal unmet = sym (ap (goal_verdict n) f) ∙ e in cc
       by (condition ∷ conds) f =
-          (state, lead_none parts state, λ holds. let apart : condition ∷ conds ≡ [] = sym f ∙ missing_from_satisfied state parts.goal holds in cc)
+          (state, lead_none parts state, λ holds. let apart : condition ∷ conds ≡ [] = sym f ∙ missing_from_satisfied parts state parts.goal holds in cc)
   goal_from_verdict n state (step ∷ steps) unmet e = by (hindrance parts state step) refl (goal_from_verdict (n + 1) (after parts state step) steps unmet)
     where
       by : (o : Option Why) → hindrance parts state step ≡ o
           → (verdict_from parts (n + 1) (after parts state step) steps ≡ answer.Goal unmet
-          → (end : State) × LeadTo parts (after parts state step) steps end × (Satisfies end parts.goal → ⊥))
-          → (end : State) × LeadTo parts state (step ∷ steps) end × (Satisfies end parts.goal → ⊥)
+          → (end : State) × LeadTo parts (after parts state step) steps end × (Satisfies parts end parts.goal → ⊥))
+          → (end : State) × LeadTo parts state (step ∷ steps) end × (Satisfies parts end parts.goal → ⊥)
       by (Some why) f rest = let apart : answer.Fails (n + 1) why ≡ answer.Goal unmet = sym (verdict_split n state step steps (Some why) f) ∙ e in cc
       by None f rest =
           let (end, leads, lacks) = rest (sym (verdict_split n state step steps None f) ∙ e) in
           (end, lead_more parts state end step steps (applicable_from_hindrance parts state step f) leads, lacks)
 
-  verdict_from_goal : (n : ℕ) (state end : State) (steps : List StepText) → LeadTo parts state steps end → (Satisfies end parts.goal → ⊥)
-      → (unmet : List GroundCond) × (verdict_from parts n state steps ≡ answer.Goal unmet)
-  verdict_from_goal n state end [] leads lacks = by (missing state parts.goal) refl
+  verdict_from_goal : (n : ℕ) (state end : State) (steps : List StepText) → LeadTo parts state steps end → (Satisfies parts end parts.goal → ⊥)
+      → (unmet : List Tree) × (verdict_from parts n state steps ≡ answer.Goal unmet)
+  verdict_from_goal n state end [] leads lacks = by (missing parts state parts.goal) refl
     where
-      by : (found : List GroundCond) → missing state parts.goal ≡ found → (unmet : List GroundCond) × (goal_verdict n (missing state parts.goal) ≡ answer.Goal unmet)
+      by : (found : List Tree) → missing parts state parts.goal ≡ found → (unmet : List Tree) × (goal_verdict n (missing parts state parts.goal) ≡ answer.Goal unmet)
       by [] f =
-          absurd (lacks (subst (λ (s : State). Satisfies s parts.goal) (lead_none_same parts state end leads) (satisfied_from_missing state parts.goal f)))
+          absurd (lacks (subst (λ (s : State). Satisfies parts s parts.goal) (lead_none_same parts state end leads) (satisfied_from_missing parts state parts.goal f)))
       by (condition ∷ conds) f = (condition ∷ conds, ap (goal_verdict n) f)
   verdict_from_goal n state end (step ∷ steps) leads lacks =
       let (can, rest) = lead_first parts state end step steps leads in

@@ -1,7 +1,7 @@
 -- What is kept of the atoms that have numbers, so that each is found.
 
 use Rattle.std.specs.Prelude.{◌≡◌, ◌++◌, ℕ, Bool, true, false, List, None, Some, slice_index_or}
-use Rattle.strips_task.specs.declared.atoms.Atom.{Atom}
+use Rattle.formulas.specs.declared.atoms.Atom.{Atom}
 use Rattle.strips_task.specs.AtomKeys.{atom_of}
 use Rattle.strips_task.specs.AtomNumbers.{number_in}
 use Rattle.strips_judge.specs.SingleCells.{Cells, AreCells}

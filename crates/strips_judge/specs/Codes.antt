@@ -1,19 +1,15 @@
 -- Codes of steps: what a step asks of the state and does to it, by the numbers of its atoms.
 
-use Rattle.std.specs.Prelude.{◌≡◌, ℕ, Bool, true, false, List, [], ◌∷◌, ◌++◌, Option, Some, None, All, IsTrue, map, if◌then◌else◌}
-use Rattle.std.specs.Bool.{beq}
-use Rattle.std.specs.List.{filter_map}
-use Rattle.strips_task.specs.declared.atoms.Atom.{Atom}
-use Rattle.strips_task.specs.declared.atoms.GroundCond.{GroundCond}
-use Rattle.strips_task.specs.declared.atoms.GroundFormula.{GroundFormula}
-use Rattle.strips_task.specs.declared.atoms.GroundFormula.TheVariants as grounded
+use Rattle.std.specs.Prelude.{◌≡◌, ◌↔◌, ℕ, Bool, true, false, List, [], ◌∷◌, ◌++◌, Some, None, All, map}
+use Rattle.formulas.specs.declared.atoms.Atom.{Atom}
+use Rattle.formulas.specs.Tree.{Tree}
 use Rattle.strips_task.specs.declared.steps.StepText.{StepText}
 use Rattle.strips_task.specs.declared.tasks.TaskParts.{TaskParts}
 use Rattle.strips_judge.specs.declared.codes.StepCode.{StepCode}
-use Rattle.strips_judge.specs.Grounding.{ground}
 use Rattle.strips_task.specs.AtomNumbers.{number_in}
-use Rattle.strips_judge.specs.State.{State, holds}
+use Rattle.strips_judge.specs.State.{State}
 use Rattle.strips_judge.specs.Step.{fault, precondition, deletes, adds}
+use Rattle.strips_judge.specs.Validity.{Satisfies}
 
 -- the numbers of the atoms that a step needs to be true and to be false, and of those that it deletes and adds
 pub record Code : Type 0 where
@@ -28,34 +24,24 @@ code_shown code = record { needed = code.needed.now; forbidden = code.forbidden.
 
 -- these are the numbers of these atoms
 abbrev pub AreNumbers : List Atom → List Atom → List ℕ → Type 0
-AreNumbers atoms ground numbers = map (number_in atoms) ground ≡ map Some numbers
+AreNumbers atoms these numbers = map (number_in atoms) these ≡ map Some numbers
 
--- the atom that a condition with this sign and this formula asks for, if its formula is an atom and must be true, or false
-abbrev pub asked_by : Bool → Bool → GroundFormula → Option Atom
-asked_by truth positive (grounded.Atom atom) = if beq truth positive then Some atom else None
-asked_by truth positive (grounded.Equal left right) = None
+-- a code asks for these conditions: its numbers are those of atoms such that a state satisfies the conditions if and only if the first of these atoms are true
+-- in it and the others are false
+pub record AsksFor (parts : TaskParts) (atoms : List Atom) (conditions : List Tree) (code : Code) : Type 0 where
+  pub trues : List Atom
+  pub falses : List Atom
+  pub needed : AreNumbers atoms trues code.needed
+  pub forbidden : AreNumbers atoms falses code.forbidden
+  pub exactly : (state : State) → (All (λ atom. state atom ≡ true) trues × All (λ atom. state atom ≡ false) falses) ↔ Satisfies parts state conditions
 
--- the atoms that conditions ask to be true, or to be false
-abbrev pub asked : Bool → List GroundCond → List Atom
-asked truth conds = filter_map (λ cond. asked_by truth cond.positive cond.formula) conds
-
--- a condition that asks for no atom holds in every state
-abbrev pub HoldsIfEquality : GroundCond → GroundFormula → Type 0
-HoldsIfEquality cond (grounded.Atom atom) = Unit {0}
-HoldsIfEquality cond (grounded.Equal left right) = (state : State) → IsTrue (holds state cond)
-
--- a code asks for these conditions
-pub record AsksFor (atoms : List Atom) (conds : List GroundCond) (code : Code) : Type 0 where
-  pub needed : AreNumbers atoms (asked true conds) code.needed
-  pub forbidden : AreNumbers atoms (asked false conds) code.forbidden
-  pub equalities : All (λ cond. HoldsIfEquality cond cond.formula) conds
-
--- this is the code of a step, if atoms have these numbers: the step has no fault, and the code asks and does what the step asks and does
+-- this is the code of a step, if atoms have these numbers: the step has no fault, and in every state the code asks and does what the step asks and does. So
+-- only a step that does the same in every state has a code
 pub record IsCode (parts : TaskParts) (atoms : List Atom) (step : StepText) (code : Code) : Type 0 where
   pub faultless : fault parts step ≡ None
-  pub asks : AsksFor atoms (precondition parts step) code
-  pub deleted : AreNumbers atoms (deletes parts step) code.deleted
-  pub added : AreNumbers atoms (adds parts step) code.added
+  pub asks : AsksFor parts atoms (precondition parts step) code
+  pub deleted : (state : State) → AreNumbers atoms (deletes parts state step) code.deleted
+  pub added : (state : State) → AreNumbers atoms (adds parts state step) code.added
 
 -- the code that asks for one more atom
 abbrev pub asking_more : Code → Bool → ℕ → Code

@@ -3,7 +3,7 @@
 use Rattle.std.specs.Prelude.{◌≡◌, ◌↔◌, ℕ}
 use Rattle.strips_task.specs.declared.plans.Plan.{Plan}
 use Rattle.strips_task.specs.declared.tasks.TaskParts.{TaskParts}
-use Rattle.strips_task.specs.declared.atoms.GroundCond.{GroundCond}
+use Rattle.formulas.specs.Tree.{Tree}
 use Rattle.std.specs.Prelude.{List}
 use Rattle.strips_judge.specs.declared.verdict.Verdict.TheVariants as answer
 use Rattle.strips_judge.specs.declared.verdict.Why.{Why}
@@ -20,4 +20,4 @@ FailsMeansFirstFailure parts plan = (number : ℕ) → ((why : Why) × (verdict 
 
 -- the verdict is `Goal` if and only if all steps are applicable in their turn and the goal does not hold after them
 abbrev pub GoalMeansGoalMissed : TaskParts → Plan → Type 0
-GoalMeansGoalMissed parts plan = ((conds : List GroundCond) × (verdict parts plan ≡ answer.Goal conds)) ↔ IsGoalMissed parts plan
+GoalMeansGoalMissed parts plan = ((unmet : List Tree) × (verdict parts plan ≡ answer.Goal unmet)) ↔ IsGoalMissed parts plan

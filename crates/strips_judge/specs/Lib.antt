@@ -1,7 +1,10 @@
 pub mod Codes
+pub mod Gathered
 pub mod Grounding
 pub mod NumberedState
+pub mod Fitting
 pub mod State
+pub mod Choices
 pub mod SingleCells
 pub mod AtomsFound
 pub mod Step

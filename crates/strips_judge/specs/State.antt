@@ -1,12 +1,13 @@
 -- States of the world and what changes them (PDDL 2.1, Fox and Long 2003, section 6).
 
-use Rattle.std.specs.Prelude.{Bool, nat_eq, not, ◌&&◌, ◌||◌, List, if◌then◌else◌}
-use Rattle.std.specs.List.{list_any}
-use Rattle.strips_task.specs.declared.atoms.Atom.{Atom}
-use Rattle.strips_task.specs.declared.atoms.GroundFormula.{GroundFormula}
-use Rattle.strips_task.specs.declared.atoms.GroundFormula.TheVariants as grounded
-use Rattle.strips_task.specs.declared.atoms.GroundCond.{GroundCond}
-use Rattle.strips_task.specs.Atom.{atom_eq}
+use Rattle.std.specs.Prelude.{ℕ, Bool, not, ◌&&◌, ◌||◌, List, [], filter, length}
+use Rattle.std.specs.List.{list_any, range_with_len}
+use Rattle.formulas.specs.declared.atoms.Atom.{Atom}
+use Rattle.formulas.specs.Tree.{Tree}
+use Rattle.formulas.specs.Meaning as meaning
+use Rattle.strips_task.specs.declared.tasks.TaskParts.{TaskParts}
+use Rattle.strips_judge.specs.Fitting.{object_fits}
+use Rattle.formulas.specs.Atom.{atom_eq}
 
 -- a state is a set of ground atoms: of each atom it says whether it is true
 abbrev pub State : Type 0
@@ -28,11 +29,10 @@ with_all state atoms = λ atom. state atom || is_in atoms atom
 abbrev pub after_effects : State → List Atom → List Atom → State
 after_effects state deletes adds = with_all (without state deletes) adds
 
--- whether the formula is true: an atom if the state has it, and an equality if both sides are the same object, in every state
-abbrev pub is_true : State → GroundFormula → Bool
-is_true state (grounded.Atom atom) = state atom
-is_true state (grounded.Equal left right) = nat_eq left right
+-- the objects that a variable of these types may stand for, in the order of their numbers, each once: those whose type is one of these or below one
+abbrev pub objects_of : TaskParts → List ℕ → List ℕ
+objects_of parts types = filter (λ object. object_fits parts types object) (range_with_len 0 (length parts.objects))
 
--- whether the condition holds: a positive one if its formula is true, a negated one if its formula is false
-abbrev pub holds : State → GroundCond → Bool
-holds state cond = if cond.positive then is_true state cond.formula else not (is_true state cond.formula)
+-- whether a formula holds in a state, with these objects for the parameters of the action
+abbrev pub holds : TaskParts → State → List ℕ → Tree → Bool
+holds parts state arguments tree = meaning.holds (objects_of parts) state arguments tree []

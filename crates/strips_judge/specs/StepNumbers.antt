@@ -32,4 +32,4 @@ AreWithin parts (action ∷ objects) = (action < length parts.actions) × All (�
 -- why a step of this action is not applicable in a state, if it is not
 abbrev pub action_hindrance : TaskParts → State → Action → List (List ℕ) → Option Why
 action_hindrance parts state action args =
-    option_or (argument_fault parts action args) (missing_why (missing state (conditions_by (objects_named parts args) (Some action))))
+    option_or (argument_fault parts action args) (missing_why (missing parts state (conditions_by (objects_named parts args) (Some action))))

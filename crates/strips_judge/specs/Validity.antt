@@ -1,7 +1,7 @@
 -- Whether a plan is valid, in the words of PDDL: by the states that it runs through (PDDL 2.1, Fox and Long 2003, section 6).
 
-use Rattle.std.specs.Prelude.{◌≡◌, ℕ, ◌+◌, List, Some, None, All, IsTrue, length, slice_get, take}
-use Rattle.strips_task.specs.declared.atoms.GroundCond.{GroundCond}
+use Rattle.std.specs.Prelude.{◌≡◌, ℕ, ◌+◌, List, [], Some, None, All, IsTrue, length, slice_get, take}
+use Rattle.formulas.specs.Tree.{Tree}
 use Rattle.strips_task.specs.declared.plans.Plan.{Plan}
 use Rattle.strips_task.specs.declared.plans.Plan.TheVariants.{Steps, Unreadable}
 use Rattle.strips_task.specs.declared.steps.StepText.{StepText}
@@ -9,14 +9,14 @@ use Rattle.strips_task.specs.declared.tasks.TaskParts.{TaskParts}
 use Rattle.strips_judge.specs.State.{State, is_in, holds}
 use Rattle.strips_judge.specs.Step.{fault, precondition, after}
 
--- all conditions hold in the state
-abbrev pub Satisfies : State → List GroundCond → Type 0
-Satisfies state conds = All (λ cond. IsTrue (holds state cond)) conds
+-- all formulas hold in the state
+abbrev pub Satisfies : TaskParts → State → List Tree → Type 0
+Satisfies parts state conditions = All (λ condition. IsTrue (holds parts state [] condition)) conditions
 
 -- a step is applicable in a state if it has no fault and its precondition holds
 pub record IsApplicable (parts : TaskParts) (state : State) (step : StepText) : Type 0 where
   pub faultless : fault parts step ≡ None
-  pub satisfied : Satisfies state (precondition parts step)
+  pub satisfied : Satisfies parts state (precondition parts step)
 
 -- a run of steps is a list of states, one more than the steps: the first is the start, each step is applicable in the state with its index,
 -- and the next state is the one after the step
@@ -32,7 +32,7 @@ LeadTo parts start steps end = (states : List State) × IsRun parts start states
 
 -- the steps are a valid plan if they lead to a state in which the goal holds
 abbrev pub AreValid : TaskParts → List StepText → Type 0
-AreValid parts steps = (end : State) × LeadTo parts (is_in parts.init) steps end × Satisfies end parts.goal
+AreValid parts steps = (end : State) × LeadTo parts (is_in parts.init) steps end × Satisfies parts end parts.goal
 
 -- the plan fails at this step, counted from 1: the steps before it have a run, and it is not applicable in the state to which they lead
 abbrev pub FailAt : TaskParts → List StepText → ℕ → Type 0
@@ -41,7 +41,7 @@ FailAt parts steps number = (before : ℕ) × (step : StepText) × (state : Stat
 
 -- the steps miss the goal: they lead to a state in which it does not hold
 abbrev pub MissGoal : TaskParts → List StepText → Type 0
-MissGoal parts steps = (end : State) × LeadTo parts (is_in parts.init) steps end × (Satisfies end parts.goal → ⊥)
+MissGoal parts steps = (end : State) × LeadTo parts (is_in parts.init) steps end × (Satisfies parts end parts.goal → ⊥)
 
 -- a plan is valid if it was read and its steps are valid; the number is that of its steps
 abbrev pub IsValidPlan : TaskParts → Plan → ℕ → Type 0

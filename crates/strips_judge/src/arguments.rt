@@ -2,7 +2,8 @@
 ghost use Rattle.std.specs.Prelude.{◌≡◌, ◌<◌, ◌≤◌, All, IfOk, IfNone, length};
 ghost use Rattle.std.specs.List.{position_from, zip};
 ghost use Rattle.strips_task.specs.StepView.{step_shown};
-ghost use Rattle.strips_judge.specs.Step.{first_unknown, is_ill_typed, object_fits, objects_named, argument_fault};
+ghost use Rattle.strips_judge.specs.Fitting.{object_fits};
+ghost use Rattle.strips_judge.specs.Step.{first_unknown, is_ill_typed, objects_named, argument_fault};
 
 use crate::verdict::Why;
 use std::alloc::AllocError;
@@ -15,8 +16,7 @@ pub(crate) fn bind(
     step: StepView<'_>,
     objects: &mut Vec<u16>,
 ) -> Result<Option<Why>, AllocError>
-    requires few { length action.now.params ≤ 32 }
-    requires types { All (λ alternatives. All (λ type. type < length task.now.parents) alternatives) action.now.params }
+    requires { length action.now.params ≤ 32 }
     ensures fault { IfOk result (λ why. why ≡ argument_fault task.now action.now (step_shown step.entry).args) }
     ensures bound { IfOk result (λ why. IfNone why (objects.new.items ≡ objects_named task.now (step_shown step.entry).args)) }
     ensures all { IfOk result (λ why. IfNone why (length objects.new.items ≡ length action.now.params)) }
@@ -61,7 +61,6 @@ fn find_objects(
 pub(crate) fn first_ill_typed(task: &Task, params: &[Alternatives], objects: &[u16]) -> Option<u32>
     requires few { length params.now ≤ 32 }
     requires beside { length objects.now ≡ length params.now }
-    requires types { All (λ alternatives. All (λ type. type < length task.now.parents) alternatives) params.now }
     requires known { All (λ object. object < length task.now.objects) objects.now }
     ensures { result ≡ position_from (is_ill_typed task.now) 1 (zip params.now objects.now) }
 {
@@ -75,9 +74,8 @@ pub(crate) fn first_ill_typed(task: &Task, params: &[Alternatives], objects: &[u
 
 /// Whether an object is of one of these types, or of one below them.
 #[inline(always)]
-fn object_fits(task: &Task, alternatives: &[u16], object: u16) -> bool
-    requires types { All (λ type. type < length task.now.parents) alternatives.now }
-    requires known { object < length task.now.objects }
+pub(crate) fn object_fits(task: &Task, alternatives: &[u16], object: u16) -> bool
+    requires { object < length task.now.objects }
     ensures { result ≡ object_fits task.now alternatives.now object }
 {
     let object_type = task.object_type(object);

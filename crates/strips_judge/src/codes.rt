@@ -2,25 +2,27 @@
 //!
 //! The same steps occur in many plans of a task. For a step whose code is known, no word and no atom need be looked up: its code is tested
 //! and taken bit by bit. A code holds only what depends on the state. A step with a fault, or with an equality that does not hold,
-//! is not applicable in any state, and has no code.
+//! is not applicable in any state, and has no code. Nor has a step whose precondition has anything but literals, or one with an effect under `when` or
+//! `forall`.
 ghost use Rattle.std.specs.Prelude.{◌≡◌, ◌<◌, ◌∷◌, [], ◌++◌, List, Some, None, true, false, Bool, map, length, All, IsTrue, IfOk, IfSome, OnOk, OnErr};
-ghost use Rattle.strips_task.specs.declared.atoms.Atom.{Atom};
-ghost use Rattle.strips_task.specs.declared.atoms.GroundCond.{GroundCond};
+ghost use Rattle.formulas.specs.declared.atoms.Atom.{Atom};
+ghost use Rattle.formulas.specs.Grounding.{with_objects};
+ghost use Rattle.formulas.specs.Tree.{Tree};
+ghost use Rattle.formulas.specs.Within.{IsPatternWithin, IsWithin};
 ghost use Rattle.strips_task.specs.declared.steps.StepText.{StepText};
 ghost use Rattle.strips_task.specs.declared.tasks.TaskParts.{TaskParts};
-ghost use Rattle.strips_task.specs.Within.{IsPatternWithin, IsFormulaWithin};
 ghost use Rattle.strips_judge.specs.Codes.{AreNumbers, AsksFor, IsCode, asking_more, code_shown};
-ghost use Rattle.strips_judge.specs.Grounding.{ground, ground_condition};
+ghost use Rattle.strips_judge.specs.Grounding.{ground};
 ghost use Rattle.strips_task.specs.AtomNumbers.{number_in};
 ghost use Rattle.strips_judge.specs.NumberedState.{Grows, state_of};
-ghost use Rattle.strips_judge.specs.State.{with_all, without};
-ghost use Rattle.strips_judge.specs.Step.{hindrance, after};
+ghost use Rattle.strips_judge.specs.State.{State, with_all, without};
+ghost use Rattle.strips_judge.specs.Step.{hindrance, after, deletes_by, adds_by};
 
-use crate::grounding::object_of;
+use crate::evaluation::equality_holds;
 use crate::state::NumberedState;
 use std::alloc::{AllocError, Global};
 use std::marker::Model;
-use strips_task::{Action, Atom, Cond, Formula, Pattern};
+use strips_task::{Action, Atom, Formula, Node, Pattern};
 
 /// What a step asks of the state and does to it, by the numbers of its atoms in a [`NumberedState`].
 #[derive(Clone, Copy)]
@@ -141,7 +143,7 @@ fn all_are(state: &NumberedState<'_>, numbers: &[u32], truth: bool) -> bool
 }
 
 #[inline(always)]
-fn clear_all(state: &mut NumberedState<'_>, numbers: &[u32])
+pub(crate) fn clear_all(state: &mut NumberedState<'_>, numbers: &[u32])
     ensures state { (ground : List Atom) → AreNumbers state.old.atoms ground numbers.now → state_of state.new ≡ without (state_of state.old) ground }
     ensures atoms { state.new.atoms ≡ state.old.atoms }
     ensures initial { state.new.initial ≡ state.old.initial }
@@ -152,7 +154,7 @@ fn clear_all(state: &mut NumberedState<'_>, numbers: &[u32])
 }
 
 #[inline(always)]
-fn set_all(state: &mut NumberedState<'_>, numbers: &[u32])
+pub(crate) fn set_all(state: &mut NumberedState<'_>, numbers: &[u32])
     requires { All (λ number. number < length state.old.atoms) numbers.now }
     ensures state { (ground : List Atom) → AreNumbers state.old.atoms ground numbers.now → state_of state.new ≡ with_all (state_of state.old) ground }
     ensures atoms { state.new.atoms ≡ state.old.atoms }
@@ -172,15 +174,20 @@ pub(crate) fn code_of_action(
     atom: &mut Atom,
     code: &mut CodeBuffer,
 ) -> Result<bool, AllocError>
-    requires pre { All (λ cond. IsFormulaWithin (length objects.now) cond.formula) action.now.pre }
-    requires del { All (IsPatternWithin (length objects.now)) action.now.del }
-    requires add { All (IsPatternWithin (length objects.now)) action.now.add }
-    ensures asks { IfOk result (λ found. IsTrue found → AsksFor state.new.atoms (map (ground_condition objects.now) action.now.pre) code.new) }
-    ensures deleted { IfOk result (λ found. IsTrue found → AreNumbers state.new.atoms (map (ground objects.now) action.now.del) code.new.deleted) }
-    ensures added { IfOk result (λ found. IsTrue found → AreNumbers state.new.atoms (map (ground objects.now) action.now.add) code.new.added) }
+    requires pre { All (IsWithin (length objects.now) 0) action.now.pre }
+    requires del { All (IsPatternWithin (length objects.now) 0) action.now.del }
+    requires add { All (IsPatternWithin (length objects.now) 0) action.now.add }
+    ensures asks { IfOk result (λ found. IsTrue found → (parts : TaskParts) → AsksFor parts state.new.atoms (map (with_objects objects.now []) action.now.pre) code.new) }
+    ensures deleted { IfOk result (λ found. IsTrue found → (parts : TaskParts) (before : State)
+        → AreNumbers state.new.atoms (deletes_by parts objects.now before (Some action.now)) code.new.deleted) }
+    ensures added { IfOk result (λ found. IsTrue found → (parts : TaskParts) (before : State)
+        → AreNumbers state.new.atoms (adds_by parts objects.now before (Some action.now)) code.new.added) }
     ensures state { state_of state.new ≡ state_of state.old }
     ensures grows { Grows state.old state.new }
 {
+    if !action.effects.is_empty() {
+        return Ok(false);
+    }
     if !ask_all(alloc, action.pre.as_slice(), objects, state, atom, code)? {
         return Ok(false);
     }
@@ -193,56 +200,56 @@ pub(crate) fn code_of_action(
     Ok(found)
 }
 
-/// Makes a code ask for the conditions of an action with these objects, if equalities among them hold.
+/// Makes a code ask for the conditions of an action with these objects, if all are literals and equalities among them hold.
 fn ask_all(
     alloc: Global,
-    conds: &[Cond],
+    conditions: &[Formula],
     objects: &[u16],
     state: &mut NumberedState<'_>,
     atom: &mut Atom,
     code: &mut CodeBuffer,
 ) -> Result<bool, AllocError>
-    requires { All (λ cond. IsFormulaWithin (length objects.now) cond.formula) conds.now }
-    ensures asks { IfOk result (λ found. IsTrue found → AsksFor state.new.atoms (map (ground_condition objects.now) conds.now) code.new) }
+    requires { All (IsWithin (length objects.now) 0) conditions.now }
+    ensures asks { IfOk result (λ found. IsTrue found → (parts : TaskParts) → AsksFor parts state.new.atoms (map (with_objects objects.now []) conditions.now) code.new) }
     ensures state { state_of state.new ≡ state_of state.old }
     ensures grows { Grows state.old state.new }
 {
     code.ask_nothing();
-    for cond in conds {
-        if !ask_one(alloc, cond, objects, state, atom, code)? {
+    for condition in conditions {
+        if !ask_one(alloc, condition, objects, state, atom, code)? {
             return Ok(false);
         }
     }
     Ok(true)
 }
 
-/// Makes a code ask for one condition more, unless that is an equality that does not hold.
+/// Makes a code ask for one condition more, unless that is no literal, or an equality that does not hold.
 fn ask_one(
     alloc: Global,
-    cond: &Cond,
+    condition: &Formula,
     objects: &[u16],
     state: &mut NumberedState<'_>,
     atom: &mut Atom,
     code: &mut CodeBuffer,
 ) -> Result<bool, AllocError>
-    requires { IsFormulaWithin (length objects.now) cond.now.formula }
-    ensures asks { IfOk result (λ found. IsTrue found → (before : List GroundCond) → AsksFor state.old.atoms before code.old
-        → AsksFor state.new.atoms (before ++ ground_condition objects.now cond.now ∷ []) code.new) }
+    requires { IsWithin (length objects.now) 0 condition.now }
+    ensures asks { IfOk result (λ found. IsTrue found → (parts : TaskParts) (before : List Tree) → AsksFor parts state.old.atoms before code.old
+        → AsksFor parts state.new.atoms (before ++ with_objects objects.now [] condition.now ∷ []) code.new) }
     ensures state { state_of state.new ≡ state_of state.old }
     ensures grows { Grows state.old state.new }
 {
-    match &cond.formula {
-        Formula::Atom(pattern) => {
+    match condition.node() {
+        Node::Atom(positive, pattern) => {
             let Some(number) = short_number(alloc, pattern, objects, state, atom)? else {
                 return Ok(false);
             };
-            code.ask(cond.positive, number)?;
+            code.ask(*positive, number)?;
             Ok(true)
         }
-        Formula::Equal(left, right) => {
-            let are_equal = object_of(*left, objects) == object_of(*right, objects);
-            Ok(are_equal == cond.positive)
+        Node::Equal(positive, left, right) => {
+            Ok(equality_holds(*positive, *left, *right, objects, &[]))
         }
+        _ => Ok(false),
     }
 }
 
@@ -255,7 +262,7 @@ fn number_all(
     atom: &mut Atom,
     numbers: &mut Vec<u32>,
 ) -> Result<bool, AllocError>
-    requires { All (IsPatternWithin (length objects.now)) patterns.now }
+    requires { All (IsPatternWithin (length objects.now) 0) patterns.now }
     ensures numbers { IfOk result (λ found. IsTrue found → AreNumbers state.new.atoms (map (ground objects.now) patterns.now) numbers.new.items) }
     ensures state { state_of state.new ≡ state_of state.old }
     ensures grows { Grows state.old state.new }
@@ -278,10 +285,10 @@ fn short_number(
     state: &mut NumberedState<'_>,
     atom: &mut Atom,
 ) -> Result<Option<u32>, AllocError>
-    requires { IsPatternWithin (length objects.now) pattern.now }
+    requires { IsPatternWithin (length objects.now) 0 pattern.now }
     ensures number { IfOk result (λ number. IfSome number (λ number. number_in state.new.atoms (ground objects.now pattern.now) ≡ Some number)) }
     ensures state { state_of state.new ≡ state_of state.old }
     ensures grows { Grows state.old state.new }
 {
-    Ok(u32::try_from(state.number(alloc, pattern, objects, atom)?).ok())
+    Ok(u32::try_from(state.number(alloc, pattern, objects, &[], atom)?).ok())
 }

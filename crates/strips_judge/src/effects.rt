@@ -1,31 +1,96 @@
 //! What an action does to a state: first it deletes, then it adds, so an atom that is deleted and added is true afterwards.
-ghost use Rattle.std.specs.Prelude.{◌≡◌, length, map, All, OnOk};
-ghost use Rattle.strips_task.specs.Within.{IsPatternWithin};
+//!
+//! What effects under `when` and `forall` change depends on the state before the step. So their changes are gathered before the first change is made.
+ghost use Rattle.std.specs.Prelude.{◌≡◌, ◌+◌, ◌≤◌, [], drop, length, map, All, Some, IfOk, OnOk};
+ghost use Rattle.formulas.specs.Meaning.{atom_of};
+ghost use Rattle.formulas.specs.Variables.{variable_types};
+ghost use Rattle.formulas.specs.Within.{IsPatternWithin, IsEffectWithin};
+ghost use Rattle.strips_judge.specs.Gathered.{GathersMore, choices_found, effect_found, effects_found, kept, only_added, only_deleted};
 ghost use Rattle.strips_judge.specs.Grounding.{ground};
 ghost use Rattle.strips_judge.specs.NumberedState.{Grows, state_of};
-ghost use Rattle.strips_judge.specs.State.{without, with_all, after_effects};
+ghost use Rattle.strips_judge.specs.State.{without, with_all};
+ghost use Rattle.strips_judge.specs.Step.{after_by};
 
+use crate::arguments::object_fits;
+use crate::codes::{clear_all, set_all};
+use crate::evaluation::{evaluate, types_of};
+use crate::scratch::{Changes, Room};
 use crate::state::NumberedState;
 use std::alloc::{AllocError, Global};
-use strips_task::{Action, Atom, Pattern};
+use strips_task::{Action, Atom, Effect, EffectNode, Pattern, Task, VariableGroup};
+
+/// What the parameters of an action stand for in a task.
+#[derive(Clone, Copy)]
+pub(crate) struct Arguments<'a> {
+    pub(crate) task: &'a Task,
+    pub(crate) objects: &'a [u16],
+}
+
+/// An effect under `forall`, with its variables.
+#[derive(Clone, Copy)]
+struct Quantified<'e> {
+    groups: &'e [VariableGroup],
+    body: &'e Effect,
+}
 
 /// Changes a state as an action with these objects does.
 #[inline(always)]
 pub(crate) fn apply(
     alloc: Global,
+    arguments: Arguments<'_>,
     state: &mut NumberedState<'_>,
     action: &Action,
-    objects: &[u16],
-    atom: &mut Atom,
+    room: &mut Room,
+    changes: &mut Changes,
 ) -> Result<(), AllocError>
-    requires deletes { All (IsPatternWithin (length objects.now)) action.now.del }
-    requires adds { All (IsPatternWithin (length objects.now)) action.now.add }
+    requires deletes { All (IsPatternWithin (length arguments.objects.now) 0) action.now.del }
+    requires adds { All (IsPatternWithin (length arguments.objects.now) 0) action.now.add }
+    requires effects { All (IsEffectWithin (length arguments.objects.now) 0) action.now.effects }
     ensures grows { Grows state.old state.new }
-    ensures state { OnOk result (state_of state.new ≡ after_effects (state_of state.old)
-        (map (ground objects.now) action.now.del) (map (ground objects.now) action.now.add)) }
+    ensures state { OnOk result (state_of state.new ≡ after_by arguments.entry.task.now arguments.entry.objects.now (state_of state.old) (Some action.now)) }
 {
+    if !action.effects.is_empty() {
+        return apply_gathered(alloc, arguments, state, action, room, changes);
+    }
+    let Arguments { task: _, objects } = arguments;
+    let atom = &mut room.atom;
     remove_all(state, action.del.as_slice(), objects, atom)?;
     insert_all(alloc, state, action.add.as_slice(), objects, atom)
+}
+
+/// Changes a state as an action with these objects does, some of whose effects depend on the state.
+#[inline(never)]
+fn apply_gathered(
+    alloc: Global,
+    arguments: Arguments<'_>,
+    state: &mut NumberedState<'_>,
+    action: &Action,
+    room: &mut Room,
+    changes: &mut Changes,
+) -> Result<(), AllocError>
+    requires deletes { All (IsPatternWithin (length arguments.objects.now) 0) action.now.del }
+    requires adds { All (IsPatternWithin (length arguments.objects.now) 0) action.now.add }
+    requires effects { All (IsEffectWithin (length arguments.objects.now) 0) action.now.effects }
+    ensures grows { Grows state.old state.new }
+    ensures state { OnOk result (state_of state.new ≡ after_by arguments.entry.task.now arguments.entry.objects.now (state_of state.old) (Some action.now)) }
+{
+    let objects = arguments.objects;
+    room.bound.clear();
+    changes.deleted.clear();
+    changes.added.clear();
+    gather_all(
+        alloc,
+        arguments,
+        state,
+        action.effects.as_slice(),
+        room,
+        changes,
+    )?;
+    remove_all(state, action.del.as_slice(), objects, &mut room.atom)?;
+    clear_all(state, changes.deleted.as_slice());
+    insert_all(alloc, state, action.add.as_slice(), objects, &mut room.atom)?;
+    set_all(state, changes.added.as_slice());
+    Ok(())
 }
 
 #[inline(always)]
@@ -35,12 +100,12 @@ fn remove_all(
     objects: &[u16],
     atom: &mut Atom,
 ) -> Result<(), AllocError>
-    requires { All (IsPatternWithin (length objects.now)) patterns.now }
+    requires { All (IsPatternWithin (length objects.now) 0) patterns.now }
     ensures grows { Grows state.old state.new }
     ensures state { OnOk result (state_of state.new ≡ without (state_of state.old) (map (ground objects.now) patterns.now)) }
 {
     for pattern in patterns {
-        state.remove(pattern, objects, atom)?;
+        state.remove(pattern, objects, &[], atom)?;
     }
     Ok(())
 }
@@ -53,12 +118,170 @@ fn insert_all(
     objects: &[u16],
     atom: &mut Atom,
 ) -> Result<(), AllocError>
-    requires { All (IsPatternWithin (length objects.now)) patterns.now }
+    requires { All (IsPatternWithin (length objects.now) 0) patterns.now }
     ensures grows { Grows state.old state.new }
     ensures state { OnOk result (state_of state.new ≡ with_all (state_of state.old) (map (ground objects.now) patterns.now)) }
 {
     for pattern in patterns {
-        state.insert(alloc, pattern, objects, atom)?;
+        state.insert(alloc, pattern, objects, &[], atom)?;
     }
     Ok(())
+}
+
+/// Gathers the changes of effects, with the objects in `room` for the variables bound around them. No atom becomes true or false.
+#[cycle(gather)]
+fn gather_all(
+    alloc: Global,
+    arguments: Arguments<'_>,
+    state: &mut NumberedState<'_>,
+    effects: &[Effect],
+    room: &mut Room,
+    changes: &mut Changes,
+) -> Result<(), AllocError>
+    requires { All (IsEffectWithin (length arguments.objects.now) (length room.old.bound.items)) effects.now }
+    ensures state { state_of state.new ≡ state_of state.old }
+    ensures grows { Grows state.old state.new }
+    ensures bound { OnOk result (room.new.bound.items ≡ room.old.bound.items) }
+    ensures gathered { OnOk result (GathersMore (state_of state.old) state.old.atoms state.new.atoms (kept changes.old) (kept changes.new)
+        (effects_found arguments.entry.task.now (state_of state.old) arguments.entry.objects.now room.old.bound.items effects.now)) }
+{
+    for effect in effects {
+        gather(alloc, arguments, state, effect, room, changes)?;
+    }
+    Ok(())
+}
+
+/// Gathers the changes of an effect.
+#[cycle(gather)]
+fn gather(
+    alloc: Global,
+    arguments: Arguments<'_>,
+    state: &mut NumberedState<'_>,
+    effect: &Effect,
+    room: &mut Room,
+    changes: &mut Changes,
+) -> Result<(), AllocError>
+    requires { IsEffectWithin (length arguments.objects.now) (length room.old.bound.items) effect.now }
+    ensures state { state_of state.new ≡ state_of state.old }
+    ensures grows { Grows state.old state.new }
+    ensures bound { OnOk result (room.new.bound.items ≡ room.old.bound.items) }
+    ensures gathered { OnOk result (GathersMore (state_of state.old) state.old.atoms state.new.atoms (kept changes.old) (kept changes.new)
+        (effect_found arguments.entry.task.now (state_of state.old) arguments.entry.objects.now room.old.bound.items effect.now)) }
+{
+    match effect.node() {
+        EffectNode::Atom(true, pattern) => {
+            gather_added(alloc, arguments.objects, state, pattern, room, changes)
+        }
+        EffectNode::Atom(false, pattern) => {
+            gather_deleted(arguments.objects, state, pattern, room, changes)
+        }
+        EffectNode::And(parts) => gather_all(alloc, arguments, state, parts, room, changes),
+        EffectNode::When(condition, body) => {
+            if !evaluate(arguments.task, state, condition, arguments.objects, room)? {
+                return Ok(());
+            }
+            gather(alloc, arguments, state, body, room, changes)
+        }
+        EffectNode::ForAll(groups, body) => {
+            let quantified = Quantified {
+                groups: groups.as_slice(),
+                body,
+            };
+            gather_choices(alloc, arguments, state, quantified, 0, room, changes)
+        }
+    }
+}
+
+/// Gathers the changes of an effect for every choice of objects for its variables from this one on.
+#[cycle(gather)]
+fn gather_choices(
+    alloc: Global,
+    arguments: Arguments<'_>,
+    state: &mut NumberedState<'_>,
+    quantified: Quantified<'_>,
+    first: usize,
+    room: &mut Room,
+    changes: &mut Changes,
+) -> Result<(), AllocError>
+    requires bound { first ≤ length room.old.bound.items }
+    requires within { IsEffectWithin (length arguments.objects.now) (length room.old.bound.items + length (drop first (variable_types quantified.groups.now))) quantified.body.now }
+    ensures state { state_of state.new ≡ state_of state.old }
+    ensures grows { Grows state.old state.new }
+    ensures bound { OnOk result (room.new.bound.items ≡ room.old.bound.items) }
+    ensures gathered { OnOk result (GathersMore (state_of state.old) state.old.atoms state.new.atoms (kept changes.old) (kept changes.new)
+        (choices_found arguments.entry.task.now (state_of state.old) arguments.entry.objects.now quantified.entry.body.now (drop first (variable_types quantified.entry.groups.now)) room.old.bound.items)) }
+{
+    let Some(types) = types_of(quantified.groups, first) else {
+        return gather(alloc, arguments, state, quantified.body, room, changes);
+    };
+    for object in 0..arguments.task.object_count() as u16 {
+        if object_fits(arguments.task, types, object) {
+            room.bound.push(object)?;
+            gather_choices(
+                alloc,
+                arguments,
+                state,
+                quantified,
+                first + 1,
+                room,
+                changes,
+            )?;
+            room.bound.pop();
+        }
+    }
+    Ok(())
+}
+
+/// Gathers that the atom of a pattern becomes true.
+fn gather_added(
+    alloc: Global,
+    objects: &[u16],
+    state: &mut NumberedState<'_>,
+    pattern: &Pattern,
+    room: &mut Room,
+    changes: &mut Changes,
+) -> Result<(), AllocError>
+    requires { IsPatternWithin (length objects.now) (length room.old.bound.items) pattern.now }
+    ensures state { state_of state.new ≡ state_of state.old }
+    ensures grows { Grows state.old state.new }
+    ensures bound { room.new.bound ≡ room.old.bound }
+    ensures gathered { OnOk result (GathersMore (state_of state.old) state.old.atoms state.new.atoms (kept changes.old) (kept changes.new)
+        (only_added (atom_of objects.now room.old.bound.items pattern.now))) }
+{
+    let bound = room.bound.as_slice();
+    let number = state.number(alloc, pattern, objects, bound, &mut room.atom)?;
+    changes.added.push(short(number)?)?;
+    Ok(())
+}
+
+/// Gathers that the atom of a pattern becomes false, if it is true.
+fn gather_deleted(
+    objects: &[u16],
+    state: &mut NumberedState<'_>,
+    pattern: &Pattern,
+    room: &mut Room,
+    changes: &mut Changes,
+) -> Result<(), AllocError>
+    requires { IsPatternWithin (length objects.now) (length room.old.bound.items) pattern.now }
+    ensures state { state_of state.new ≡ state_of state.old }
+    ensures grows { Grows state.old state.new }
+    ensures bound { room.new.bound ≡ room.old.bound }
+    ensures gathered { OnOk result (GathersMore (state_of state.old) state.old.atoms state.new.atoms (kept changes.old) (kept changes.new)
+        (only_deleted (atom_of objects.now room.old.bound.items pattern.now))) }
+{
+    let bound = room.bound.as_slice();
+    match state.number_if_true(pattern, objects, bound, &mut room.atom)? {
+        Some(number) => {
+            changes.deleted.push(short(number)?)?;
+            Ok(())
+        }
+        None => Ok(()),
+    }
+}
+
+/// A number of 32 bits. No atom has a larger one.
+fn short(number: usize) -> Result<u32, AllocError>
+    ensures { IfOk result (λ same. same ≡ number) }
+{
+    u32::try_from(number).map_err(|_| AllocError)
 }

@@ -12,44 +12,17 @@ ghost use Rattle.strips_judge.specs.StepNumbers.{action_hindrance};
 ghost use Rattle.strips_judge.specs.Verdict.{goal_verdict, verdict_from, verdict};
 
 use crate::arguments::bind;
-use crate::conditions::{missing, missing_ground};
-use crate::effects::apply;
+use crate::conditions::missing;
+use crate::effects::{Arguments, apply};
+use crate::scratch::Scratch;
 use crate::state::NumberedState;
 use crate::unmet::Unmet;
 use crate::verdict::{Verdict, Why};
 use std::alloc::{AllocError, Global};
-use strips_task::{Action, Atom, Plan, ShortSeq, StepList, StepView, Task};
+use strips_task::{Action, Plan, StepList, StepView, Task};
 
 /// How many cells there are for atoms of one object while one plan is judged: up to 128 KiB.
 const MOST_CELLS: usize = 32_768;
-
-/// Room that all steps use, so that a step takes no memory of its own. No answer depends on what it holds.
-pub struct Scratch {
-    pub(crate) objects: Vec<u16>,
-    pub(crate) atom: Atom,
-}
-
-impl Drop for Scratch {
-    fn drop(self) {
-        let Self {
-            objects: _,
-            atom: _,
-        } = self;
-    }
-}
-
-impl Scratch {
-    /// Takes no memory.
-    pub fn new(alloc: Global) -> Scratch {
-        Scratch {
-            objects: Vec::new(alloc),
-            atom: Atom {
-                pred: 0,
-                args: ShortSeq::new(alloc),
-            },
-        }
-    }
-}
 
 /// Whether a plan is valid for a task, and if not, why (PDDL 2.1, Fox and Long 2003, section 6).
 ///
@@ -81,19 +54,23 @@ fn judge_steps(alloc: Global, task: &Task, steps: &StepList) -> Result<Verdict, 
             });
         }
     }
-    judge_goal(alloc, task, &state, steps.len() as u32)
+    judge_goal(alloc, task, &mut state, &mut scratch, steps.len() as u32)
 }
 
 /// The verdict of a plan whose steps were all taken and lead to this state. Takes memory for the conditions that do not hold.
+#[tactic(auto, using(crate::proofs::StepLaws::none_put_in))]
 pub fn judge_goal(
     alloc: Global,
     task: &Task,
-    state: &NumberedState<'_>,
+    state: &mut NumberedState<'_>,
+    scratch: &mut Scratch,
     steps: u32,
 ) -> Result<Verdict, AllocError>
-    ensures { IfOk result (λ answer. answer ≡ goal_verdict steps (missing (state_of state.now) task.now.goal)) }
+    ensures verdict { IfOk result (λ answer. answer ≡ goal_verdict steps (missing task.now (state_of state.old) task.now.goal)) }
+    ensures same { state.new ≡ state.old }
 {
-    let missing = missing_ground(alloc, state, task.goal().as_slice())?;
+    let goal = task.goal().as_slice();
+    let missing = missing(alloc, task, state, goal, &[], &mut scratch.room)?;
     if missing.is_empty() {
         Ok(Verdict::Valid { steps })
     } else {
@@ -136,22 +113,25 @@ fn take_action(
     ensures grows { Grows state.old state.new }
     ensures why { IfOk result (λ why. why ≡ action_hindrance task.now (state_of state.old) action.now (step_shown step.entry).args) }
     ensures next { IfOk result (λ why. IfNone why (state_of state.new
-        ≡ after_by (objects_named task.now (step_shown step.entry).args) (state_of state.old) (Some action.now))) }
+        ≡ after_by task.now (objects_named task.now (step_shown step.entry).args) (state_of state.old) (Some action.now))) }
 {
     if let Some(why) = bind(task, action, step, &mut scratch.objects)? {
         return Ok(Some(why));
     }
     let objects = scratch.objects.as_slice();
-    let unmet = missing(
-        alloc,
-        state,
-        action.pre.as_slice(),
-        objects,
-        &mut scratch.atom,
-    )?;
+    let conditions = action.pre.as_slice();
+    let unmet = missing(alloc, task, state, conditions, objects, &mut scratch.room)?;
     if !unmet.is_empty() {
         return Ok(Some(Why::Missing(Unmet::new(alloc, unmet)?)));
     }
-    apply(alloc, state, action, objects, &mut scratch.atom)?;
+    let arguments = Arguments { task, objects };
+    apply(
+        alloc,
+        arguments,
+        state,
+        action,
+        &mut scratch.room,
+        &mut scratch.changes,
+    )?;
     Ok(None)
 }

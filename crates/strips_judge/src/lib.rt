@@ -23,24 +23,27 @@ mod atom_keys;
 mod codes;
 mod conditions;
 mod effects;
+mod evaluation;
 mod grounding;
 mod judging;
 pub mod laws;
 mod numbered_steps;
 pub mod reasons;
+mod scratch;
 mod single_cells;
 mod state;
 mod unmet;
 mod verdict;
 
 pub use codes::{CodeBuffer, StepCode, take_by_code};
-pub use judging::{Scratch, judge, judge_goal, take_step};
+pub use judging::{judge, judge_goal, take_step};
 pub use numbered_steps::{code_of_numbered, take_numbered};
+pub use scratch::Scratch;
 pub use state::NumberedState;
 pub use strips_task::{
-    Action, Alternatives, Atom, AtomList, Cond, CondList, Formula, GroundCond, GroundFormula,
-    InitialAtoms, MOST_STEPS, Name, NameKey, NameTable, OpenSteps, Pattern, Plan, Seed, Seq,
-    ShortSeq, StepList, StepRange, StepText, StepView, Task, TaskParts, Term, TypeList, WordList,
+    Action, Alternatives, Atom, AtomList, Formula, InitialAtoms, MOST_STEPS, Name, NameKey,
+    NameTable, Node, OpenSteps, Pattern, Plan, Seed, Seq, ShortSeq, StepList, StepRange, StepText,
+    StepView, Task, TaskParts, Term, TypeList, VariableGroup, WordList,
 };
 pub use unmet::Unmet;
 pub use verdict::{Verdict, Why};

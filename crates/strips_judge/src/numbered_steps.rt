@@ -3,22 +3,23 @@
 //! What a step asks and does depends only on its action and its objects, so with their numbers none of its words is needed. Why a step is not
 //! applicable is not said here: the judge explains it at most once for each plan, by its words.
 ghost use Rattle.std.specs.Prelude.{◌≡◌, [], length, map, false, None, Some, IfOk, IfSome, IsTrue, All};
+ghost use Rattle.formulas.specs.Grounding.{with_objects};
+ghost use Rattle.formulas.specs.Within.{IsWithin};
 ghost use Rattle.strips_task.specs.declared.steps.StepText.{StepText};
-ghost use Rattle.strips_task.specs.Within.{IsActionWithin, IsFormulaWithin};
+ghost use Rattle.strips_task.specs.Within.{IsActionWithin};
 ghost use Rattle.strips_judge.specs.Codes.{IsCode};
-ghost use Rattle.strips_judge.specs.Grounding.{ground_condition};
 ghost use Rattle.strips_judge.specs.NumberedState.{Grows, state_of};
 ghost use Rattle.strips_judge.specs.Step.{action_named, after, fault, hindrance, missing, objects_named};
 ghost use Rattle.strips_judge.specs.StepNumbers.{AreWithin, IsNumbered};
 
 use crate::arguments::first_ill_typed;
 use crate::codes::{CodeBuffer, code_of_action};
-use crate::conditions::holds;
-use crate::effects::apply;
-use crate::judging::Scratch;
+use crate::effects::{Arguments, apply};
+use crate::evaluation::holds;
+use crate::scratch::{Room, Scratch};
 use crate::state::NumberedState;
 use std::alloc::{AllocError, Global};
-use strips_task::{Action, Atom, Cond, Task};
+use strips_task::{Action, Formula, Task};
 
 /// Takes the step with these numbers if it is applicable, and otherwise leaves the state as it is. Returns whether it did. If memory runs out, some
 /// of its effects may have happened.
@@ -41,11 +42,19 @@ pub fn take_numbered(
     let Some((action, objects)) = bound(task, numbers) else {
         return Ok(false);
     };
-    let atom = &mut scratch.atom;
-    if !all_hold(state, action.pre.as_slice(), objects, atom)? {
+    let conditions = action.pre.as_slice();
+    if !all_hold(task, state, conditions, objects, &mut scratch.room)? {
         return Ok(false);
     }
-    apply(alloc, state, action, objects, atom)?;
+    let arguments = Arguments { task, objects };
+    apply(
+        alloc,
+        arguments,
+        state,
+        action,
+        &mut scratch.room,
+        &mut scratch.changes,
+    )?;
     Ok(true)
 }
 
@@ -70,7 +79,7 @@ pub fn code_of_numbered(
     let Some((action, objects)) = bound(task, numbers) else {
         return Ok(false);
     };
-    let found = code_of_action(alloc, action, objects, state, &mut scratch.atom, code)?;
+    let found = code_of_action(alloc, action, objects, state, &mut scratch.room.atom, code)?;
     Ok(found)
 }
 
@@ -102,17 +111,18 @@ fn bound<'t, 'n>(task: &'t Task, numbers: &'n [u16]) -> Option<(&'t Action, &'n 
 /// Whether all conditions of an action with these objects hold.
 #[inline(always)]
 fn all_hold(
+    task: &Task,
     state: &mut NumberedState<'_>,
-    conds: &[Cond],
+    conditions: &[Formula],
     objects: &[u16],
-    atom: &mut Atom,
+    room: &mut Room,
 ) -> Result<bool, AllocError>
-    requires { All (λ cond. IsFormulaWithin (length objects.now) cond.formula) conds.now }
-    ensures none { IfOk result (λ all. IsTrue all → missing (state_of state.old) (map (ground_condition objects.now) conds.now) ≡ []) }
+    requires { All (IsWithin (length objects.now) 0) conditions.now }
+    ensures none { IfOk result (λ all. IsTrue all → missing task.now (state_of state.old) (map (with_objects objects.now []) conditions.now) ≡ []) }
     ensures same { state.new ≡ state.old }
 {
-    for cond in conds {
-        if !holds(state, cond, objects, atom)? {
+    for condition in conditions {
+        if !holds(task, state, condition, objects, room)? {
             return Ok(false);
         }
     }

@@ -4,13 +4,13 @@
 //! with a row of ones and hashes none of them. Atoms that come up later get the next numbers, and numbers never change: a state that is
 //! reset for another plan keeps them. Steps change the bits in place. An atom without a number is false.
 ghost use Rattle.std.specs.Prelude.{◌≡◌, ◌∷◌, [], ◌++◌, ◌<◌, ◌≤◌, ◌+◌, ◌*◌, ◌^◌, ℕ, true, false, None, Some, IfNone, IfOk, IfSome, OnErr, OnOk, length, slice_index_or};
-ghost use Rattle.strips_task.specs.Within.{IsPatternWithin};
-ghost use Rattle.strips_task.specs.declared.atoms.Atom.{Atom};
-ghost use Rattle.strips_task.specs.Atom.{atom_eq};
+ghost use Rattle.formulas.specs.Meaning as meaning;
+ghost use Rattle.formulas.specs.Within.{IsPatternWithin};
+ghost use Rattle.formulas.specs.declared.atoms.Atom.{Atom};
+ghost use Rattle.formulas.specs.Atom.{atom_eq};
 ghost use Rattle.strips_task.specs.AtomKeys.{IsKeyOf, atom_of};
 ghost use Rattle.strips_task.specs.AtomNumbers.{number_in};
 ghost use Rattle.strips_task.specs.FirstOccurrences.{first_occurrences};
-ghost use Rattle.strips_judge.specs.Grounding.{ground};
 ghost use Rattle.strips_judge.specs.NumberedState.{Grows, state_of};
 ghost use Rattle.strips_judge.specs.State.{is_in, without, with_all};
 
@@ -48,7 +48,7 @@ impl Drop for NumberedState<'_> {
 
 impl<'t> Model for NumberedState<'t> {
     ghost use Rattle.std.specs.Prelude.{◌++◌};
-    ghost use Rattle.strips_task.specs.Atom.{atom_eq};
+    ghost use Rattle.formulas.specs.Atom.{atom_eq};
     ghost use Rattle.strips_task.specs.FirstOccurrences.{first_occurrences};
     ghost use Rattle.strips_judge.specs.NumberedState.{Numbered, IsRowFor};
     ghost use Rattle.strips_judge.specs.AtomsFound.{AreFound};
@@ -110,16 +110,17 @@ impl NumberedState<'_> {
         &mut self,
         pattern: &Pattern,
         objects: &[u16],
+        bound: &[u16],
         atom: &mut Atom,
     ) -> Result<Option<usize>, AllocError>
-        requires { IsPatternWithin (length objects.now) pattern.now }
-        ensures number { IfOk result (λ number. number ≡ number_in self.old.atoms (ground objects.now pattern.now)) }
+        requires { IsPatternWithin (length objects.now) (length bound.now) pattern.now }
+        ensures number { IfOk result (λ number. number ≡ number_in self.old.atoms (meaning.atom_of objects.now bound.now pattern.now)) }
         ensures same { self.new ≡ self.old }
     {
-        if let Some(key) = key_of_pattern(pattern, objects) {
+        if let Some(key) = key_of_pattern(pattern, objects, bound) {
             return self.look_up_packed(key);
         }
-        ground(pattern, objects, atom)?;
+        ground(pattern, objects, bound, atom)?;
         Ok(self.number_of_wide(atom))
     }
 
@@ -241,17 +242,18 @@ impl NumberedState<'_> {
         alloc: Global,
         pattern: &Pattern,
         objects: &[u16],
+        bound: &[u16],
         atom: &mut Atom,
     ) -> Result<usize, AllocError>
-        requires { IsPatternWithin (length objects.now) pattern.now }
-        ensures number { IfOk result (λ number. number_in self.new.atoms (ground objects.now pattern.now) ≡ Some number) }
+        requires { IsPatternWithin (length objects.now) (length bound.now) pattern.now }
+        ensures number { IfOk result (λ number. number_in self.new.atoms (meaning.atom_of objects.now bound.now pattern.now) ≡ Some number) }
         ensures state { state_of self.new ≡ state_of self.old }
         ensures grows { Grows self.old self.new }
     {
-        if let Some(key) = key_of_pattern(pattern, objects) {
+        if let Some(key) = key_of_pattern(pattern, objects, bound) {
             return self.number_packed(key);
         }
-        ground(pattern, objects, atom)?;
+        ground(pattern, objects, bound, atom)?;
         self.number_wide(alloc, atom)
     }
 
@@ -387,15 +389,38 @@ impl NumberedState<'_> {
         &mut self,
         pattern: &Pattern,
         objects: &[u16],
+        bound: &[u16],
         atom: &mut Atom,
     ) -> Result<bool, AllocError>
-        requires { IsPatternWithin (length objects.now) pattern.now }
-        ensures answer { IfOk result (λ answer. answer ≡ state_of self.old (ground objects.now pattern.now)) }
+        requires { IsPatternWithin (length objects.now) (length bound.now) pattern.now }
+        ensures answer { IfOk result (λ answer. answer ≡ state_of self.old (meaning.atom_of objects.now bound.now pattern.now)) }
         ensures same { self.new ≡ self.old }
     {
-        match self.look_up(pattern, objects, atom)? {
+        match self.look_up(pattern, objects, bound, atom)? {
             Some(number) => Ok(self.bits.has(number)),
             None => Ok(false),
+        }
+    }
+
+    /// The number of the atom that a pattern stands for, if it is true. The last argument is room for the atom.
+    #[inline(always)]
+    pub(crate) fn number_if_true(
+        &mut self,
+        pattern: &Pattern,
+        objects: &[u16],
+        bound: &[u16],
+        atom: &mut Atom,
+    ) -> Result<Option<usize>, AllocError>
+        requires { IsPatternWithin (length objects.now) (length bound.now) pattern.now }
+        ensures some { IfOk result (λ found. IfSome found (λ number. (state_of self.old (meaning.atom_of objects.now bound.now pattern.now) ≡ true)
+            × (number_in self.old.atoms (meaning.atom_of objects.now bound.now pattern.now) ≡ Some number))) }
+        ensures none { IfOk result (λ found. IfNone found (state_of self.old (meaning.atom_of objects.now bound.now pattern.now) ≡ false)) }
+        ensures same { self.new ≡ self.old }
+    {
+        match self.look_up(pattern, objects, bound, atom)? {
+            Some(number) if self.bits.has(number) => Ok(Some(number)),
+            Some(_) => Ok(None),
+            None => Ok(None),
         }
     }
 
@@ -416,13 +441,14 @@ impl NumberedState<'_> {
         alloc: Global,
         pattern: &Pattern,
         objects: &[u16],
+        bound: &[u16],
         atom: &mut Atom,
     ) -> Result<(), AllocError>
-        requires { IsPatternWithin (length objects.now) pattern.now }
-        ensures state { OnOk result (state_of self.new ≡ with_all (state_of self.old) (ground objects.now pattern.now ∷ [])) }
+        requires { IsPatternWithin (length objects.now) (length bound.now) pattern.now }
+        ensures state { OnOk result (state_of self.new ≡ with_all (state_of self.old) (meaning.atom_of objects.now bound.now pattern.now ∷ [])) }
         ensures grows { Grows self.old self.new }
     {
-        let number = self.number(alloc, pattern, objects, atom)?;
+        let number = self.number(alloc, pattern, objects, bound, atom)?;
         self.set(number);
         Ok(())
     }
@@ -433,13 +459,14 @@ impl NumberedState<'_> {
         &mut self,
         pattern: &Pattern,
         objects: &[u16],
+        bound: &[u16],
         atom: &mut Atom,
     ) -> Result<(), AllocError>
-        requires { IsPatternWithin (length objects.now) pattern.now }
-        ensures state { OnOk result (state_of self.new ≡ without (state_of self.old) (ground objects.now pattern.now ∷ [])) }
+        requires { IsPatternWithin (length objects.now) (length bound.now) pattern.now }
+        ensures state { OnOk result (state_of self.new ≡ without (state_of self.old) (meaning.atom_of objects.now bound.now pattern.now ∷ [])) }
         ensures grows { Grows self.old self.new }
     {
-        if let Some(number) = self.look_up(pattern, objects, atom)? {
+        if let Some(number) = self.look_up(pattern, objects, bound, atom)? {
             self.clear(number);
         }
         Ok(())

@@ -5,9 +5,9 @@ use Rattle.std.proofs.lemmas.Bool.{le-leb, leb-false, lt-leb}
 use Rattle.std.proofs.lemmas.List.{map-append}
 use Rattle.std.proofs.lemmas.List.Elements.{All-push}
 use Rattle.std.specs.Option.{option_map_or}
-use Rattle.strips_task.specs.declared.atoms.Atom.{Atom}
+use Rattle.formulas.specs.declared.atoms.Atom.{Atom}
 use Rattle.strips_task.specs.declared.atom_keys.AtomKey.{AtomKey}
-use Rattle.strips_task.specs.Atom.{atom_eq}
+use Rattle.formulas.specs.Atom.{atom_eq}
 use Rattle.strips_task.specs.AtomKeys.{IsKeyOf, atom_of, key_of}
 use Rattle.strips_task.specs.AtomNumbers.{number_in}
 use Rattle.strips_task.specs.AtomTables.{AreKept, IsAtomTable, atom_at, atoms_of, long_atom}

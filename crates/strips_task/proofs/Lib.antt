@@ -12,7 +12,6 @@ pub mod TypeTrees
 pub mod TypeWalks
 pub mod TypeRows
 pub mod PartLemmas
-pub mod FoldedWords
 pub mod Found
 pub mod StepWords
 pub mod WellFormedParts

@@ -16,7 +16,8 @@ use Rattle.pddl_words.specs.declared.short_words.ShortWord.{ShortWord}
 use Rattle.pddl_words.specs.ShortWords.{IsWord}
 use Rattle.pddl_words.proofs.ShortWordLaws.{one_word}
 use Rattle.strips_task.specs.declared.short_names.Numbered.{Numbered}
-use Rattle.strips_task.specs.Names.{number_named, are_distinct, with_entry, IsStoredName}
+use Rattle.formulas.specs.Names.{IsStoredName}
+use Rattle.strips_task.specs.Names.{number_named, are_distinct, with_entry}
 use Rattle.strips_task.specs.ShortNames.{IsNumbered, IsTable}
 use Rattle.strips_task.proofs.NameNumbers.{entries_distinct, unnamed}
 

@@ -3,8 +3,8 @@
 use Rattle.std.proofs.Common.{◌≡◌, ℕ, suc, ◌+◌, ◌<◌, ◌≤◌, Bool, true, false, cond, ◌||◌, List, [], ◌∷◌, ◌++◌, Option, Some, None, option_map, is_some, Result, Ok, Err, IfOk, OnOk, slice_get, refl, ap, sym, ◌∙◌, length, arith, if◌then◌else◌}
 use Rattle.std.specs.List.{position_from, list_any}
 use Rattle.indexmap.specs.IndexSet.{insert_key}
-use Rattle.strips_task.specs.declared.atoms.Atom.{Atom}
-use Rattle.strips_task.specs.Atom.{atom_eq}
+use Rattle.formulas.specs.declared.atoms.Atom.{Atom}
+use Rattle.formulas.specs.Atom.{atom_eq}
 use Rattle.strips_task.proofs.AtomEquality.{atom_equiv, atom_same}
 use Rattle.strips_task.specs.AtomNumbers.{number_in}
 use Rattle.strips_task.proofs.Numbered.{at_end}

@@ -1,22 +1,25 @@
 -- What the tests of well-formedness say of each part.
 
-use Rattle.std.proofs.Common.{◌≡◌, ℕ, ◌<◌, ◌≤◌, zero, suc, Bool, true, nat_eq, nat_lt, nat_le, List, [], ◌∷◌, length, map, All, refl, ap, sym, ◌∙◌, arith, slice_get, Option, None, Some, true≢false, ◌↔◌, IsTrue}
+use Rattle.std.proofs.Common.{◌≡◌, ℕ, ◌<◌, ◌≤◌, zero, suc, Bool, true, nat_eq, nat_lt, nat_le, List, [], ◌∷◌, ◌++◌, ◌+◌, length, map, All, refl, ap, subst, sym, ◌∙◌, arith, slice_get, Option, None, Some, true≢false, ◌↔◌, IsTrue}
 use Rattle.std.proofs.lemmas.Bool.{ltb-true, leb-true, eqb-true}
+use Rattle.std.proofs.lemmas.List.{length-append}
 use Rattle.std.proofs.lemmas.List.Sums.{AllPass-from_list_all}
 use Rattle.std.proofs.lemmas.Option.{slice_get_within}
 use Rattle.std.specs.List.{list_all, zip}
 use Rattle.std.specs.Option.{option_map}
 use Rattle.std.specs.Map.{values_of}
-use Rattle.strips_task.specs.declared.actions.Term.{Term}
-use Rattle.strips_task.specs.declared.actions.Term.TheVariants.{Param, Object}
-use Rattle.strips_task.specs.declared.actions.Pattern.{Pattern}
-use Rattle.strips_task.specs.declared.actions.Formula.{Formula}
-use Rattle.strips_task.specs.declared.actions.Formula.TheVariants as formula
+use Rattle.formulas.specs.declared.terms.Term.{Term}
+use Rattle.formulas.specs.declared.terms.Term.TheVariants.{Param, Bound, Object}
+use Rattle.formulas.specs.declared.terms.Pattern.{Pattern}
+use Rattle.formulas.specs.EffectTree.{EffectTree, change, joint, conditional, universal, EffectParts, no_effects, effect_part}
+use Rattle.formulas.specs.Tree.{Tree, atom, equality, negation, conjunction, disjunction, implication, exists, for_all, Parts, no_parts, part}
+use Rattle.formulas.specs.Variables.{variable_types}
+use Rattle.formulas.specs.Within.{IsTermWithin, IsPatternWithin, IsWithin, AreWithin, IsEffectWithin, AreEffectsWithin}
 use Rattle.strips_task.specs.declared.actions.Action.{Action}
 use Rattle.strips_task.specs.declared.tasks.TaskParts.{TaskParts}
 use Rattle.strips_task.specs.Types.{IsBelow, IsTypeTree, is_below}
-use Rattle.strips_task.specs.WellFormed.{are_alternatives, are_variables, term_types, is_fitting, are_fitting, is_pattern, is_known, is_formula, is_action}
-use Rattle.strips_task.specs.Within.{IsTermWithin, IsPatternWithin, IsFormulaWithin, IsActionWithin}
+use Rattle.strips_task.specs.WellFormed.{are_alternatives, are_variables, term_types, is_fitting, are_fitting, is_pattern, is_known, is_formula, are_formulas, is_effect, are_effects, is_action}
+use Rattle.strips_task.specs.Within.{IsActionWithin}
 use Rattle.strips_task.proofs.AtomEquality.{both_hold}
 use Rattle.strips_task.proofs.TypeTrees.{below_from_within, within_from_below}
 
@@ -61,9 +64,9 @@ variables_known parents variables h =
           variables parts.1,
     )
 
-module _ (task : TaskParts) (params : List (List ℕ)) where
-  -- a parameter that fits is one of the action's
-  term_within : (term : Term) (indexes : List ℕ) → is_fitting task.parents (term_types task.objects params term) indexes ≡ true → IsTermWithin (length params) term
+module _ (task : TaskParts) (params bound : List (List ℕ)) where
+  -- a parameter that fits is one of the action's, and a variable one that is bound
+  term_within : (term : Term) (indexes : List ℕ) → is_fitting task.parents (term_types task.objects params bound term) indexes ≡ true → IsTermWithin (length params) (length bound) term
   unfolding term_types is_fitting
   term_within (Object object) indexes h = tt
   term_within (Param index) indexes h = by (slice_get params index) refl
@@ -71,56 +74,108 @@ module _ (task : TaskParts) (params : List (List ℕ)) where
       by : (r : Option (List ℕ)) → slice_get params index ≡ r → index < length params
       by None e = absurd (true≢false (sym h ∙ ap (λ o. is_fitting task.parents o indexes) e))
       by (Some types) e = slice_get_within params index types e
+  term_within (Bound level) indexes h = by (slice_get bound level) refl
+    where
+      by : (r : Option (List ℕ)) → slice_get bound level ≡ r → level < length bound
+      by None e = absurd (true≢false (sym h ∙ ap (λ o. is_fitting task.parents o indexes) e))
+      by (Some types) e = slice_get_within bound level types e
 
-  terms_within : (terms : List Term) (indexes : List (List ℕ)) → length (map (term_types task.objects params) terms) ≡ length indexes
-      → list_all (λ p. is_fitting task.parents p.0 p.1) (zip (map (term_types task.objects params) terms) indexes) ≡ true
-      → All (IsTermWithin (length params)) terms
+  terms_within : (terms : List Term) (indexes : List (List ℕ)) → length (map (term_types task.objects params bound) terms) ≡ length indexes
+      → list_all (λ p. is_fitting task.parents p.0 p.1) (zip (map (term_types task.objects params bound) terms) indexes) ≡ true
+      → All (IsTermWithin (length params) (length bound)) terms
   terms_within [] indexes e h = λ k d lt. absurd (omega arith)
   terms_within (term ∷ terms) [] e h = absurd (omega (arith, e))
   terms_within (term ∷ terms) (index ∷ indexes) e h =
-      let parts = both_hold (is_fitting task.parents (term_types task.objects params term) index) (list_all (λ p. is_fitting task.parents p.0 p.1) (zip (map (term_types task.objects params) terms) indexes)) h in
-      all_cons (IsTermWithin (length params)) term terms (term_within term index parts.0)
-      (terms_within terms indexes (let n : suc (length (map (term_types task.objects params) terms)) ≡ suc (length indexes) = e in omega arith) parts.1)
+      let parts = both_hold (is_fitting task.parents (term_types task.objects params bound term) index) (list_all (λ p. is_fitting task.parents p.0 p.1) (zip (map (term_types task.objects params bound) terms) indexes)) h in
+      all_cons (IsTermWithin (length params) (length bound)) term terms (term_within term index parts.0)
+      (terms_within terms indexes (let n : suc (length (map (term_types task.objects params bound) terms)) ≡ suc (length indexes) = e in omega arith) parts.1)
 
-  pattern_within : (pattern : Pattern) → is_pattern task params pattern ≡ true → IsPatternWithin (length params) pattern
+  pattern_within : (pattern : Pattern) → is_pattern task params bound pattern ≡ true → IsPatternWithin (length params) (length bound) pattern
   unfolding is_pattern are_fitting
   pattern_within pattern h = by (slice_get (values_of task.preds) pattern.pred) refl
     where
-      by : (r : Option (List (List ℕ))) → slice_get (values_of task.preds) pattern.pred ≡ r → IsPatternWithin (length params) pattern
-      by None e = absurd (true≢false (sym h ∙ ap (are_fitting task.parents (map (term_types task.objects params) pattern.terms)) e))
+      by : (r : Option (List (List ℕ))) → slice_get (values_of task.preds) pattern.pred ≡ r → IsPatternWithin (length params) (length bound) pattern
+      by None e = absurd (true≢false (sym h ∙ ap (are_fitting task.parents (map (term_types task.objects params bound) pattern.terms)) e))
       by (Some indexes) e =
-          let fit = sym (ap (are_fitting task.parents (map (term_types task.objects params) pattern.terms)) e) ∙ h in
-          let parts = both_hold (nat_eq (length (map (term_types task.objects params) pattern.terms)) (length indexes)) (list_all (λ p. is_fitting task.parents p.0 p.1) (zip (map (term_types task.objects params) pattern.terms) indexes)) fit in
-          terms_within pattern.terms indexes (eqb-true (length (map (term_types task.objects params) pattern.terms)) (length indexes) parts.0) parts.1
+          let fit = sym (ap (are_fitting task.parents (map (term_types task.objects params bound) pattern.terms)) e) ∙ h in
+          let parts = both_hold (nat_eq (length (map (term_types task.objects params bound) pattern.terms)) (length indexes)) (list_all (λ p. is_fitting task.parents p.0 p.1) (zip (map (term_types task.objects params bound) pattern.terms) indexes)) fit in
+          terms_within pattern.terms indexes (eqb-true (length (map (term_types task.objects params bound) pattern.terms)) (length indexes) parts.0) parts.1
 
-  -- a side of an equality that is known is one of the action's parameters or an object
-  side_within : (term : Term) → is_known task params term ≡ true → IsTermWithin (length params) term
+  -- a side of an equality that is known is one of the action's parameters, a variable that is bound or an object
+  side_within : (term : Term) → is_known task params bound term ≡ true → IsTermWithin (length params) (length bound) term
   unfolding is_known
   side_within (Object object) h = tt
   side_within (Param index) h = ltb-true index (length params) h
+  side_within (Bound level) h = ltb-true level (length bound) h
 
-  formula_within : (asked : Formula) → is_formula task params asked ≡ true → IsFormulaWithin (length params) asked
-  unfolding is_formula
-  formula_within (formula.Atom pattern) h = pattern_within pattern h
-  formula_within (formula.Equal left right) h =
-      let sides = both_hold (is_known task params left) (is_known task params right) h in
-      (side_within left sides.0, side_within right sides.1)
+module _ (task : TaskParts) (params : List (List ℕ)) where
+  extended : (bound types : List (List ℕ)) (body : Tree) → IsWithin (length params) (length (bound ++ types)) body → IsWithin (length params) (length bound + length types) body
+  extended bound types body within = subst (λ count. IsWithin (length params) count body) (length-append bound types) within
+
+  mutual
+    unfolding is_formula
+
+    -- a formula that passes the test names the action's parameters, and the variables that are bound where it names them
+    pub formula_within : (bound : List (List ℕ)) (tree : Tree) → is_formula task params bound tree ≡ true → IsWithin (length params) (length bound) tree
+    formula_within bound (atom positive pattern) h = pattern_within task params bound pattern h
+    formula_within bound (equality positive left right) h =
+        let sides = both_hold (is_known task params bound left) (is_known task params bound right) h in
+        (side_within task params bound left sides.0, side_within task params bound right sides.1)
+    formula_within bound (negation tree) h = formula_within bound tree h
+    formula_within bound (conjunction parts) h = formulas_within bound parts h
+    formula_within bound (disjunction parts) h = formulas_within bound parts h
+    formula_within bound (implication premise conclusion) h =
+        let both = both_hold (is_formula task params bound premise) (is_formula task params bound conclusion) h in
+        (formula_within bound premise both.0, formula_within bound conclusion both.1)
+    formula_within bound (exists groups body) h =
+        let both = both_hold (are_variables task.parents (variable_types groups)) (is_formula task params (bound ++ variable_types groups) body) h in
+        extended bound (variable_types groups) body (formula_within (bound ++ variable_types groups) body both.1)
+    formula_within bound (for_all groups body) h =
+        let both = both_hold (are_variables task.parents (variable_types groups)) (is_formula task params (bound ++ variable_types groups) body) h in
+        extended bound (variable_types groups) body (formula_within (bound ++ variable_types groups) body both.1)
+
+    formulas_within : (bound : List (List ℕ)) (parts : Parts) → are_formulas task params bound parts ≡ true → AreWithin (length params) (length bound) parts
+    formulas_within bound no_parts h = tt
+    formulas_within bound (part tree parts) h =
+        let both = both_hold (is_formula task params bound tree) (are_formulas task params bound parts) h in
+        (formula_within bound tree both.0, formulas_within bound parts both.1)
+
+  mutual
+    unfolding is_effect
+
+    -- and so does an effect that passes the test
+    pub effect_within : (bound : List (List ℕ)) (effect : EffectTree) → is_effect task params bound effect ≡ true → IsEffectWithin (length params) (length bound) effect
+    effect_within bound (change positive pattern) h = pattern_within task params bound pattern h
+    effect_within bound (joint parts) h = effects_within bound parts h
+    effect_within bound (conditional condition effect) h =
+        let both = both_hold (is_formula task params bound condition) (is_effect task params bound effect) h in
+        (formula_within bound condition both.0, effect_within bound effect both.1)
+    effect_within bound (universal groups effect) h =
+        let both = both_hold (are_variables task.parents (variable_types groups)) (is_effect task params (bound ++ variable_types groups) effect) h in
+        subst (λ count. IsEffectWithin (length params) count effect) (length-append bound (variable_types groups)) (effect_within (bound ++ variable_types groups) effect both.1)
+
+    effects_within : (bound : List (List ℕ)) (parts : EffectParts) → are_effects task params bound parts ≡ true → AreEffectsWithin (length params) (length bound) parts
+    effects_within bound no_effects h = tt
+    effects_within bound (effect_part effect parts) h =
+        let both = both_hold (is_effect task params bound effect) (are_effects task params bound parts) h in
+        (effect_within bound effect both.0, effects_within bound parts both.1)
 
 -- an action that passes the test speaks of its own parameters
 pub action_within : (task : TaskParts) (action : Action) → is_action task action ≡ true → IsActionWithin (length task.parents) action
 unfolding is_action
 action_within task action h =
     let params = both_hold (are_variables task.parents action.params) _ h in
-    let pre = both_hold (list_all (λ cond. is_formula task action.params cond.formula) action.pre) _ params.1 in
-    let effects = both_hold (list_all (is_pattern task action.params) action.add) (list_all (is_pattern task action.params) action.del) pre.1 in
+    let pre = both_hold (list_all (is_formula task action.params []) action.pre) _ params.1 in
+    let add = both_hold (list_all (is_pattern task action.params []) action.add) _ pre.1 in
+    let del = both_hold (list_all (is_pattern task action.params []) action.del) _ add.1 in
     let known = variables_known task.parents action.params params.0 in
     record {
       few_params = known.0;
       params_known = known.1;
-      pre_within = all_from_tests (λ cond. is_formula task action.params cond.formula) (λ cond. IsFormulaWithin (length action.params) cond.formula)
-          (λ cond. formula_within task action.params cond.formula) action.pre pre.0;
-      add_within = all_from_tests (is_pattern task action.params) (IsPatternWithin (length action.params)) (pattern_within task action.params) action.add effects.0;
-      del_within = all_from_tests (is_pattern task action.params) (IsPatternWithin (length action.params)) (pattern_within task action.params) action.del effects.1;
+      pre_within = all_from_tests (is_formula task action.params []) (IsWithin (length action.params) 0) (formula_within task action.params []) action.pre pre.0;
+      add_within = all_from_tests (is_pattern task action.params []) (IsPatternWithin (length action.params) 0) (pattern_within task action.params []) action.add add.0;
+      del_within = all_from_tests (is_pattern task action.params []) (IsPatternWithin (length action.params) 0) (pattern_within task action.params []) action.del del.0;
+      effects_within = all_from_tests (is_effect task action.params []) (IsEffectWithin (length action.params) 0) (effect_within task action.params []) action.effects del.1;
     }
 
 -- in a tree of types the test decides the order
@@ -131,3 +186,7 @@ is_below_decides parents tree sub sup lt = (
   below_from_within parents (length parents) sub sup,
   within_from_below parents tree.has_object tree.object_on_top (λ i known. tree.parents_known i 0 known) sub sup lt (tree.below_object sub lt),
 )
+
+-- formulas that pass the test without parameters name none
+pub goal_within : (task : TaskParts) (goal : List Tree) → list_all (is_formula task [] []) goal ≡ true → All (IsWithin 0 0) goal
+goal_within task goal h = all_from_tests (is_formula task [] []) (IsWithin 0 0) (formula_within task [] []) goal h

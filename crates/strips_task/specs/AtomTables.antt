@@ -2,7 +2,7 @@
 
 use Rattle.std.specs.Prelude.{◌≡◌, ◌≤◌, ◌<◌, ◌/◌, ℕ, List, [], All, Some, cond, leb, length, map, slice_get}
 use Rattle.std.specs.Option.{option_map_or}
-use Rattle.strips_task.specs.declared.atoms.Atom.{Atom}
+use Rattle.formulas.specs.declared.atoms.Atom.{Atom}
 use Rattle.strips_task.specs.declared.atom_keys.AtomKey.{AtomKey}
 use Rattle.strips_task.specs.declared.atom_table.KeptAtom.{KeptAtom}
 use Rattle.strips_task.specs.declared.atom_table.KeptAtom.TheVariants.{Few, Many}

@@ -1,12 +1,9 @@
-pub mod Atom
-pub mod AtomHash
 pub mod AtomKeys
 pub mod AtomNumbers
 pub mod AtomTables
 pub mod KnownAtoms
 pub mod LongAtoms
 pub mod FirstOccurrences
-pub mod FormulaEquality
 pub mod Names
 pub mod OpenPlan
 pub mod Parts

@@ -1,16 +1,10 @@
 -- Tables of names: entries are numbered in the order in which they were added, from 0.
 
-use Rattle.std.specs.Prelude.{◌≡◌, ℕ, Bool, true, not, ◌&&◌, List, [], ◌∷◌, Option}
+use Rattle.std.specs.Prelude.{ℕ, Bool, true, not, ◌&&◌, List, [], ◌∷◌, Option}
 use Rattle.std.specs.List.{list_any, position_from}
 use Rattle.std.specs.Map.{keys_of}
 use Rattle.std.specs.Str.{bytes_eq}
-use Rattle.pddl_words.specs.Words.{is_name, folded}
 use Rattle.indexmap.specs.IndexMap.{insert_entry}
-
--- a name of PDDL in lower case, as tables keep it
-pub record IsStoredName (word : List ℕ) : Type 0 where
-  pub in_lower_case : folded word ≡ word
-  pub named : is_name word ≡ true
 
 -- the number of the entry with this name, if there is one; the bytes are compared as they are
 unfoldable pub number_named : {V : Type 0} → List (List ℕ × V) → List ℕ → Option ℕ

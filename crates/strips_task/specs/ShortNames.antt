@@ -5,7 +5,8 @@ use Rattle.pddl_words.specs.declared.short_words.ShortWord.{ShortWord}
 use Rattle.pddl_words.specs.ShortWords.{IsWord}
 use Rattle.strips_task.specs.declared.short_names.Numbered.{Numbered}
 use Rattle.std.specs.Map.{keys_of}
-use Rattle.strips_task.specs.Names.{IsStoredName, number_named, are_distinct}
+use Rattle.formulas.specs.Names.{IsStoredName}
+use Rattle.strips_task.specs.Names.{number_named, are_distinct}
 
 -- the name
 abbrev pub name_of : Numbered → ShortWord

@@ -5,8 +5,8 @@
 //! for its slot.
 ghost use Rattle.std.specs.Prelude.{◌≡◌, ◌<◌, ◌≤◌, ◌++◌, ◌∷◌, [], IfErr, IfOk, None, OnErr, OnOk, Some, length, slice_get};
 ghost use Rattle.indexmap.specs.IndexSet.{insert_key};
-ghost use Rattle.strips_task.specs.declared.atoms.Atom.{Atom};
-ghost use Rattle.strips_task.specs.Atom.{atom_eq};
+ghost use Rattle.formulas.specs.declared.atoms.Atom.{Atom};
+ghost use Rattle.formulas.specs.Atom.{atom_eq};
 ghost use Rattle.strips_task.specs.AtomKeys.{IsKeyOf, atom_of};
 ghost use Rattle.strips_task.specs.AtomNumbers.{number_in};
 ghost use Rattle.strips_task.specs.AtomTables.{kept_atom};
@@ -51,7 +51,7 @@ impl Drop for AtomTable {
 impl Model for AtomTable {
     ghost use Rattle.std.specs.Prelude.{List};
     ghost use Rattle.strips_task.specs.AtomTables.{IsAtomTable, atoms_of};
-    ghost use Rattle.strips_task.specs.declared.atoms.Atom.{Atom};
+    ghost use Rattle.formulas.specs.declared.atoms.Atom.{Atom};
 
     ghost Value = { List Atom };
 

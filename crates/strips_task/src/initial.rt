@@ -5,7 +5,7 @@
 ghost use Rattle.std.specs.Prelude.{◌≡◌, ◌+◌, ◌<◌, ◌≤◌, count_by, is_some, List, [], ◌∷◌, ◌++◌, length, slice_get, All, IfSome, OnOk, OnErr, IfErr, Some};
 ghost use Rattle.std.specs.List.{position_from};
 ghost use Rattle.strips_task.specs.FirstOccurrences.{first_occurrences};
-ghost use Rattle.strips_task.specs.Atom.{atom_eq};
+ghost use Rattle.formulas.specs.Atom.{atom_eq};
 ghost use Rattle.strips_task.specs.AtomKeys.{IsKeyOf, atom_of};
 ghost use Rattle.strips_task.specs.AtomTables.{kept_atom};
 
@@ -33,9 +33,9 @@ impl Drop for InitialAtoms {
 impl Model for InitialAtoms {
     ghost use Rattle.std.specs.Prelude.{◌≡◌, ◌<◌, List, All, length, slice_get};
     ghost use Rattle.std.specs.List.{filter_map};
-    ghost use Rattle.strips_task.specs.Atom.{atom_eq};
+    ghost use Rattle.formulas.specs.Atom.{atom_eq};
     ghost use Rattle.strips_task.specs.FirstOccurrences.{first_occurrences};
-    ghost use Rattle.strips_task.specs.declared.atoms.Atom.{Atom};
+    ghost use Rattle.formulas.specs.declared.atoms.Atom.{Atom};
 
     ghost Value = { List Atom };
 

@@ -19,16 +19,12 @@
 mod actions;
 mod atom_keys;
 mod atom_table;
-mod atoms;
 mod equality;
 mod initial;
 mod known_atoms;
 pub mod laws;
-mod names;
 mod plans;
 mod seed;
-mod seq;
-mod short;
 mod short_names;
 mod step_view;
 mod steps;
@@ -38,16 +34,16 @@ mod types;
 mod well_formed;
 mod words;
 
-pub use actions::{Action, Alternatives, Cond, Formula, Pattern, Term};
+pub use actions::Action;
 pub use atom_keys::AtomKey;
 pub use atom_table::{AtomTable, KeptAtom};
-pub use atoms::{Atom, AtomList, CondList, GroundCond, GroundFormula};
+pub use formulas::{
+    Alternatives, Atom, AtomList, Effect, EffectNode, Formula, Name, NameKey, Node, Pattern, Seq,
+    ShortSeq, Term, VariableGroup,
+};
 pub use initial::InitialAtoms;
-pub use names::{Name, NameKey};
 pub use plans::Plan;
 pub use seed::Seed;
-pub use seq::Seq;
-pub use short::ShortSeq;
 pub use step_view::StepView;
 pub use steps::{MOST_STEPS, OpenSteps, StepList, StepRange, StepText};
 pub use table::NameTable;

@@ -9,7 +9,7 @@
 //! A name takes 24 bytes, and a slot 4. There are two to four slots for each name of the table, so 32 to 40 bytes a name. The slots of all the
 //! objects that a task can have take half a megabyte, which the cache of many a processor holds.
 ghost use Rattle.std.specs.Prelude.{◌≡◌, ◌≢◌, ◌≤◌, ◌<◌, ◌+◌, ℕ, List, Option, Some, All, IfSome, length};
-ghost use Rattle.strips_task.specs.Names.{IsStoredName};
+ghost use Rattle.formulas.specs.Names.{IsStoredName};
 ghost use Rattle.pddl_words.specs.ShortWords.{IsWord};
 ghost use Rattle.strips_task.specs.ShortNames.{IsNumbered, name_of};
 

@@ -1,7 +1,8 @@
 //! A planning task: what a domain and a problem say together (PDDL 2.1, Fox and Long 2003, level 1).
 //!
 //! A reader fills [`TaskParts`] and makes a [`Task`] of them. The type [`Task`] ensures that they are well formed, and judges only read it.
-ghost use Rattle.std.specs.Prelude.{◌≡◌, ◌<◌, ◌↔◌, IsTrue, true, length, slice_get, IfSome, Some};
+ghost use Rattle.std.specs.Prelude.{◌≡◌, ◌<◌, ◌^◌, ◌↔◌, All, IsTrue, true, length, slice_get, IfSome, Some};
+ghost use Rattle.formulas.specs.Within.{IsWithin};
 ghost use Rattle.pddl_words.specs.Words.{is_name, folded};
 ghost use Rattle.strips_task.specs.Names.{number_named};
 ghost use Rattle.strips_task.specs.Types.{IsBelow, is_below};
@@ -9,7 +10,7 @@ ghost use Rattle.strips_task.specs.WellFormed.{IsWellFormed};
 ghost use Rattle.strips_task.specs.Within.{IsActionWithin};
 ghost use Rattle.std.specs.Map.{keys_of, values_of};
 
-use crate::{Action, Alternatives, CondList, InitialAtoms, Name, NameTable, Seq, TypeList};
+use crate::{Action, Alternatives, Formula, InitialAtoms, Name, NameTable, Seq, TypeList};
 use std::marker::Model;
 
 /// The parts of a task. Names are distinct in each table; numbers are indexes in the tables.
@@ -18,7 +19,9 @@ pub struct TaskParts {
     pub domain: Name,
     /// The name of the problem.
     pub problem: Name,
-    /// For each type the number of its parent; number 0 is `object`.
+    /// For each type its name; number 0 is `object`.
+    pub types: NameTable<()>,
+    /// For each type the number of its parent.
     pub parents: TypeList,
     /// For each object, constants first, its name and the number of its type.
     pub objects: NameTable<u16>,
@@ -28,8 +31,8 @@ pub struct TaskParts {
     pub actions: NameTable<Action>,
     /// The atoms that are true at the start.
     pub init: InitialAtoms,
-    /// What must hold at the end.
-    pub goal: CondList,
+    /// What must hold at the end: all of these, which name no parameter.
+    pub goal: Seq<Formula>,
 }
 
 impl Drop for TaskParts {
@@ -37,6 +40,7 @@ impl Drop for TaskParts {
         let Self {
             domain: _,
             problem: _,
+            types: _,
             parents: _,
             objects: _,
             preds: _,
@@ -58,6 +62,12 @@ impl Model for Task {
     ghost use Rattle.strips_task.specs.WellFormed.{IsWellFormed};
 
     ghost Value = { TaskParts };
+
+    ghost use Rattle.formulas.specs.contracts.effect.Effect as effect;
+    ghost use Rattle.formulas.specs.contracts.formula.Formula as formula;
+    ghost use Rattle.std.specs.Coded.{codes};
+
+    ghost coded = { Prim.hlevel (codes, formula.the_row.coded, effect.the_row.coded) };
 
     ghost view = { λ t. t.parts };
 
@@ -95,17 +105,27 @@ impl Task {
     }
 
     /// What must hold at the end.
-    pub fn goal(&self) -> &CondList
-        ensures { result.now ≡ self.now.goal }
+    pub fn goal(&self) -> &Seq<Formula>
+        ensures goal { result.now ≡ self.now.goal }
+        ensures within { All (IsWithin 0 0) result.now }
     {
         &self.parts.goal
     }
 
     /// How many objects the task has.
     pub fn object_count(&self) -> usize
-        ensures { result ≡ length self.now.objects }
+        ensures count { result ≡ length self.now.objects }
+        ensures few { result < 2 ^ 16 }
     {
         self.parts.objects.len()
+    }
+
+    /// How many actions the task has.
+    pub fn action_count(&self) -> usize
+        ensures count { result ≡ length self.now.actions }
+        ensures few { result < 2 ^ 16 }
+    {
+        self.parts.actions.len()
     }
 
     /// How many predicates the task has.
@@ -113,6 +133,21 @@ impl Task {
         ensures { result ≡ length self.now.preds }
     {
         self.parts.preds.len()
+    }
+
+    /// How many types the task has, `object` among them.
+    pub fn type_count(&self) -> usize
+        ensures { result ≡ length self.now.types }
+    {
+        self.parts.types.len()
+    }
+
+    /// The name of the type with a number.
+    pub fn type_name(&self, number: u16) -> &Name
+        requires { number < length self.now.types }
+        ensures { slice_get (keys_of self.now.types) number ≡ Some result.now }
+    {
+        self.parts.types.get(usize::from(number)).0
     }
 
     /// The name of the object with a number.
@@ -201,8 +236,7 @@ impl Task {
     /// (PDDL 2.1, Fox and Long 2003, section 2). Takes one read of a table.
     #[inline(always)]
     pub fn is_subtype(&self, sub: u16, sup: u16) -> bool
-        requires sub_known { sub < length self.now.parents }
-        requires sup_known { sup < length self.now.parents }
+        requires { sub < length self.now.parents }
         ensures test { result ≡ is_below self.now.parents sub sup }
         ensures order { IsTrue result ↔ IsBelow self.now.parents sub sup }
     {

@@ -1,6 +1,6 @@
 //! The limits of a task, and whether a term fits an argument.
-ghost use Rattle.std.specs.Prelude.{◌≡◌, []};
-ghost use Rattle.strips_task.specs.declared.actions.Term.TheVariants.{Object};
+ghost use Rattle.std.specs.Prelude.{◌≡◌, [], slice_get};
+ghost use Rattle.formulas.specs.declared.terms.Term.TheVariants.{Object};
 ghost use Rattle.strips_task.specs.WellFormed.{term_types, is_fitting};
 
 use crate::{Alternatives, NameTable, Term, TypeList};
@@ -23,23 +23,32 @@ pub const MOST_VARIABLES: usize = 32;
 /// The most types among which an argument or a parameter may have a choice.
 pub const MOST_ALTERNATIVES: usize = 32;
 
-/// Whether a term is a parameter or an object, and fits an argument that may be of these types: each type of the term is one of them or below one
-/// of them. The parameters come with their types, and the objects, too. Takes no memory.
+/// Whether a term is a parameter, a variable that is bound or an object, and fits an argument that may be of these types: each type of the term is one of
+/// them or below one of them. Parameters, bound variables and objects come with their types. Takes no memory.
 pub fn term_fits(
     parents: &TypeList,
     objects: &NameTable<u16>,
     params: &[Alternatives],
+    bound: &[Alternatives],
     term: Term,
     types: &[u16],
 ) -> bool
-    ensures { result ≡ is_fitting parents.now (term_types objects.now params.now term) types.now }
+    ensures { result ≡ is_fitting parents.now (term_types objects.now params.now bound.now term) types.now }
 {
     match term {
-        Term::Param(number) => match params.get(usize::from(number)) {
-            Some(own) => parents.are_below(own.as_slice(), types),
-            None => false,
-        },
+        Term::Param(number) => variable_fits(parents, params, number, types),
+        Term::Bound(level) => variable_fits(parents, bound, level, types),
         Term::Object(number) => object_fits(parents, objects, number, types),
+    }
+}
+
+/// Whether there is a variable with a number, and it fits an argument that may be of these types.
+fn variable_fits(parents: &TypeList, variables: &[Alternatives], number: u16, types: &[u16]) -> bool
+    ensures { result ≡ is_fitting parents.now (slice_get variables.now number) types.now }
+{
+    match variables.get(usize::from(number)) {
+        Some(own) => parents.are_below(own.as_slice(), types),
+        None => false,
     }
 }
 
@@ -47,7 +56,7 @@ pub fn term_fits(
 #[tactic(auto, using(crate::proofs::WellFormedTests::object_fitting, crate::proofs::WellFormedTests::object_unknown))]
 #[inline(always)]
 pub fn object_fits(parents: &TypeList, objects: &NameTable<u16>, number: u16, types: &[u16]) -> bool
-    ensures { result ≡ is_fitting parents.now (term_types objects.now [] (Object number)) types.now }
+    ensures { result ≡ is_fitting parents.now (term_types objects.now [] [] (Object number)) types.now }
 {
     let Some(own) = objects.value(usize::from(number)) else {
         return false;

@@ -7,14 +7,13 @@ use Rattle.std.proofs.Math.Seq.{take-append_seam}
 use Rattle.std.proofs.lemmas.List.Sums.{fold_more}
 use Rattle.std.proofs.lemmas.Option.{get_or_from_slice_get}
 use Rattle.strips_task.specs.declared.actions.Action.{Action}
-use Rattle.strips_task.specs.declared.atoms.Atom.{Atom}
+use Rattle.formulas.specs.declared.atoms.Atom.{Atom}
 use Rattle.strips_task.specs.declared.steps.StepText.{StepText}
 use Rattle.strips_task.specs.declared.tasks.TaskParts.{TaskParts}
-use Rattle.strips_task.specs.declared.atoms.GroundCond.{GroundCond}
+use Rattle.formulas.specs.Tree.{Tree}
 use Rattle.strips_task.specs.declared.plans.Plan.{Plan}
 use Rattle.strips_task.specs.declared.plans.Plan.TheVariants.{Steps, Unreadable}
 use Rattle.strips_judge.specs.declared.verdict.Why.{Why}
-use Rattle.strips_judge.specs.Grounding.{ground}
 use Rattle.strips_judge.specs.NumberedState.{state_of}
 use Rattle.strips_judge.specs.State.{State, is_in}
 use Rattle.strips_judge.specs.Step.{action_named, adds_by, after, after_by, deletes_by, missing, objects_named}
@@ -56,12 +55,12 @@ by_tests false deleted true differs = (λ e. refl, λ e. cc)
 by_tests false true false differs = absurd (differs refl)
 by_tests false false false differs = absurd (differs refl)
 
-by_action : (objects : List ℕ) (before : State) (atom : Atom) (action : Option Action) → before atom ≢ after_by objects before action atom
-    → (after_by objects before action atom ≡ true → is_in (adds_by objects action) atom ≡ true)
-    × (after_by objects before action atom ≡ false → (is_in (deletes_by objects action) atom ≡ true) × (is_in (adds_by objects action) atom ≡ false))
-by_action objects before atom None differs = absurd (differs refl)
-by_action objects before atom (Some action) differs =
-    by_tests (before atom) (is_in (map (ground objects) action.del) atom) (is_in (map (ground objects) action.add) atom) differs
+by_action : (parts : TaskParts) (objects : List ℕ) (before : State) (atom : Atom) (action : Option Action) → before atom ≢ after_by parts objects before action atom
+    → (after_by parts objects before action atom ≡ true → is_in (adds_by parts objects before action) atom ≡ true)
+    × (after_by parts objects before action atom ≡ false → (is_in (deletes_by parts objects before action) atom ≡ true) × (is_in (adds_by parts objects before action) atom ≡ false))
+by_action parts objects before atom None differs = absurd (differs refl)
+by_action parts objects before atom (Some action) differs =
+    by_tests (before atom) (is_in (deletes_by parts objects before (Some action)) atom) (is_in (adds_by parts objects before (Some action)) atom) differs
 
 -- the last step that changes an atom adds it, or deletes it and does not add it
 pub are_effects : (parts : TaskParts) → LastChangesAreEffects parts
@@ -75,7 +74,7 @@ are_effects parts steps atom number step (changes, stays) at =
     ∙ ap (after parts before) (get_or_from_slice_get steps (number - 1) step step at) in
     let here : state_after parts steps number atom ≡ after parts before step atom = ap (λ (s : State). s atom) leads in
     let end : state_after parts steps (length steps) atom ≡ after parts before step atom = stays (length steps) changes.within (omega arith) ∙ here in
-    let effects = by_action (objects_named parts step.args) before atom (action_named parts step.action) (λ e. changes.differs (e ∙ sym here)) in
+    let effects = by_action parts (objects_named parts step.args) before atom (action_named parts step.action) (λ e. changes.differs (e ∙ sym here)) in
     (λ is. effects.0 (sym end ∙ is), λ is. effects.1 (sym end ∙ is))
 
 -- before the first step
@@ -93,7 +92,7 @@ last_of_each parts steps (a ∷ atoms) [] all = absurd all
 last_of_each parts steps (a ∷ atoms) (w ∷ watches) all = (all.0.last, last_of_each parts steps atoms watches all.1)
 
 -- all steps of a plan that does not fail are taken
-all_of_goal : (n : ℕ) (conds : List GroundCond) (steps : List StepText) → steps_taken (goal_verdict n conds) steps ≡ steps
+all_of_goal : (n : ℕ) (conds : List Tree) (steps : List StepText) → steps_taken (goal_verdict n conds) steps ≡ steps
 all_of_goal n [] steps = refl
 all_of_goal n (cond ∷ conds) steps = refl
 
@@ -101,11 +100,11 @@ pub all_taken : (judging : Judging) (steps all : List StepText) → HasTaken jud
     → steps_taken (verdict judging.task.task (Steps all)) all ≡ steps
 all_taken judging steps all taken same =
     let is : steps ≡ all = cc in
-    let found = found_at_end judging.task judging.state judging.cost judging.count (goal_verdict judging.count (missing (state_of judging.state) judging.task.task.goal))
-    (cost_by judging.task.costs (goal_verdict judging.count (missing (state_of judging.state) judging.task.task.goal)) judging.cost) refl refl steps taken in
+    let found = found_at_end judging.task judging.state judging.cost judging.count (goal_verdict judging.count (missing judging.task.task (state_of judging.state) judging.task.task.goal))
+    (cost_by judging.task.costs (goal_verdict judging.count (missing judging.task.task (state_of judging.state) judging.task.task.goal)) judging.cost) refl refl steps taken in
     ap (λ l. steps_taken (verdict judging.task.task (Steps l)) l) (sym is)
     ∙ ap (λ (a : Assessment). steps_taken a.verdict steps) (sym found)
-    ∙ all_of_goal judging.count (missing (state_of judging.state) judging.task.task.goal) steps
+    ∙ all_of_goal judging.count (missing judging.task.task (state_of judging.state) judging.task.task.goal) steps
 
 -- of a plan that fails those before the step at which it does
 pub some_taken : (walk : Walk) (task : CostedTask) (number : ℕ) (why : Why) (at : FailsAt walk task number why) (more all : List StepText)

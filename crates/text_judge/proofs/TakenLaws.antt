@@ -5,7 +5,7 @@ use Rattle.std.specs.List.{flat_map}
 use Rattle.std.proofs.lemmas.List.Concat.{flat_map-append}
 use Rattle.std.proofs.lemmas.List.Elements.{All-push}
 use Rattle.std.proofs.lemmas.Option.{get_or_from_slice_get, slice_get_cases}
-use Rattle.strips_task.specs.declared.atoms.Atom.{Atom}
+use Rattle.formulas.specs.declared.atoms.Atom.{Atom}
 use Rattle.strips_task.specs.declared.plans.Plan.TheVariants.{Steps}
 use Rattle.strips_task.specs.declared.steps.StepText.{StepText}
 use Rattle.strips_task.specs.declared.tasks.TaskParts.{TaskParts}
@@ -171,13 +171,13 @@ module _ (task : CostedTask) (state : Numbered) where
         λ j. record { verdict = answer j; cost = none j }
 
     -- what is found at the end
-    pub found_at_end : (answer : Verdict) (beside : Cost) → answer ≡ goal_verdict count (missing (state_of state) task.task.goal) → beside ≡ cost_by task.costs answer cost
+    pub found_at_end : (answer : Verdict) (beside : Cost) → answer ≡ goal_verdict count (missing task.task (state_of state) task.task.goal) → beside ≡ cost_by task.costs answer cost
         → (steps : List StepText) → HasTaken (record { task = task; state = state; cost = cost; count = count }) steps
         → ◌≡◌ {A = Assessment} (record { verdict = answer; cost = beside }) (assessment task (Steps steps))
     found_at_end answer beside is costs steps h =
         let number : count ≡ 0 + length steps = omega (arith, h.count) in
         let same : answer ≡ verdict task.task (Steps steps) =
-        is ∙ ap (λ n. goal_verdict n (missing (state_of state) task.task.goal)) number
+        is ∙ ap (λ n. goal_verdict n (missing task.task (state_of state) task.task.goal)) number
         ∙ sym (ap (verdict_from task.task 0 (is_in task.task.init)) (sym (append-nil steps))
         ∙ verdict_behind task.task (is_in task.task.init) (state_of state) steps [] 0 h.run) in
         let cost_same = costs ∙ cost_is task.task task.costs steps answer cost h.cost ∙ ap (cost_beside task.task task.costs (Steps steps)) same in

@@ -2,7 +2,7 @@
 
 use Rattle.std.specs.Prelude.{◌≡◌, ◌≢◌, ℕ, ◌-◌, ◌<◌, ◌≤◌, true, false, List, Option, Some, None, fold, length, slice_get, take}
 use Rattle.std.specs.List.{AllZip}
-use Rattle.strips_task.specs.declared.atoms.Atom.{Atom}
+use Rattle.formulas.specs.declared.atoms.Atom.{Atom}
 use Rattle.strips_task.specs.declared.steps.StepText.{StepText}
 use Rattle.strips_task.specs.declared.tasks.TaskParts.{TaskParts}
 use Rattle.strips_judge.specs.declared.verdict.Verdict.{Verdict}
@@ -40,18 +40,19 @@ steps_taken (Valid count) steps = steps
 steps_taken (Goal missing) steps = steps
 steps_taken (Unreadable line) steps = steps
 
--- a step makes an atom true if it adds it, even if it deletes it too
-abbrev pub MakesTrue : TaskParts → StepText → Atom → Type 0
-MakesTrue parts step atom = is_in (adds parts step) atom ≡ true
+-- a step makes an atom true, in the state before it, if it adds it there, even if it deletes it too
+abbrev pub MakesTrue : TaskParts → State → StepText → Atom → Type 0
+MakesTrue parts before step atom = is_in (adds parts before step) atom ≡ true
 
--- a step makes an atom false if it deletes it and does not add it
-abbrev pub MakesFalse : TaskParts → StepText → Atom → Type 0
-MakesFalse parts step atom =
-    (is_in (deletes parts step) atom ≡ true)
-    × (is_in (adds parts step) atom ≡ false)
+-- a step makes an atom false, in the state before it, if it deletes it there and does not add it
+abbrev pub MakesFalse : TaskParts → State → StepText → Atom → Type 0
+MakesFalse parts before step atom =
+    (is_in (deletes parts before step) atom ≡ true)
+    × (is_in (adds parts before step) atom ≡ false)
 
 -- the last step that changes an atom makes it what it is at the end: it adds it, or deletes it and does not add it
 abbrev pub LastChangesAreEffects : TaskParts → Type 0
 LastChangesAreEffects parts =
     (steps : List StepText) (atom : Atom) (number : ℕ) (step : StepText) → IsLastChange parts steps atom (Some number) → slice_get steps (number - 1) ≡ Some step
-    → (state_after parts steps (length steps) atom ≡ true → MakesTrue parts step atom) × (state_after parts steps (length steps) atom ≡ false → MakesFalse parts step atom)
+    → (state_after parts steps (length steps) atom ≡ true → MakesTrue parts (state_after parts steps (number - 1)) step atom)
+    × (state_after parts steps (length steps) atom ≡ false → MakesFalse parts (state_after parts steps (number - 1)) step atom)

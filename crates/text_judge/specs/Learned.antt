@@ -1,7 +1,7 @@
 -- What a judge may rely on.
 
 use Rattle.std.specs.Prelude.{◌≡◌, ℕ, ◌+◌, ◌*◌, ◌^◌, ◌≤◌, List, All, Option, Some, None, unwrap_or}
-use Rattle.strips_task.specs.declared.atoms.Atom.{Atom}
+use Rattle.formulas.specs.declared.atoms.Atom.{Atom}
 use Rattle.strips_task.specs.declared.steps.StepText.{StepText}
 use Rattle.strips_task.specs.declared.steps.TheConstants.{MOST_STEPS}
 use Rattle.strips_task.specs.declared.tasks.TaskParts.{TaskParts}

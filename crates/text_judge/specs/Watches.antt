@@ -2,7 +2,7 @@
 
 use Rattle.std.specs.Prelude.{◌≡◌, List, length}
 use Rattle.std.specs.List.{AllZip}
-use Rattle.strips_task.specs.declared.atoms.Atom.{Atom}
+use Rattle.formulas.specs.declared.atoms.Atom.{Atom}
 use Rattle.strips_task.specs.declared.steps.StepText.{StepText}
 use Rattle.strips_task.specs.declared.tasks.TaskParts.{TaskParts}
 use Rattle.strips_task.specs.declared.plans.Plan.TheVariants.{Steps, Unreadable}

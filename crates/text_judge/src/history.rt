@@ -2,7 +2,7 @@
 //!
 //! The steps of a text are taken once more, and after each step the atoms that are watched are checked for changes.
 ghost use Rattle.std.specs.Prelude.{◌≡◌, ◌<◌, [], List, None, Option, Some, length, IfOk};
-ghost use Rattle.strips_task.specs.declared.atoms.Atom.{Atom};
+ghost use Rattle.formulas.specs.declared.atoms.Atom.{Atom};
 ghost use Rattle.strips_task.specs.declared.steps.StepText.{StepText};
 ghost use Rattle.strips_task.specs.declared.tasks.TaskParts.{TaskParts};
 ghost use Rattle.text_judge.specs.Judging.{HasTaken};

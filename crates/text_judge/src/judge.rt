@@ -46,6 +46,12 @@ impl<'t> Model for TextJudge<'t> {
 
     ghost Value = { CostedTask };
 
+    ghost use Rattle.formulas.specs.contracts.effect.Effect as effect;
+    ghost use Rattle.formulas.specs.contracts.formula.Formula as formula;
+    ghost use Rattle.std.specs.Coded.{codes};
+
+    ghost coded = { Prim.hlevel (codes, formula.the_row.coded, effect.the_row.coded) };
+
     ghost view = { λ judge. judge.task.now };
 
     ghost invariant = { λ judge. judge.judge.task ≡ judge.task.now };

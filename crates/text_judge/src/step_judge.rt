@@ -78,6 +78,12 @@ impl<'t> Model for Judge<'t> {
 
     ghost Value = { Judging };
 
+    ghost use Rattle.formulas.specs.contracts.effect.Effect as effect;
+    ghost use Rattle.formulas.specs.contracts.formula.Formula as formula;
+    ghost use Rattle.std.specs.Coded.{codes};
+
+    ghost coded = { Prim.hlevel (codes, formula.the_row.coded, effect.the_row.coded) };
+
     ghost view = { λ j. record { task = j.task.now; state = j.state; cost = j.cost; count = j.count } };
 
     ghost invariant = { λ j. IsJudge j.task.now j.state j.memo j.cost j.count };
@@ -277,11 +283,14 @@ impl<'t> Judge<'t> {
 
     /// The assessment of the plan of the steps that were taken: whether the goal holds after them, and what they cost. Takes memory for the
     /// conditions of the goal that do not hold.
-    pub(crate) fn finish(&self, alloc: Global) -> Result<Assessment, AllocError>
-        ensures answer { IfOk result (λ answer. (steps : List StepText) → HasTaken self.now steps → answer ≡ assessment self.now.task (Steps steps)) }
+    pub(crate) fn finish(&mut self, alloc: Global) -> Result<Assessment, AllocError>
+        ensures answer { IfOk result (λ answer. (steps : List StepText) → HasTaken self.old steps → answer ≡ assessment self.old.task (Steps steps)) }
         ensures compact { IfOk result (λ answer. IsCompact answer.cost) }
+        ensures same { self.new ≡ self.old }
     {
-        let verdict = judge_goal(alloc, &self.task.task, &self.state, self.count as u32)?;
+        let task = &self.task.task;
+        let steps = self.count as u32;
+        let verdict = judge_goal(alloc, task, &mut self.state, &mut self.scratch, steps)?;
         let cost = cost_beside(&self.task.costs, &verdict, self.cost);
         Ok(Assessment { verdict, cost })
     }

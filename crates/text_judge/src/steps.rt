@@ -78,7 +78,7 @@ pub(crate) fn take_new(
         return take_numbered(alloc, &task.task, step.numbers, state, scratch);
     };
     if !code_of_numbered(alloc, &task.task, step.numbers, state, scratch, code)? {
-        return Ok(false);
+        return take_numbered(alloc, &task.task, step.numbers, state, scratch);
     }
     memo.add(step.key, code.code(), amount)?;
     Ok(take_by_code(state, code.code()))

@@ -1,17 +1,16 @@
 //! The patterns and the ground atoms that atoms stand for.
 
-ghost use Rattle.std.specs.Prelude.{◌≡◌, ◌≤◌, length, slice_get, true, Some};
-ghost use Rattle.strips_task.specs.WellFormed.{most_variables};
+ghost use Rattle.std.specs.Prelude.{◌≡◌, length, slice_get, true, Some};
 ghost use Rattle.std.specs.Map.{values_of};
 ghost use Rattle.pddl_reader.specs.Declarations.{ground_of, pattern_of, takes_terms};
 ghost use Rattle.pddl_syntax.specs.Forms.{atom_form};
 ghost use Rattle.pddl_syntax.specs.Reading.{Gives};
-ghost use Rattle.pddl_reader.specs.Resolved.{known_form, parameters_form};
+ghost use Rattle.pddl_reader.specs.Resolved.{known_form};
 
 use crate::resolution::names::predicate_number;
+use crate::resolution::scope::Scope;
 use crate::resolution::tables::Declared;
 use crate::resolution::terms::{fitting_objects, fitting_terms};
-use crate::resolution::variables::ActionParameters;
 use pddl_syntax::{AtomSyntax, ReadFault};
 use std::alloc::Global;
 use strips_task::{Alternatives, Atom, NameTable, Pattern, Seq};
@@ -45,25 +44,18 @@ pub(crate) fn ground_atom(
     Ok(Atom { pred, args })
 }
 
-/// The pattern that an atom of an action stands for.
+/// The pattern that an atom stands for in a scope.
 #[tactic(auto, using(crate::proofs::AtomLemmas::pattern_steps))]
 pub(crate) fn pattern(
     alloc: Global,
     known: &Declared<'_>,
-    parameters: &ActionParameters<'_>,
+    scope: &Scope<'_>,
     syntax: &AtomSyntax<'_>,
 ) -> Result<Pattern, ReadFault>
-    requires { length parameters.now.names.items ≤ most_variables }
-    ensures { Gives (λ pattern. pattern) result (pattern_of (known_form known.now) (parameters_form parameters.now) (atom_form syntax.now)) }
+    ensures { Gives (λ pattern. pattern) result (pattern_of (known_form known.now) scope.now (atom_form syntax.now)) }
 {
     let pred = predicate_number(alloc, known.predicates, syntax)?;
     let argument_types = argument_types_of(known.predicates, pred, syntax.terms.len());
-    let terms = fitting_terms(
-        alloc,
-        known,
-        parameters,
-        argument_types,
-        syntax.terms.as_slice(),
-    )?;
+    let terms = fitting_terms(alloc, known, scope, argument_types, syntax.terms.as_slice())?;
     Ok(Pattern { pred, terms })
 }

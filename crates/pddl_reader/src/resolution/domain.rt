@@ -54,6 +54,12 @@ impl Model for Domain {
 
     ghost Value = { DomainValue };
 
+    ghost use Rattle.formulas.specs.contracts.effect.Effect as effect;
+    ghost use Rattle.formulas.specs.contracts.formula.Formula as formula;
+    ghost use Rattle.std.specs.Coded.{codes};
+
+    ghost coded = { Prim.hlevel (codes, formula.the_row.coded, effect.the_row.coded) };
+
     ghost use Rattle.pddl_reader.specs.DomainTables.{IsDomain, domain_kept};
 
     ghost view = { domain_kept };
@@ -65,7 +71,16 @@ impl Domain {
     ghost use Rattle.pddl_reader.specs.Problem.{vocabulary_in};
     ghost use Rattle.pddl_reader.specs.Resolved.{vocabulary_form};
 
-    /// What the literals of a problem may name.
+    /// The names of the types.
+    pub(crate) fn types(&self) -> &NameTable<()>
+        ensures names { keys_of result.now ≡ self.now.types }
+        ensures few { length result.now ≤ most_types }
+    {
+        let Domain { head, tables: _ } = self;
+        &head.types
+    }
+
+    /// What the initial atoms, the values and the goal of a problem may name.
     pub(crate) fn vocabulary(&self) -> Vocabulary<'_>
         ensures known { vocabulary_form result ≡ vocabulary_in self.now }
         ensures kept { IsDomain self.now }

@@ -1,19 +1,20 @@
 //! Functions are declared like predicates; effects increase `total-cost` by their values.
 
 ghost use Rattle.std.specs.Prelude.{◌≡◌, ◌<◌, ◌≤◌, length, [], IfOk, IfSome};
-ghost use Rattle.strips_task.specs.WellFormed.{most_predicates, most_types, most_variables};
+ghost use Rattle.strips_task.specs.WellFormed.{most_predicates, most_types};
 ghost use Rattle.std.specs.Map.{keys_of};
 ghost use Rattle.pddl_syntax.specs.Forms.{amount_form, predicate_form, predicate_forms, variable_groups};
 ghost use Rattle.pddl_syntax.specs.Reading.{Allows, Gives, Puts};
 ghost use Rattle.pddl_reader.specs.Domain.{functions_from, may_have, with_function};
 ghost use Rattle.pddl_reader.specs.Functions.{amount_meant, costs_of, total_cost_number, with_increase};
-ghost use Rattle.pddl_reader.specs.Resolved.{known_form, parameters_form, vocabulary_form};
+ghost use Rattle.pddl_reader.specs.Resolved.{known_form, vocabulary_form};
 
 use crate::resolution::actions::Predicates;
 use crate::resolution::atoms::pattern;
 use crate::resolution::names::{check_new, name};
+use crate::resolution::scope::Scope;
 use crate::resolution::tables::Declared;
-use crate::resolution::variables::{ActionParameters, argument_types};
+use crate::resolution::variables::argument_types;
 use crate::resolution::vocabulary::Vocabulary;
 use pddl_syntax::{
     AmountSyntax, FaultKind, IncreaseSyntax, NameWord, PredicateSyntax, ReadFault, VariableGroup,
@@ -94,16 +95,15 @@ pub(crate) fn functions(
 fn amount(
     alloc: Global,
     functions: &Declared<'_>,
-    parameters: &ActionParameters<'_>,
+    scope: &Scope<'_>,
     syntax: &AmountSyntax<'_>,
 ) -> Result<Amount, ReadFault>
-    requires { length parameters.now.names.items ≤ most_variables }
-    ensures { Gives (λ amount. amount) result (amount_meant (known_form functions.now) (parameters_form parameters.now) (amount_form syntax.now)) }
+    ensures { Gives (λ amount. amount) result (amount_meant (known_form functions.now) scope.now (amount_form syntax.now)) }
 {
     match syntax {
         AmountSyntax::Number(number) => Ok(Amount::Number(*number)),
         AmountSyntax::Function(function) => {
-            let Pattern { pred, terms } = pattern(alloc, functions, parameters, function)?;
+            let Pattern { pred, terms } = pattern(alloc, functions, scope, function)?;
             Ok(Amount::Function {
                 function: pred,
                 terms,
@@ -117,12 +117,11 @@ fn amount(
 pub(crate) fn put_increase(
     alloc: Global,
     vocabulary: &Vocabulary<'_>,
-    parameters: &ActionParameters<'_>,
+    scope: &Scope<'_>,
     increases: &mut Increases,
     increase: &IncreaseSyntax<'_>,
 ) -> Result<(), ReadFault>
-    requires { length parameters.now.names.items ≤ most_variables }
-    ensures { Puts result (with_increase (vocabulary_form vocabulary.now) (parameters_form parameters.now) increases.old (amount_form increase.now.amount)) increases.new }
+    ensures { Puts result (with_increase (vocabulary_form vocabulary.now) scope.now increases.old (amount_form increase.now.amount)) increases.new }
 {
     if increases.len() >= MOST_INCREASES {
         return Err(ReadFault::new(FaultKind::TooMany, increase.span));
@@ -130,7 +129,7 @@ pub(crate) fn put_increase(
     if total_cost(vocabulary.functions.predicates).is_none() {
         return Err(ReadFault::new(FaultKind::UnknownName, increase.target.span));
     }
-    let amount = amount(alloc, &vocabulary.functions, parameters, &increase.amount)?;
+    let amount = amount(alloc, &vocabulary.functions, scope, &increase.amount)?;
     increases.push(amount)?;
     Ok(())
 }

@@ -1,7 +1,7 @@
 //! What a problem gives initially: its atoms, and the values of functions.
 
 ghost use Rattle.std.specs.Prelude.{◌≡◌, ◌<◌, ◌≤◌, length, IfOk, IsTrue, OnOk};
-ghost use Rattle.pddl_syntax.specs.Forms.{atom_form, literal_form, value_form};
+ghost use Rattle.pddl_syntax.specs.Forms.{atom_form, initial_form, value_form};
 ghost use Rattle.pddl_syntax.specs.Optional.{through};
 ghost use Rattle.pddl_syntax.specs.Reading.{Gives, Puts};
 ghost use Rattle.pddl_reader.specs.Declarations.{ground_of};
@@ -10,11 +10,10 @@ ghost use Rattle.pddl_reader.specs.Problem.{initial_of, with_atom, with_initial}
 ghost use Rattle.pddl_reader.specs.Resolved.{known_form, vocabulary_form};
 
 use crate::resolution::atoms::ground_atom;
-use crate::resolution::literals::unsupported;
 use crate::resolution::rows::{next_atom, next_keys, put_keys};
 use crate::resolution::tables::Declared;
 use crate::resolution::vocabulary::Vocabulary;
-use pddl_syntax::{AtomSyntax, FaultKind, LiteralSyntax, Literals, ReadFault, ValueSyntax};
+use pddl_syntax::{AtomSyntax, FaultKind, InitialItems, InitialSyntax, ReadFault, ValueSyntax};
 use plan_cost::{FunctionValues, Given};
 use std::alloc::{AllocError, Global};
 use strips_task::InitialAtoms;
@@ -65,85 +64,82 @@ fn put_value(
     }
 }
 
-/// Adds what an initial literal gives.
-#[tactic(auto, using(crate::proofs::InitialLemmas::literal_steps))]
+/// Adds what an initial atom or value gives.
 fn put_initial(
     alloc: Global,
     vocabulary: &Vocabulary<'_>,
     state: &mut InitialState,
-    literal: &LiteralSyntax<'_>,
+    item: &InitialSyntax<'_>,
 ) -> Result<(), ReadFault>
-    ensures { Puts result (with_initial (vocabulary_form vocabulary.now) state.old (literal_form literal.now)) state.new }
+    ensures { Puts result (with_initial (vocabulary_form vocabulary.now) state.old (initial_form item.now)) state.new }
 {
-    match literal {
-        LiteralSyntax::Atom { positive, atom } => put_atom(
+    match item {
+        InitialSyntax::Atom { positive, atom } => put_atom(
             alloc,
             &vocabulary.atoms,
             &mut state.atoms,
             *positive,
             atom,
         ),
-        LiteralSyntax::Equality { equality, .. } => Err(unsupported(equality.left.span)),
-        LiteralSyntax::Increase(increase) => Err(unsupported(increase.span)),
-        LiteralSyntax::Value(value) => {
+        InitialSyntax::Value(value) => {
             put_value(alloc, &vocabulary.functions, &mut state.values, value)
         }
     }
 }
 
-/// Adds the atoms that the next literals stand for, as long as these are written as rows and have no fault, up to a batch. Returns whether there
+/// Adds the atoms that the next items stand for, as long as these are written as rows and have no fault, up to a batch. Returns whether there
 /// was one. The text has room for about `expected` atoms. The last argument is room for numbers.
 fn put_rows(
     alloc: Global,
     vocabulary: &Vocabulary<'_>,
-    literals: &mut Literals<'_>,
+    items: &mut InitialItems<'_>,
     state: &mut InitialState,
     expected: usize,
     numbers: &mut Vec<u16>,
 ) -> Result<bool, AllocError>
-    ensures same { OnOk result (through (with_initial (vocabulary_form vocabulary.now)) state.new literals.new
-        ≡ through (with_initial (vocabulary_form vocabulary.now)) state.old literals.old) }
-    ensures fewer { IfOk result (λ some. IsTrue some → length literals.new < length literals.old) }
-    ensures not_more { OnOk result (length literals.new ≤ length literals.old) }
+    ensures same { OnOk result (through (with_initial (vocabulary_form vocabulary.now)) state.new items.new
+        ≡ through (with_initial (vocabulary_form vocabulary.now)) state.old items.old) }
+    ensures fewer { IfOk result (λ some. IsTrue some → length items.new < length items.old) }
+    ensures not_more { OnOk result (length items.new ≤ length items.old) }
 {
-    let keys = next_keys(alloc, &vocabulary.atoms, literals, numbers)?;
+    let keys = next_keys(alloc, &vocabulary.atoms, items, numbers)?;
     if keys.is_empty() {
-        return put_row(alloc, vocabulary, literals, state, numbers);
+        return put_row(alloc, vocabulary, items, state, numbers);
     }
     put_keys(&mut state.atoms, keys.as_slice(), expected)?;
     Ok(true)
 }
 
-/// Adds the atom that the next literal stands for, if it is written as a row and has no fault. Returns whether it was. The last argument is room for
+/// Adds the atom that the next item stands for, if it is written as a row and has no fault. Returns whether it was. The last argument is room for
 /// numbers.
 fn put_row(
     alloc: Global,
     vocabulary: &Vocabulary<'_>,
-    literals: &mut Literals<'_>,
+    items: &mut InitialItems<'_>,
     state: &mut InitialState,
     numbers: &mut Vec<u16>,
 ) -> Result<bool, AllocError>
-    ensures same { OnOk result (through (with_initial (vocabulary_form vocabulary.now)) state.new literals.new
-        ≡ through (with_initial (vocabulary_form vocabulary.now)) state.old literals.old) }
-    ensures fewer { IfOk result (λ some. IsTrue some → length literals.new < length literals.old) }
-    ensures not_more { OnOk result (length literals.new ≤ length literals.old) }
+    ensures same { OnOk result (through (with_initial (vocabulary_form vocabulary.now)) state.new items.new
+        ≡ through (with_initial (vocabulary_form vocabulary.now)) state.old items.old) }
+    ensures fewer { IfOk result (λ some. IsTrue some → length items.new < length items.old) }
+    ensures not_more { OnOk result (length items.new ≤ length items.old) }
 {
-    let Some(atom) = next_atom(alloc, &vocabulary.atoms, literals, numbers)? else {
+    let Some(atom) = next_atom(alloc, &vocabulary.atoms, items, numbers)? else {
         return Ok(false);
     };
     state.atoms.push(atom)?;
     Ok(true)
 }
 
-/// What the initial literals of a problem of `size` bytes give. No answer depends on the size.
+/// What the initial atoms and values of a problem of `size` bytes give. No answer depends on the size.
 #[tactic(auto, using(crate::proofs::Through::through_steps, crate::proofs::InitialLemmas::initial_steps))]
 pub(crate) fn initial(
     alloc: Global,
     vocabulary: &Vocabulary<'_>,
-    mut literals: Literals<'_>,
+    mut items: InitialItems<'_>,
     size: usize,
 ) -> Result<InitialState, ReadFault>
-    ensures { Gives (λ state. state) result (initial_of (vocabulary_form vocabulary.now) literals.entry) }
+    ensures { Gives (λ state. state) result (initial_of (vocabulary_form vocabulary.now) items.entry) }
 {
     let seed = vocabulary.atoms.objects.seed();
     let mut state = InitialState {
@@ -152,19 +148,19 @@ pub(crate) fn initial(
     };
     let expected = size / BYTES_FOR_AN_ATOM;
     let mut numbers = Vec::new(alloc);
-    'literals: loop {
+    'items: loop {
         if put_rows(
             alloc,
             vocabulary,
-            &mut literals,
+            &mut items,
             &mut state,
             expected,
             &mut numbers,
         )? {
-            continue 'literals;
+            continue 'items;
         }
-        match literals.next(alloc)? {
-            Some(literal) => put_initial(alloc, vocabulary, &mut state, &literal)?,
+        match items.next(alloc)? {
+            Some(item) => put_initial(alloc, vocabulary, &mut state, &item)?,
             None => return Ok(state),
         }
     }

@@ -1,13 +1,13 @@
-//! Initial atoms, and atoms of the goal, that are written as names with a single space between each two.
+//! Initial atoms that are written as names with a single space between each two.
 //!
 //! Nearly all of them are, and a problem may have hundreds of thousands. They are not read word by word: the names of such a row are looked
-//! up as they are written, and a word that is found is a name. Any other literal is read as its syntax, and so is one with a fault.
+//! up as they are written, and a word that is found is a name. Any other is read as its syntax, and so is one with a fault.
 
 ghost use Rattle.std.specs.Prelude.{◌≡◌, ◌++◌, [], ◌∷◌, ◌&&◌, nat_eq, length, map, true, false, All, IfNone, IfOk, IfSome, IsTrue, List, OnOk, Some, ℕ};
 ghost use Rattle.std.specs.List.{list_all, zip};
 ghost use Rattle.pddl_words.specs.SpacedWords.{words_of};
 ghost use Rattle.pddl_words.specs.Words.{is_name};
-ghost use Rattle.strips_task.specs.declared.actions.Term.TheVariants.{Object};
+ghost use Rattle.formulas.specs.declared.terms.Term.TheVariants.{Object};
 ghost use Rattle.strips_task.specs.AtomKeys.{IsKeyOf, atom_of};
 ghost use Rattle.strips_task.specs.WellFormed.{is_fitting, term_types};
 ghost use Rattle.pddl_syntax.specs.Rows.{AreNames, atom_spelled};
@@ -16,7 +16,7 @@ ghost use Rattle.pddl_reader.specs.Resolved.{known_form};
 ghost use Rattle.pddl_reader.specs.Rows.{BeginWithAtoms, row_number, row_numbers};
 
 use crate::resolution::tables::Declared;
-use pddl_syntax::Literals;
+use pddl_syntax::InitialItems;
 use pddl_words::RowWords;
 use std::alloc::{AllocError, Global};
 use strips_task::{Alternatives, Atom, AtomKey, InitialAtoms, ShortSeq, object_fits};
@@ -89,7 +89,7 @@ fn find_numbers(
 #[inline(always)]
 fn all_fit(known: &Declared<'_>, objects: &[u16], argument_types: &[Alternatives]) -> bool
     ensures { result ≡ (nat_eq (length objects.now) (length argument_types.now)
-        && list_all (λ p. is_fitting known.now.parents.now (term_types known.now.objects.now [] (Object p.0)) p.1) (zip objects.now argument_types.now)) }
+        && list_all (λ p. is_fitting known.now.parents.now (term_types known.now.objects.now [] [] (Object p.0)) p.1) (zip objects.now argument_types.now)) }
 {
     objects.len() == argument_types.len() && each_fits(known, objects, argument_types)
 }
@@ -98,7 +98,7 @@ fn all_fit(known: &Declared<'_>, objects: &[u16], argument_types: &[Alternatives
 #[inline(always)]
 fn each_fits(known: &Declared<'_>, objects: &[u16], argument_types: &[Alternatives]) -> bool
     requires { length objects.now ≡ length argument_types.now }
-    ensures { result ≡ list_all (λ p. is_fitting known.now.parents.now (term_types known.now.objects.now [] (Object p.0)) p.1) (zip objects.now argument_types.now) }
+    ensures { result ≡ list_all (λ p. is_fitting known.now.parents.now (term_types known.now.objects.now [] [] (Object p.0)) p.1) (zip objects.now argument_types.now) }
 {
     for index in 0..objects.len() {
         let types = argument_types[index].as_slice();
@@ -170,63 +170,62 @@ fn row_atom(
     }))
 }
 
-/// The atom that the next literal stands for, if it is written as a row and has no fault. Otherwise no literal is passed.
+/// The atom that the next item stands for, if it is written as a row and has no fault. Otherwise no item is passed.
 #[tactic(auto, using(pddl_syntax::proofs::AtomRows::names_are_atom_row))]
 pub(crate) fn next_atom(
     alloc: Global,
     known: &Declared<'_>,
-    literals: &mut Literals<'_>,
+    items: &mut InitialItems<'_>,
     numbers: &mut Vec<u16>,
 ) -> Result<Option<Atom>, AllocError>
-    ensures taken { IfOk result (λ found. IfSome found (λ atom. BeginWithAtoms (known_form known.now) literals.old (atom ∷ []) literals.new)) }
-    ensures not { IfOk result (λ found. IfNone found (literals.new ≡ literals.old)) }
+    ensures taken { IfOk result (λ found. IfSome found (λ atom. BeginWithAtoms (known_form known.now) items.old (atom ∷ []) items.new)) }
+    ensures not { IfOk result (λ found. IfNone found (items.new ≡ items.old)) }
 {
-    let Some(row) = literals.row() else {
+    let Some(row) = items.row() else {
         return Ok(None);
     };
     let Some(atom) = row_atom(alloc, known, row.bytes(), numbers)? else {
         return Ok(None);
     };
-    literals.pass(row);
+    items.pass(row);
     Ok(Some(atom))
 }
 
-/// The key of the atom that the next literal stands for, if it is written as a row, has no fault and at most four objects. Otherwise no literal is
-/// passed.
+/// The key of the atom that the next item stands for, if it is written as a row, has no fault and at most four objects. Otherwise no item is passed.
 #[tactic(auto, using(pddl_syntax::proofs::AtomRows::names_are_atom_row))]
 #[inline(always)]
 fn next_key(
     known: &Declared<'_>,
-    literals: &mut Literals<'_>,
+    items: &mut InitialItems<'_>,
     numbers: &mut Vec<u16>,
 ) -> Result<Option<AtomKey>, AllocError>
-    ensures taken { IfOk result (λ found. IfSome found (λ key. BeginWithAtoms (known_form known.now) literals.old (atom_of key ∷ []) literals.new)) }
+    ensures taken { IfOk result (λ found. IfSome found (λ key. BeginWithAtoms (known_form known.now) items.old (atom_of key ∷ []) items.new)) }
     ensures key { IfOk result (λ found. IfSome found (λ key. IsKeyOf (atom_of key) key)) }
-    ensures not { IfOk result (λ found. IfNone found (literals.new ≡ literals.old)) }
+    ensures not { IfOk result (λ found. IfNone found (items.new ≡ items.old)) }
 {
-    let Some(row) = literals.row() else {
+    let Some(row) = items.row() else {
         return Ok(None);
     };
     let Some(key) = row_key(known, row.bytes(), numbers)? else {
         return Ok(None);
     };
-    literals.pass(row);
+    items.pass(row);
     Ok(Some(key))
 }
 
-/// The keys of the atoms that the next literals stand for, as long as these are written as rows, have no fault and at most four objects, up to a batch.
+/// The keys of the atoms that the next items stand for, as long as these are written as rows, have no fault and at most four objects, up to a batch.
 pub(crate) fn next_keys(
     alloc: Global,
     known: &Declared<'_>,
-    literals: &mut Literals<'_>,
+    items: &mut InitialItems<'_>,
     numbers: &mut Vec<u16>,
 ) -> Result<Vec<AtomKey>, AllocError>
-    ensures atoms { IfOk result (λ keys. BeginWithAtoms (known_form known.now) literals.old (map atom_of keys.items) literals.new) }
+    ensures atoms { IfOk result (λ keys. BeginWithAtoms (known_form known.now) items.old (map atom_of keys.items) items.new) }
     ensures keys { IfOk result (λ keys. All (λ key. IsKeyOf (atom_of key) key) keys.items) }
 {
     let mut keys = Vec::with_capacity(alloc, BATCH)?;
     'rows: for _ in 0..BATCH {
-        match next_key(known, literals, numbers)? {
+        match next_key(known, items, numbers)? {
             Some(key) => keys.push(key)?,
             None => return Ok(keys),
         }

@@ -1,18 +1,18 @@
 //! Terms are looked up, and checked against the types of a predicate's arguments.
 
-ghost use Rattle.std.specs.Prelude.{◌≡◌, ◌<◌, ◌≤◌, length};
-ghost use Rattle.strips_task.specs.WellFormed.{most_objects, most_variables};
+ghost use Rattle.std.specs.Prelude.{◌≡◌, ◌≤◌, length};
+ghost use Rattle.strips_task.specs.WellFormed.{most_objects};
 ghost use Rattle.pddl_reader.specs.Declarations.{fitted_all, fitting_object, object_number, fitting_term, term_named};
 ghost use Rattle.pddl_syntax.specs.Forms.{word_forms};
 ghost use Rattle.pddl_syntax.specs.Reading.{Gives, GivesOption};
-ghost use Rattle.pddl_reader.specs.Resolved.{known_form, parameters_form};
+ghost use Rattle.pddl_reader.specs.Resolved.{known_form};
 
 use crate::resolution::names::number_of;
+use crate::resolution::scope::Scope;
 use crate::resolution::tables::Declared;
-use crate::resolution::variables::{ActionParameters, parameter_number};
 use pddl_syntax::{FaultKind, ReadFault, Word, is_variable};
 use std::alloc::Global;
-use strips_task::{Alternatives, NameTable, ShortSeq, Term, object_fits, term_fits};
+use strips_task::{Alternatives, NameTable, ShortSeq, Term, object_fits};
 
 /// The number of the object that a word names.
 #[tactic(auto, using(crate::proofs::TermLemmas::object_steps))]
@@ -77,73 +77,56 @@ pub(crate) fn fitting_objects(
     Ok(objects)
 }
 
-/// The term that a word stands for in an action, of whatever type.
+/// The term that a word stands for, of whatever type.
 #[tactic(auto, using(crate::proofs::TermLemmas::term_steps))]
 pub(crate) fn term(
     alloc: Global,
     known: &Declared<'_>,
-    parameters: &ActionParameters<'_>,
+    scope: &Scope<'_>,
     word: Word<'_>,
 ) -> Result<Term, ReadFault>
-    requires { length parameters.now.names.items ≤ most_variables }
-    ensures { Gives (λ term. term) result (term_named (known_form known.now) (parameters_form parameters.now) word.entry.text.now) }
+    ensures { Gives (λ term. term) result (term_named (known_form known.now) scope.now word.entry.text.now) }
 {
-    if !is_variable(word.text) {
-        return Ok(Term::Object(object(alloc, known, word)?));
+    if is_variable(word.text) {
+        return scope.variable(word);
     }
-    match parameter_number(parameters.names.as_slice(), word.text) {
-        Some(number) => Ok(Term::Param(number as u16)),
-        None => Err(ReadFault::new(FaultKind::UnknownName, word.span)),
-    }
+    Ok(Term::Object(object(alloc, known, word)?))
 }
 
-/// The term that a word stands for in an action, if it fits its argument.
+/// The term that a word stands for, if it fits its argument.
 #[tactic(auto, using(crate::proofs::TermLemmas::fitting_term_steps))]
 fn fitting_term(
     alloc: Global,
     known: &Declared<'_>,
-    parameters: &ActionParameters<'_>,
+    scope: &Scope<'_>,
     allowed: &[u16],
     word: Word<'_>,
 ) -> Result<Term, ReadFault>
-    requires { length parameters.now.names.items ≤ most_variables }
-    ensures { Gives (λ term. term) result (fitting_term (known_form known.now) (parameters_form parameters.now) allowed.now word.entry.text.now) }
+    ensures { Gives (λ term. term) result (fitting_term (known_form known.now) scope.now allowed.now word.entry.text.now) }
 {
-    let found = term(alloc, known, parameters, word)?;
-    if !term_fits(
-        known.parents,
-        known.objects,
-        parameters.types.as_slice(),
-        found,
-        allowed,
-    ) {
+    let found = term(alloc, known, scope, word)?;
+    if !scope.fits(known, found, allowed) {
         return Err(ReadFault::new(FaultKind::WrongType, word.span));
     }
     Ok(found)
 }
 
-/// The terms that words stand for in an action, if each fits its argument.
+/// The terms that words stand for, if each fits its argument.
 #[tactic(auto, using(crate::proofs::TermLemmas::fitted_steps))]
 pub(crate) fn fitting_terms(
     alloc: Global,
     known: &Declared<'_>,
-    parameters: &ActionParameters<'_>,
+    scope: &Scope<'_>,
     argument_types: &[Alternatives],
     words: &[Word<'_>],
 ) -> Result<ShortSeq<Term>, ReadFault>
-    requires few { length parameters.now.names.items ≤ most_variables }
-    requires as_many { length argument_types.now ≡ length words.now }
-    ensures { Gives (λ terms. terms) result (fitted_all (fitting_term (known_form known.now) (parameters_form parameters.now)) argument_types.now (word_forms words.now)) }
+    requires { length argument_types.now ≡ length words.now }
+    ensures { Gives (λ terms. terms) result (fitted_all (fitting_term (known_form known.now) scope.now) argument_types.now (word_forms words.now)) }
 {
     let mut terms = ShortSeq::new(alloc);
     'argument_types: for index in 0..argument_types.len() {
-        let term = fitting_term(
-            alloc,
-            known,
-            parameters,
-            argument_types[index].as_slice(),
-            words[index],
-        )?;
+        let allowed = argument_types[index].as_slice();
+        let term = fitting_term(alloc, known, scope, allowed, words[index])?;
         terms.push(term)?;
     }
     Ok(terms)

@@ -56,7 +56,7 @@ fn counts_as_parent(dialect: Dialect, parent: &Name) -> bool
 {
     match dialect {
         Dialect::Strips => true,
-        Dialect::Ipc => parent.as_bytes() != b"object".as_slice(),
+        Dialect::Ipc | Dialect::Adl => parent.as_bytes() != b"object".as_slice(),
     }
 }
 

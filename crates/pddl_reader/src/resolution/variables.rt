@@ -1,13 +1,13 @@
-//! The types that variables may have, and the parameters of actions.
+//! The types that variables may have, and lists of variables.
 
-ghost use Rattle.std.specs.Prelude.{◌≡◌, ◌<◌, ◌≤◌, ◌+◌, nat_le, length, IfOk, IfSome, OnOk};
+ghost use Rattle.std.specs.Prelude.{◌≡◌, ◌<◌, ◌≤◌, ◌+◌, nat_le, length, IfOk, IfSome, OnOk, Some};
 ghost use Rattle.strips_task.specs.WellFormed.{most_types, most_variables};
 ghost use Rattle.std.specs.Map.{keys_of};
 ghost use Rattle.pddl_syntax.specs.Forms.{name_forms, variable_group_form, variable_groups, word_forms};
 ghost use Rattle.pddl_syntax.specs.Optional.{through};
 ghost use Rattle.pddl_syntax.specs.Reading.{Allows, Gives, Puts};
-ghost use Rattle.pddl_reader.specs.Resolved.{parameters_form};
-ghost use Rattle.pddl_reader.specs.Variables.{alternatives_of, group_named, with_group_types, parameter_named, parameter_number, parameters_of, argument_types_with, argument_types_of};
+ghost use Rattle.pddl_reader.specs.Resolved.{variables_form};
+ghost use Rattle.pddl_reader.specs.Variables.{alternatives_of, group_named, with_group_types, variable_named, variable_number, variables_of, argument_types_with, argument_types_of};
 
 use crate::resolution::objects::type_number;
 use pddl_syntax::{FaultKind, NameWord, ReadFault, VariableGroup, Word};
@@ -115,17 +115,32 @@ pub(crate) fn argument_types(
     Ok(argument_types)
 }
 
-/// The parameters of an action: their names, and for each the types that it may have.
+/// The variables of a list: their names, and for each the types that it may have.
 #[derive(Drop)]
-pub(crate) struct ActionParameters<'a> {
+pub(crate) struct DeclaredVariables<'a> {
     pub(crate) names: Vec<Word<'a>>,
     pub(crate) types: Seq<Alternatives>,
 }
 
-/// The number of the parameter with a name. There are few parameters, so a walk over them is quick.
+impl DeclaredVariables<'_> {
+    ghost use Rattle.std.specs.Prelude.{◌≡◌, []};
+
+    /// No variables. Takes no memory.
+    pub(crate) fn none(alloc: Global) -> Self
+        ensures names { result.names.items ≡ [] }
+        ensures types { result.types ≡ [] }
+    {
+        DeclaredVariables {
+            names: Vec::new(alloc),
+            types: Seq::new(alloc),
+        }
+    }
+}
+
+/// The number of the variable with a name. There are few variables in a list, so a walk over them is quick.
 #[tactic(auto, using(crate::proofs::VariableMeaning::position_steps))]
-pub(crate) fn parameter_number(names: &[Word<'_>], word: &[u8]) -> Option<usize>
-    ensures number { result ≡ parameter_number (word_forms names.now) word.now }
+pub(crate) fn variable_number(names: &[Word<'_>], word: &[u8]) -> Option<usize>
+    ensures number { result ≡ variable_number (word_forms names.now) word.now }
     ensures within { IfSome result (λ number. number < length names.now) }
 {
     'names: for number in 0..names.len() {
@@ -136,87 +151,85 @@ pub(crate) fn parameter_number(names: &[Word<'_>], word: &[u8]) -> Option<usize>
     None
 }
 
-/// Names one more parameter.
-#[tactic(auto, using(crate::proofs::VariableMeaning::parameter_steps))]
-fn name_parameter<'a>(names: &mut Vec<Word<'a>>, word: Word<'a>) -> Result<(), ReadFault>
-    ensures { Puts result (parameter_named (word_forms names.old.items) word.entry.text.now) (word_forms names.new.items) }
+/// Names one more variable.
+#[tactic(auto, using(crate::proofs::VariableMeaning::variable_named_steps))]
+fn name_variable<'a>(names: &mut Vec<Word<'a>>, word: Word<'a>) -> Result<(), ReadFault>
+    ensures { Puts result (variable_named (word_forms names.old.items) word.entry.text.now) (word_forms names.new.items) }
 {
     if names.len() >= MOST_VARIABLES {
         return Err(ReadFault::new(FaultKind::TooMany, word.span));
     }
-    if parameter_number(names.as_slice(), word.text).is_some() {
+    if variable_number(names.as_slice(), word.text).is_some() {
         return Err(ReadFault::new(FaultKind::Repeated, word.span));
     }
     names.push(word)?;
     Ok(())
 }
 
-/// Names the parameters of a group.
+/// Names the variables of a group.
 #[tactic(auto, using(crate::proofs::Through::through_steps, crate::proofs::VariableMeaning::words_steps))]
-fn name_parameters<'a>(names: &mut Vec<Word<'a>>, words: &[Word<'a>]) -> Result<(), ReadFault>
-    ensures { Puts result (through parameter_named (word_forms names.old.items) (word_forms words.now)) (word_forms names.new.items) }
+fn name_variables<'a>(names: &mut Vec<Word<'a>>, words: &[Word<'a>]) -> Result<(), ReadFault>
+    ensures { Puts result (through variable_named (word_forms names.old.items) (word_forms words.now)) (word_forms names.new.items) }
 {
     'words: for word in words {
-        name_parameter(names, *word)?;
+        name_variable(names, *word)?;
     }
     Ok(())
 }
 
-/// Declares the parameters of a group.
+/// Declares the variables of a group, and gives the types that they may have.
 #[tactic(auto, using(crate::proofs::VariableMeaning::group_named_steps))]
-fn declare_group<'a>(
+pub(crate) fn declare_group<'a>(
     alloc: Global,
     types: &NameTable<()>,
-    parameters: &mut ActionParameters<'a>,
+    declared: &mut DeclaredVariables<'a>,
     group: &VariableGroup<'a>,
-) -> Result<(), ReadFault>
+) -> Result<Alternatives, ReadFault>
     requires { length types.now ≤ most_types }
-    ensures { Puts result (group_named (keys_of types.now) (parameters_form parameters.old) (variable_group_form group.now))
-        (parameters_form parameters.new) }
+    ensures variables { Gives (λ _. variables_form declared.new) result
+        (group_named (keys_of types.now) (variables_form declared.old) (variable_group_form group.now)) }
+    ensures types { IfOk result (λ alternatives. alternatives_of (keys_of types.now) (name_forms group.now.kinds.items) ≡ Some alternatives) }
 {
-    name_parameters(&mut parameters.names, group.variables.as_slice())?;
+    name_variables(&mut declared.names, group.variables.as_slice())?;
     let alternatives = alternatives(alloc, types, group.kinds.as_slice())?;
     put_argument_types(
         alloc,
-        &mut parameters.types,
+        &mut declared.types,
         group.variables.as_slice(),
         &alternatives,
     )?;
-    Ok(())
+    Ok(alternatives)
 }
 
-/// Declares the parameters of all groups.
+/// Declares the variables of all groups.
 #[tactic(auto, using(crate::proofs::Through::through_steps, crate::proofs::VariableMeaning::declared_steps))]
 fn declare_groups<'a>(
     alloc: Global,
     types: &NameTable<()>,
-    parameters: &mut ActionParameters<'a>,
+    declared: &mut DeclaredVariables<'a>,
     groups: &[VariableGroup<'a>],
 ) -> Result<(), ReadFault>
     requires { length types.now ≤ most_types }
-    ensures { Puts result (through (group_named (keys_of types.now)) (parameters_form parameters.old) (variable_groups groups.now))
-        (parameters_form parameters.new) }
+    ensures { Puts result (through (group_named (keys_of types.now)) (variables_form declared.old) (variable_groups groups.now))
+        (variables_form declared.new) }
 {
     'groups: for group in groups {
-        declare_group(alloc, types, parameters, group)?;
+        let _types = declare_group(alloc, types, declared, group)?;
     }
     Ok(())
 }
 
-/// The parameters of an action.
-#[tactic(auto, using(crate::proofs::VariableMeaning::parameters_steps))]
-pub(crate) fn parameters<'a>(
+/// The variables that groups declare: the parameters of an action.
+#[tactic(auto, using(crate::proofs::VariableMeaning::variables_steps))]
+pub(crate) fn declared_variables<'a>(
     alloc: Global,
     types: &NameTable<()>,
     groups: &[VariableGroup<'a>],
-) -> Result<ActionParameters<'a>, ReadFault>
+) -> Result<DeclaredVariables<'a>, ReadFault>
     requires { length types.now ≤ most_types }
-    ensures { Gives parameters_form result (parameters_of (keys_of types.now) (variable_groups groups.now)) }
+    ensures { Gives variables_form result (variables_of (keys_of types.now) (variable_groups groups.now)) }
 {
-    let mut parameters = ActionParameters {
-        names: Vec::new(alloc),
-        types: Seq::new(alloc),
-    };
-    declare_groups(alloc, types, &mut parameters, groups)?;
-    Ok(parameters)
+    let mut declared = DeclaredVariables::none(alloc);
+    declare_groups(alloc, types, &mut declared, groups)?;
+    Ok(declared)
 }

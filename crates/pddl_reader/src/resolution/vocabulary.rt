@@ -1,4 +1,4 @@
-//! What effects and initial literals may name: what atoms may, and functions.
+//! What effects, and initial atoms and values, may name: what atoms may, and functions.
 
 ghost use Rattle.std.specs.Prelude.{◌≡◌, ◌≤◌, length};
 ghost use Rattle.strips_task.specs.WellFormed.{most_objects, most_predicates};
@@ -8,7 +8,7 @@ ghost use Rattle.pddl_reader.specs.Resolved.{vocabulary_form};
 use crate::resolution::tables::Declared;
 use strips_task::{Alternatives, NameTable, Seq, TypeList};
 
-/// What effects and initial literals may name.
+/// What effects, and initial atoms and values, may name.
 #[derive(Clone, Copy)]
 pub(crate) struct Vocabulary<'d> {
     pub(crate) atoms: Declared<'d>,

@@ -9,8 +9,9 @@ ghost use Rattle.pddl_syntax.specs.Syntax.{action_of, is_part_given, no_parts, p
 use crate::dialect::Dialect;
 use crate::fault::{FaultKind, ReadFault};
 use crate::heads::{ActionPart, Context, Scope, action_part, is_name};
+use crate::syntax::effect::effect;
+use crate::syntax::formula::formula;
 use crate::syntax::lists::enter_list;
-use crate::syntax::literals::kept_literals;
 use crate::syntax::refusals::keyword_fault;
 use crate::syntax::variables::kept_variables;
 use crate::syntax::{ActionParts, ActionSyntax};
@@ -44,12 +45,12 @@ fn part<'a>(
     match part {
         ActionPart::Parameters => parts.parameters = Some(kept_variables(alloc, walk)?),
         ActionPart::Precondition => {
-            let context = Context::Precondition;
-            parts.precondition = Some(kept_literals(walk, Scope { dialect, context })?);
+            let context = Context::Condition;
+            parts.precondition = Some(formula(alloc, walk, Scope { dialect, context })?);
         }
         ActionPart::Effect => {
             let context = Context::Effect;
-            parts.effect = Some(kept_literals(walk, Scope { dialect, context })?);
+            parts.effect = Some(effect(alloc, walk, Scope { dialect, context })?);
         }
     }
     Ok(())

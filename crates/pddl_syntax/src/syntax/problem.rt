@@ -3,75 +3,35 @@
 ghost use Rattle.std.specs.Prelude.{◌≡◌, None};
 ghost use Rattle.pddl_syntax.specs.Levels.{here, trees};
 ghost use Rattle.pddl_syntax.specs.Trees.{text_fault};
-ghost use Rattle.pddl_syntax.specs.Reading.{Gives, PassesList, ReadsInto, ReadsList};
+ghost use Rattle.pddl_syntax.specs.Reading.{Gives, ReadsInto, ReadsList};
 ghost use Rattle.pddl_syntax.specs.Forms.{problem_sections_form, problem_syntax_form};
-ghost use Rattle.pddl_syntax.specs.Syntax.{goal_of, init_item_in, is_problem_section_given, lists_of, no_problem_sections, problem_in, problem_section_by, problem_section_in, problem_sections_of, problem_syntax};
-ghost use Rattle.pddl_syntax.specs.Presence.{are_initial, is_init_item};
+ghost use Rattle.pddl_syntax.specs.Syntax.{goal_of, is_problem_section_given, no_problem_sections, problem_in, problem_section_by, problem_section_in, problem_sections_of, problem_syntax};
 
 use crate::dialect::Dialect;
 use crate::fault::{FaultKind, ReadFault};
 use crate::heads::{Context, ProblemSection, Scope, problem_section};
-use crate::syntax::formula::{literal, pass_row};
+use crate::syntax::formula::lone;
+use crate::syntax::initial::kept_items;
 use crate::syntax::lists::{enter_list, expect_word, header, leave_list, lone_name};
-use crate::syntax::literals::{Literals, kept_literals};
 use crate::syntax::refusals::keyword_fault;
+use crate::syntax::trees::FormulaSyntax;
 use crate::syntax::typed::{keywords, skip, typed_names};
 use crate::syntax::{ProblemSections, ProblemSyntax};
 use crate::walk::{Item, Walk};
 use pddl_tokens::Span;
 use std::alloc::Global;
 
-/// Steps over an initial atom, which may be negated, or the value of a function.
-#[tactic(auto, using(crate::proofs::ProblemLemmas::init_item_steps))]
-fn init_item(dialect: Dialect, walk: &mut Walk<'_>) -> Result<(), ReadFault>
-    ensures { PassesList result (is_init_item dialect) (here walk.old.cursor) (here walk.new.cursor) }
-{
-    let context = Context::Initial;
-    match walk.next() {
-        Item::Text(word) => literal(walk, Scope { dialect, context }, word),
-        Item::Open(span) => Err(ReadFault::new(FaultKind::Expected, span)),
-        Item::Close(span) => Err(ReadFault::new(FaultKind::Expected, span)),
-    }
-}
-
-/// Steps over the initial atoms and values.
-#[tactic(auto, using(crate::proofs::ProblemLemmas::init_steps, crate::proofs::RowLemmas::atom_steps))]
-fn init_items(dialect: Dialect, walk: &mut Walk<'_>) -> Result<(), ReadFault>
-    ensures { PassesList result (are_initial dialect) (here walk.old.cursor) (here walk.new.cursor) }
-{
-    'items: loop {
-        if pass_row(walk) {
-            continue 'items;
-        }
-        match walk.next() {
-            Item::Close(_) => return Ok(()),
-            Item::Text(word) => return Err(ReadFault::new(FaultKind::Expected, word.span)),
-            Item::Open(_) => init_item(dialect, walk)?,
-        }
-    }
-}
-
-/// Steps over the initial atoms and values, and keeps them.
-#[tactic(auto, using(crate::proofs::LiteralLemmas::initial_steps))]
-fn init<'a>(dialect: Dialect, walk: &mut Walk<'a>) -> Result<Literals<'a>, ReadFault>
-    ensures { ReadsList (λ l. l) result (lists_of (init_item_in dialect)) (here walk.old.cursor) (here walk.new.cursor) }
-{
-    let start = walk.fork();
-    init_items(dialect, walk)?;
-    let context = Context::Initial;
-    Ok(Literals::within(start, Scope { dialect, context }))
-}
-
 /// Reads the goal.
 #[tactic(auto, using(crate::proofs::ProblemLemmas::goal_steps))]
-fn goal<'a>(dialect: Dialect, walk: &mut Walk<'a>) -> Result<Literals<'a>, ReadFault>
-    ensures { ReadsList (λ l. l) result (goal_of dialect) (here walk.old.cursor) (here walk.new.cursor) }
+fn goal<'a>(
+    alloc: Global,
+    dialect: Dialect,
+    walk: &mut Walk<'a>,
+) -> Result<FormulaSyntax<'a>, ReadFault>
+    ensures { ReadsList (λ f. f) result (goal_of dialect) (here walk.old.cursor) (here walk.new.cursor) }
 {
-    enter_list(walk)?;
     let context = Context::Goal;
-    let literals = kept_literals(walk, Scope { dialect, context })?;
-    leave_list(walk)?;
-    Ok(literals)
+    lone(alloc, walk, Scope { dialect, context })
 }
 
 /// Whether the section is given already.
@@ -109,8 +69,8 @@ fn section_body<'a>(
             sections.requirements = true;
         }
         ProblemSection::Objects => sections.objects = Some(typed_names(alloc, walk)?),
-        ProblemSection::Init => sections.init = Some(init(dialect, walk)?),
-        ProblemSection::Goal => sections.goal = Some(goal(dialect, walk)?),
+        ProblemSection::Init => sections.init = Some(kept_items(alloc, dialect, walk)?),
+        ProblemSection::Goal => sections.goal = Some(goal(alloc, dialect, walk)?),
         ProblemSection::Metric => {
             skip(walk);
             sections.metric = true;

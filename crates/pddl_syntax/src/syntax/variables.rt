@@ -132,7 +132,7 @@ pub(crate) fn kept_variables<'a>(
 
 /// Reads the groups of a list of typed variables.
 #[tactic(auto, using(crate::proofs::VariableLemmas::typed_steps))]
-fn typed_variables<'a>(
+pub(crate) fn typed_variables<'a>(
     alloc: Global,
     walk: &mut Walk<'a>,
 ) -> Result<Vec<VariableGroup<'a>>, ReadFault>

@@ -1,6 +1,6 @@
 use Rattle.std.proofs.Common.{◌≡◌, ◌++◌, take}
 use Rattle.std.specs.List.{flat_map}
-use Rattle.report_text.specs.Format.{string_byte}
+use Rattle.report_text.specs.Pieces.{string_byte}
 use Rattle.report_text.proofs.escapes.push_inside.Given as goal
 
 -- The bytes so far are behind the text that was there.

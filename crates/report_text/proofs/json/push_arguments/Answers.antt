@@ -1,6 +1,6 @@
 use Rattle.std.proofs.Common.{◌++◌, ap, sym, ◌∙◌, codes, map, take}
 use Rattle.strips_task.specs.StepView.{step_shown}
-use Rattle.report_text.specs.Format.{after_commas, json_string}
+use Rattle.report_text.specs.Pieces.{after_commas, json_string}
 use Rattle.report_text.proofs.Rendering.{commas_more, then}
 use Rattle.report_text.proofs.json.push_arguments.Goals as goal
 

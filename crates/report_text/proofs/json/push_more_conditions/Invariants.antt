@@ -1,5 +1,6 @@
 use Rattle.std.proofs.Common.{◌≡◌, ◌++◌, map, take}
-use Rattle.report_text.specs.Format.{after_commas, json_condition}
+use Rattle.report_text.specs.Pieces.{after_commas}
+use Rattle.report_text.specs.Conditions.{json_condition}
 use Rattle.report_text.proofs.json.push_more_conditions.Given as goal
 
 -- The conditions so far are behind the text that was there.

@@ -1,5 +1,6 @@
 use Rattle.std.proofs.Common.{◌≡◌, ◌++◌, codes, decimal}
-use Rattle.report_text.specs.Format.{json_best, json_cost, json_string}
+use Rattle.report_text.specs.Format.{json_best, json_cost}
+use Rattle.report_text.specs.Pieces.{json_string}
 use Rattle.report_text.proofs.Rendering.{on_ok_more, then}
 use Rattle.report_text.proofs.json.push_planner_record.Goals as goal
 

@@ -1,5 +1,5 @@
 use Rattle.std.proofs.Common.{◌≡◌, ◌++◌, codes, ap, ◌∙◌}
-use Rattle.report_text.specs.Format.{json_string}
+use Rattle.report_text.specs.Pieces.{json_string}
 use Rattle.report_text.proofs.Rendering.{on_ok_more, then}
 use Rattle.report_text.proofs.json.push_run.Goals as goal
 

@@ -1,6 +1,6 @@
 use Rattle.std.proofs.Common.{◌++◌, ap, sym, ◌∙◌, append_assoc, codes, take}
 use Rattle.strips_task.specs.StepView.{step_shown}
-use Rattle.report_text.specs.Report.{spaced}
+use Rattle.report_text.specs.Pieces.{spaced}
 use Rattle.report_text.proofs.Rendering.{spaced_more}
 use Rattle.report_text.proofs.render.push_arguments.Goals as goal
 

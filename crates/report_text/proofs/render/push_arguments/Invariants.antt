@@ -1,6 +1,6 @@
 use Rattle.std.proofs.Common.{◌≡◌, ◌++◌, take}
 use Rattle.strips_task.specs.StepView.{step_shown}
-use Rattle.report_text.specs.Report.{spaced}
+use Rattle.report_text.specs.Pieces.{spaced}
 use Rattle.report_text.proofs.render.push_arguments.Given as goal
 
 -- The names so far stand behind the text that was there.

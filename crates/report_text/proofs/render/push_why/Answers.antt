@@ -1,6 +1,7 @@
 use Rattle.std.proofs.Common.{◌++◌, ◌-◌, ap, sym, ◌∙◌, append_assoc, codes}
 use Rattle.strips_task.specs.StepView.{step_shown}
-use Rattle.report_text.specs.Report.{name_at, why_text}
+use Rattle.report_text.specs.Pieces.{name_at}
+use Rattle.report_text.specs.Report.{why_text}
 use Rattle.report_text.proofs.render.push_why.Goals as goal
 
 pub returns-in_ok-push_argument-in-UnknownObject : goal.returns-in_ok-push_argument-in-UnknownObject

@@ -1,6 +1,7 @@
 use Rattle.std.proofs.Common.{◌≡◌, ◌++◌, ◌-◌, codes, ap, sym, ◌∙◌}
 use Rattle.strips_task.specs.Spelled.{step_spelled}
-use Rattle.report_text.specs.Report.{name_at, why_text}
+use Rattle.report_text.specs.Pieces.{name_at}
+use Rattle.report_text.specs.Report.{why_text}
 use Rattle.report_text.proofs.Rendering.{on_ok_more, then}
 use Rattle.report_text.proofs.render.push_why_of_row.Goals as goal
 

@@ -1,7 +1,7 @@
 use Rattle.std.proofs.Common.{◌≡◌, ◌++◌, ◌-◌, codes, ap, sym, ◌∙◌}
 use Rattle.strips_task.specs.StepView.{step_shown}
 use Rattle.report_text.specs.Format.{why_fields}
-use Rattle.report_text.specs.Report.{name_at}
+use Rattle.report_text.specs.Pieces.{name_at}
 use Rattle.report_text.proofs.Rendering.{on_ok_more, then}
 use Rattle.report_text.proofs.table.push_why_fields.Goals as goal
 

@@ -1,5 +1,5 @@
 use Rattle.std.proofs.Common.{◌≡◌, take, List, All}
-use Rattle.strips_task.specs.declared.atoms.Atom.{Atom}
+use Rattle.formulas.specs.declared.atoms.Atom.{Atom}
 use Rattle.strips_judge.specs.Codes.{AreNumbers}
 use Rattle.strips_judge.specs.NumberedState.{state_of}
 use Rattle.strips_judge.proofs.codes.all_are.Given as goal

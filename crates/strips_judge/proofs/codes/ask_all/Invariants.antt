@@ -1,10 +1,11 @@
-use Rattle.std.proofs.Common.{◌≡◌, take, map}
+use Rattle.std.proofs.Common.{◌≡◌, [], take, map}
+use Rattle.formulas.specs.Grounding.{with_objects}
+use Rattle.strips_task.specs.declared.tasks.TaskParts.{TaskParts}
 use Rattle.strips_judge.specs.Codes.{AsksFor}
-use Rattle.strips_judge.specs.Grounding.{ground_condition}
 use Rattle.strips_judge.specs.NumberedState.{state_of, Grows}
 use Rattle.strips_judge.proofs.codes.ask_all.Given as goal
 
-abbrev pub invariant-loop-cond : goal.invariant-loop-cond
-invariant-loop-cond l =
-    AsksFor l.state.atoms (map (ground_condition l.objects) (take l.cond-index l.conds)) l.code
+abbrev pub invariant-loop-condition : goal.invariant-loop-condition
+invariant-loop-condition l =
+    ((parts : TaskParts) → AsksFor parts l.state.atoms (map (with_objects l.objects []) (take l.condition-index l.conditions)) l.code)
     × (state_of l.state ≡ state_of l.initial.state) × Grows l.initial.state l.state

@@ -1,8 +1,11 @@
-use Rattle.std.proofs.Common.{List, map, subst, sym}
-use Rattle.strips_task.specs.declared.actions.Cond.{Cond}
-use Rattle.strips_task.specs.declared.actions.Pattern.{Pattern}
+use Rattle.std.proofs.Common.{◌≡◌, ◌∙◌, IsTrue, true, false, List, [], ap, map, subst, sym, arith, tests}
+use Rattle.formulas.specs.declared.atoms.Atom.{Atom}
+use Rattle.formulas.specs.declared.terms.Pattern.{Pattern}
+use Rattle.formulas.specs.Grounding.{with_objects}
+use Rattle.formulas.specs.Tree.{Tree}
 use Rattle.strips_judge.specs.Codes.{Code, AreNumbers, AsksFor}
-use Rattle.strips_judge.specs.Grounding.{ground, ground_condition}
+use Rattle.strips_judge.specs.Grounding.{ground}
+use Rattle.strips_judge.proofs.ActionEffects.{sure_alone}
 use Rattle.strips_judge.proofs.CodeLaws.{numbers_kept, asks_kept, asks_whatever}
 use Rattle.strips_judge.proofs.Growth.{grows_twice}
 use Rattle.strips_judge.proofs.codes.code_of_action.Goals as goal
@@ -14,22 +17,33 @@ pub returns-then-not-branch-2-clause-grows : goal.returns-then-not-branch-2-clau
 returns-then-not-branch-2-clause-grows c = grows_twice c.args.state.now c.ask_all.new.state c.number_all.new.state c.ask_all.ensures.grows c.number_all.ensures.grows
 
 pub returns-clause-asks : goal.returns-clause-asks
-returns-clause-asks c = λ t.
+returns-clause-asks c = λ t parts.
     let last = c.number_all-2.new.state in
     let grown = grows_twice c.ask_all.new.state c.number_all.new.state last c.number_all.ensures.grows c.number_all-2.ensures.grows in
-    let asks = asks_kept c.ask_all.new.state.atoms last.atoms grown.numbers (map (ground_condition c.args.objects.now) c.as_slice.result.now) c.ask_all.new.code
-    (c.in_ok-ask_all.ensures.asks c.if-not-branch.false) in
-    subst (λ (conds : List Cond). AsksFor last.atoms (map (ground_condition c.args.objects.now) conds)
+    let asks = asks_kept parts c.ask_all.new.state.atoms last.atoms grown.numbers (map (with_objects c.args.objects.now []) c.as_slice.result.now) c.ask_all.new.code
+    (c.in_ok-ask_all.ensures.asks c.if-not-branch.false parts) in
+    subst (λ (conditions : List Tree). AsksFor parts last.atoms (map (with_objects c.args.objects.now []) conditions)
     (record { needed = c.code.inside.needed.items; forbidden = c.code.inside.forbidden.items; deleted = c.number_all.new.numbers.items; added = c.number_all-2.new.numbers.items })) c.as_slice.ensures
-    (subst (λ (code : Code). AsksFor last.atoms (map (ground_condition c.args.objects.now) c.as_slice.result.now)
+    (subst (λ (code : Code). AsksFor parts last.atoms (map (with_objects c.args.objects.now []) c.as_slice.result.now)
     (record code { deleted = c.number_all.new.numbers.items; added = c.number_all-2.new.numbers.items })) (sym c.code.view_is)
-    (asks_whatever last.atoms (map (ground_condition c.args.objects.now) c.as_slice.result.now) c.ask_all.new.code c.number_all.new.numbers.items c.number_all-2.new.numbers.items asks))
+    (asks_whatever parts last.atoms (map (with_objects c.args.objects.now []) c.as_slice.result.now) c.ask_all.new.code c.number_all.new.numbers.items c.number_all-2.new.numbers.items asks))
 
 pub returns-clause-deleted : goal.returns-clause-deleted
-returns-clause-deleted c = λ t.
-    subst (λ (l : List Pattern). AreNumbers c.number_all-2.new.state.atoms (map (ground c.args.objects.now) l) c.number_all.new.numbers.items) c.as_slice-deletes.ensures
-    (numbers_kept c.number_all.new.state.atoms c.number_all-2.new.state.atoms c.number_all-2.ensures.grows.numbers (map (ground c.args.objects.now) c.as_slice-deletes.result.now)
+returns-clause-deleted c = λ t parts before.
+    let objects = c.args.objects.now in
+    let none : c.args.action.now.effects ≡ [] = let empty : IsTrue c.is_empty.result = grind (arith, tests, c.if-not-is_empty.false) in c.is_empty.ensures.0 empty in
+    subst (λ (l : List Atom). AreNumbers c.number_all-2.new.state.atoms l c.number_all.new.numbers.items)
+    (ap (map (ground objects)) c.as_slice-deletes.ensures ∙ sure_alone parts objects before false c.args.action.now.effects (map (ground objects) c.args.action.now.del) none)
+    (numbers_kept c.number_all.new.state.atoms c.number_all-2.new.state.atoms c.number_all-2.ensures.grows.numbers (map (ground objects) c.as_slice-deletes.result.now)
     c.number_all.new.numbers.items (c.in_ok-number_all.ensures.numbers c.if-not-branch-2.false))
+
+pub returns-clause-added : goal.returns-clause-added
+returns-clause-added c = λ t parts before.
+    let objects = c.args.objects.now in
+    let none : c.args.action.now.effects ≡ [] = let empty : IsTrue c.is_empty.result = grind (arith, tests, c.if-not-is_empty.false) in c.is_empty.ensures.0 empty in
+    subst (λ (l : List Atom). AreNumbers c.number_all-2.new.state.atoms l c.number_all-2.new.numbers.items)
+    (ap (map (ground objects)) c.as_slice-adds.ensures ∙ sure_alone parts objects before true c.args.action.now.effects (map (ground objects) c.args.action.now.add) none)
+    (c.in_ok-found.ensures.numbers t)
 
 pub returns-in_err-found-clause-grows : goal.returns-in_err-found-clause-grows
 returns-in_err-found-clause-grows c =

@@ -1,11 +1,11 @@
-use Rattle.std.proofs.Common.{◌≡◌, map, take}
-use Rattle.strips_judge.specs.Grounding.{ground_condition}
+use Rattle.std.proofs.Common.{◌≡◌, [], map, take}
+use Rattle.formulas.specs.Grounding.{with_objects}
 use Rattle.strips_judge.specs.NumberedState.{state_of}
 use Rattle.strips_judge.specs.Step.{missing}
 use Rattle.strips_judge.proofs.conditions.missing.Given as goal
 
-abbrev pub invariant-loop-cond : goal.invariant-loop-cond
-invariant-loop-cond l = record {
-  found : l.found.keys ≡ missing (state_of l.fn.state) (map (ground_condition l.objects) (take l.cond-index l.conds));
+abbrev pub invariant-loop-condition : goal.invariant-loop-condition
+invariant-loop-condition l = record {
+  found : l.found.keys ≡ missing l.task (state_of l.fn.state) (map (with_objects l.objects []) (take l.condition-index l.conditions));
   same : l.state ≡ l.fn.state;
 }

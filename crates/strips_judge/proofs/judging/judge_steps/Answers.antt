@@ -25,5 +25,5 @@ returns c =
     let all : c.loop-index.index ≡ c.len.result = omega arith in
     let end = steps_end c.args.task.now _ (state_of c.loop-index.state) c.args.steps.now c.loop-index.index c.loop-index.invariant past in
     success_as _ _ c.judge_goal.result
-    (λ answer is. is ∙ ap (λ n. goal_verdict n (missing (state_of c.loop-index.state) c.args.task.now.goal)) (sym all) ∙ sym end)
-    c.judge_goal.ensures
+    (λ answer is. is ∙ ap (λ n. goal_verdict n (missing c.args.task.now (state_of c.loop-index.state) c.args.task.now.goal)) (sym all) ∙ sym end)
+    c.judge_goal.ensures.verdict

@@ -8,6 +8,6 @@ pub returns-then-first-own : goal.returns-then-first-own
 returns-then-first-own c =
     let found : slice_get (values_of c.args.objects.now) c.args.number ≡ Some c.in-Some.own.now = search rules in
     sym (
-    object_fitting c.args.parents.now c.args.objects.now [] c.args.types.now c.args.number c.in-Some.own.now found
+    object_fitting c.args.parents.now c.args.types.now c.args.objects.now [] [] c.args.number c.in-Some.own.now found
     ∙ first_fits c.args.parents.now c.args.types.now c.in-Some.own.now c.in-len1-up.len_at_least c.if-first-own.true
     )

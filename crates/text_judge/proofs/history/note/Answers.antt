@@ -1,6 +1,6 @@
 use Rattle.std.proofs.Common.{◌≡◌, ◌+◌, ◌<◌, ◌++◌, ◌∷◌, [], false, List, None, drop, get_or, length, subst, sym, ap, ◌∙◌, take, arith}
 use Rattle.std.proofs.lemmas.List.{drop-set-lt, take_more_set}
-use Rattle.strips_task.specs.declared.atoms.Atom.{Atom}
+use Rattle.formulas.specs.declared.atoms.Atom.{Atom}
 use Rattle.strips_judge.specs.NumberedState.{state_of}
 use Rattle.strips_judge.specs.State.{State}
 use Rattle.text_judge.specs.declared.history.Watch.{Watch}

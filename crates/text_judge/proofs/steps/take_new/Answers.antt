@@ -1,8 +1,9 @@
 use Rattle.std.proofs.Common.{List, All, refl, subst, sym}
 use Rattle.strips_task.specs.Spelled.{step_spelled}
-use Rattle.strips_task.specs.declared.atoms.Atom.{Atom}
+use Rattle.formulas.specs.declared.atoms.Atom.{Atom}
 use Rattle.strips_judge.specs.Codes.{Code, IsCode, code_shown}
 use Rattle.strips_judge.proofs.CodeLaws.{added_within}
+use Rattle.strips_judge.proofs.Growth.{grows_twice}
 use Rattle.text_judge.specs.Known.{Known}
 use Rattle.text_judge.specs.Learned.{IsLearned}
 use Rattle.text_judge.proofs.TakenLaws.{learned_as, learned_grown, learned_more}
@@ -24,7 +25,9 @@ returns-in_err-code_of_numbered-clause-learned c =
 
 pub returns-then-not-branch-clause-learned : goal.returns-then-not-branch-clause-learned
 returns-then-not-branch-clause-learned c =
-    learned_grown c.args.task.now c.args.state.now c.code_of_numbered.new.state c.args.memo.now c.code_of_numbered.ensures.grows c.requires.learned
+    let last = c.take_numbered-then-not-branch.new.state in
+    learned_grown c.args.task.now c.args.state.now last c.args.memo.now
+    (grows_twice c.args.state.now c.code_of_numbered.new.state last c.code_of_numbered.ensures.grows c.take_numbered-then-not-branch.ensures.grows) c.requires.learned
 
 pub returns-in_err-add-clause-learned : goal.returns-in_err-add-clause-learned
 returns-in_err-add-clause-learned c =

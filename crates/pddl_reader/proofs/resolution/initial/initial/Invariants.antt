@@ -4,10 +4,10 @@ use Rattle.pddl_reader.specs.Resolved.{vocabulary_form}
 use Rattle.pddl_reader.specs.Problem.{no_initial, with_initial}
 use Rattle.pddl_reader.proofs.resolution.initial.initial.Given as goal
 
-abbrev pub invariant-literals : goal.invariant-literals
-invariant-literals l =
-    through (with_initial (vocabulary_form l.vocabulary)) l.state l.literals
-    ≡ through (with_initial (vocabulary_form l.vocabulary)) no_initial l.fn.literals
+abbrev pub invariant-items : goal.invariant-items
+invariant-items l =
+    through (with_initial (vocabulary_form l.vocabulary)) l.state l.items
+    ≡ through (with_initial (vocabulary_form l.vocabulary)) no_initial l.fn.items
 
-abbrev pub decreases-literals : goal.decreases-literals
-decreases-literals l = length l.literals
+abbrev pub decreases-items : goal.decreases-items
+decreases-items l = length l.items

@@ -11,5 +11,5 @@ pub returns-clause-taken : goal.returns-clause-taken
 returns-clause-taken c =
     let known = known_form c.args.known.now in
     let stands = subst (λ (o : Option AtomKey). IfSome o (λ key. ground_of known (atom_spelled c.bytes.result.now) ≡ Some (atom_of key))) c.in-Some-2.is c.in_ok-key.ensures.atom in
-    one_atom known c.args.literals.now c.pass.new.self (atom_spelled c.in-Some.row.bytes) (atom_of c.in-Some-2.key) c.pass.ensures
+    one_atom known c.args.items.now c.pass.new.self (atom_spelled c.in-Some.row.bytes) (atom_of c.in-Some-2.key) c.pass.ensures
     (ap (λ bytes. ground_of known (atom_spelled bytes)) (sym c.bytes.ensures) ∙ stands)

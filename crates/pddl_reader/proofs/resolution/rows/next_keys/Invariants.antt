@@ -6,6 +6,6 @@ use Rattle.pddl_reader.proofs.resolution.rows.next_keys.Given as goal
 
 abbrev pub invariant-rows : goal.invariant-rows
 invariant-rows l = record {
-  atoms : BeginWithAtoms (known_form l.known) l.fn.literals (map atom_of l.keys.items) l.literals;
+  atoms : BeginWithAtoms (known_form l.known) l.fn.items (map atom_of l.keys.items) l.items;
   keys : All (λ key. IsKeyOf (atom_of key) key) l.keys.items;
 }

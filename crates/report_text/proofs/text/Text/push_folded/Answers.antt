@@ -1,7 +1,7 @@
 use Rattle.std.proofs.Common.{◌≡◌, false, ◌++◌, ap, sym, ◌∙◌}
 use Rattle.std.specs.Char.{is_ascii_uppercase}
 use Rattle.std.specs.List.{list_any}
-use Rattle.strips_task.proofs.FoldedWords.{folded_already}
+use Rattle.formulas.proofs.FoldedWords.{folded_already}
 use Rattle.report_text.proofs.Rendering.{on_ok_more}
 use Rattle.report_text.proofs.text.Text.push_folded.Goals as goal
 

@@ -1,6 +1,6 @@
 use Rattle.std.proofs.Common.{◌≡◌, ◌++◌, ◌∷◌, [], Some, false, subst}
-use Rattle.strips_task.specs.declared.atoms.Atom.{Atom}
-use Rattle.strips_task.specs.Atom.{atom_eq}
+use Rattle.formulas.specs.declared.atoms.Atom.{Atom}
+use Rattle.formulas.specs.Atom.{atom_eq}
 use Rattle.strips_task.specs.FirstOccurrences.{first_occurrences}
 use Rattle.strips_task.specs.AtomNumbers.{number_in}
 use Rattle.strips_judge.specs.NumberedState.{Numbered, state_of, state_by}

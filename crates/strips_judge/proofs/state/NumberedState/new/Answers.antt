@@ -1,5 +1,5 @@
 use Rattle.std.proofs.Common.{◌∙◌, arith, ap, ltb}
-use Rattle.strips_task.specs.Atom.{atom_eq}
+use Rattle.formulas.specs.Atom.{atom_eq}
 use Rattle.strips_task.specs.FirstOccurrences.{first_occurrences}
 use Rattle.strips_judge.proofs.AtomsFound.{found_none}
 use Rattle.strips_judge.proofs.Growth.{row_for_none}

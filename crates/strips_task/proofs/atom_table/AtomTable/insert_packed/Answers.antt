@@ -1,8 +1,8 @@
 use Rattle.std.proofs.Common.{◌≡◌, ◌++◌, ◌∷◌, [], ℕ, List, Option, IfNone, IfSome, None, Some, length, slice_get, ap, sym, ◌∙◌, subst}
-use Rattle.strips_task.specs.declared.atoms.Atom.{Atom}
+use Rattle.formulas.specs.declared.atoms.Atom.{Atom}
 use Rattle.strips_task.specs.declared.atom_keys.AtomKey.{AtomKey}
 use Rattle.indexmap.specs.IndexSet.{insert_key}
-use Rattle.strips_task.specs.Atom.{atom_eq}
+use Rattle.formulas.specs.Atom.{atom_eq}
 use Rattle.strips_task.specs.AtomKeys.{atom_of}
 use Rattle.strips_task.specs.AtomNumbers.{number_in}
 use Rattle.strips_task.specs.AtomTables.{IsAtomTable, atoms_of}

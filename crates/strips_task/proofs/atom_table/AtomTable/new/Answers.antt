@@ -1,5 +1,5 @@
 use Rattle.std.proofs.Common.{ℕ, List, ap, sym, subst}
-use Rattle.strips_task.specs.declared.atoms.Atom.{Atom}
+use Rattle.formulas.specs.declared.atoms.Atom.{Atom}
 use Rattle.strips_task.specs.declared.atom_keys.AtomKey.{AtomKey}
 use Rattle.strips_task.specs.AtomTables.{IsAtomTable}
 use Rattle.strips_task.specs.LongAtoms.{long_number}

@@ -1,5 +1,5 @@
 use Rattle.std.proofs.Common.{◌≡◌, ◌++◌, ◌∷◌, [], List, None, Some, length, ap, sym, ◌∙◌, subst}
-use Rattle.strips_task.specs.declared.atoms.Atom.{Atom}
+use Rattle.formulas.specs.declared.atoms.Atom.{Atom}
 use Rattle.strips_task.specs.declared.atom_keys.AtomKey.{AtomKey}
 use Rattle.strips_task.specs.AtomKeys.{atom_of}
 use Rattle.strips_task.specs.AtomNumbers.{number_in}

@@ -1,8 +1,8 @@
 use Rattle.std.proofs.Common.{◌≡◌, ◌++◌, ◌∷◌, [], List, None, length, lit<, ap, sym, ◌∙◌, subst}
 use Rattle.indexmap.proofs.CallerLemmas.{insert_entry-new}
-use Rattle.strips_task.specs.declared.atoms.Atom.{Atom}
+use Rattle.formulas.specs.declared.atoms.Atom.{Atom}
 use Rattle.strips_task.specs.declared.atom_keys.AtomKey.{AtomKey}
-use Rattle.strips_task.specs.Atom.{atom_eq}
+use Rattle.formulas.specs.Atom.{atom_eq}
 use Rattle.strips_task.specs.AtomNumbers.{number_in}
 use Rattle.strips_task.specs.AtomTables.{IsAtomTable, atoms_of}
 use Rattle.strips_task.proofs.AtomTables.{atoms_of-many, table_many}

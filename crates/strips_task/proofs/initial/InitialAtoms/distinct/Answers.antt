@@ -1,5 +1,5 @@
 use Rattle.std.proofs.Common.{ap, ◌∙◌}
-use Rattle.strips_task.specs.Atom.{atom_eq}
+use Rattle.formulas.specs.Atom.{atom_eq}
 use Rattle.strips_task.specs.FirstOccurrences.{first_occurrences}
 use Rattle.strips_task.proofs.initial.InitialAtoms.distinct.Goals as goal
 

@@ -12,4 +12,4 @@ returns-clause-answer c =
     subst (λ (j : Judging). (steps : List StepText) → HasTaken j steps
     → ◌≡◌ {A = Assessment} (record { verdict = c.in_ok-verdict.verdict; cost = c.cost_beside-cost.result }) (assessment j.task (Steps steps))) c.self.view_is
     (found_at_end c.self.inside.task.now c.self.inside.state c.self.inside.cost c.self.inside.count c.in_ok-verdict.verdict c.cost_beside-cost.result
-    c.in_ok-verdict.ensures c.cost_beside-cost.ensures.cost)
+    c.in_ok-verdict.ensures.verdict c.cost_beside-cost.ensures.cost)

@@ -1,0 +1,168 @@
+use Rattle.std.proofs.Common.{rules, ◌≡◌, ◌<◌, ◌≤◌, ◌+◌, ◌*◌, ℕ, List, [], ◌∷◌, ◌++◌, drop, length, sym, ap, ◌∙◌, refl, subst, arith}
+use Rattle.formulas.specs.EffectNodes.{effect_of}
+use Rattle.formulas.specs.EffectTree.{effect_parts_of}
+use Rattle.formulas.specs.Tree.{conjunction, no_parts}
+use Rattle.formulas.specs.Variables.{variable_types}
+use Rattle.strips_judge.specs.Gathered.{Found, GathersMore, kept, effect_found, effects_found, choices_found}
+use Rattle.strips_judge.specs.NumberedState.{Grows, state_of}
+use Rattle.strips_judge.proofs.EffectWeights.{effect_weight, most_effect_weight, weighs_less, joint_heavier}
+use Rattle.strips_judge.proofs.Evaluations.{one_less_left}
+use Rattle.strips_judge.proofs.Gathering.{ok_as, gathers_as, gathers_at, gathers_both, joint_is, universal_is, joint_within, item_within, one_effect_more, no_choice, below, one_fits, one_unfit, all_objects, effect_next_within, effect_all_within, pushed_length, popped}
+use Rattle.strips_judge.proofs.Growth.{grows_twice}
+use Rattle.strips_judge.proofs.effects.+gather.Goals as goal
+use Rattle.strips_judge.proofs.effects.+gather.Goals.{gather_choices-then-object_fits+in_ok-push+in_ok-gather_choices, gather_choices-else-object_fits}
+
+pub gather-gather_all-requires : goal.gather-gather_all-requires
+gather-gather_all-requires t c =
+    let is = sym c.node.ensures ∙ ap effect_of c.in-And.is in (
+      (let lighter : most_effect_weight (effect_parts_of c.deref.result.now) + 1 < effect_weight c.args.effect.now =
+          joint_heavier c.args.effect.now c.in-And.parts.items c.deref.result.now c.deref.ensures.value is in
+          search rules),
+      joint_within (length c.args.arguments.objects.now) (length c.args.room.now.bound.items) c.args.effect.now c.in-And.parts.items c.deref.result.now c.deref.ensures.value is c.requires,
+    )
+
+pub gather-returns-in-And-clause-gathered : goal.gather-returns-in-And-clause-gathered
+gather-returns-in-And-clause-gathered t c =
+    let task = c.args.arguments.task.now in
+    let state = state_of c.args.state.now in
+    let objects = c.args.arguments.objects.now in
+    let bound = c.args.room.now.bound.items in
+    let is = sym c.node.ensures ∙ ap effect_of c.in-And.is in
+    ok_as c.gather_all.result
+    (gathers_as state c.args.state.now.atoms c.gather_all.new.state.atoms (kept c.args.changes.now) (kept c.gather_all.new.changes) (effects_found task state objects bound c.deref.result.now)
+    (effect_found task state objects bound c.args.effect.now)
+    (joint_is task state objects bound c.args.effect.now c.in-And.parts.items c.deref.result.now c.deref.ensures.value is))
+    c.gather_all.ensures.gathered
+
+pub gather-returns-in-ForAll-clause-gathered : goal.gather-returns-in-ForAll-clause-gathered
+gather-returns-in-ForAll-clause-gathered t c =
+    let task = c.args.arguments.task.now in
+    let state = state_of c.args.state.now in
+    let objects = c.args.arguments.objects.now in
+    let bound = c.args.room.now.bound.items in
+    let is = sym c.node.ensures ∙ ap effect_of c.in-ForAll.is in
+    ok_as c.gather_choices.result
+    (gathers_as state c.args.state.now.atoms c.gather_choices.new.state.atoms (kept c.args.changes.now) (kept c.gather_choices.new.changes)
+    (choices_found task state objects c.deref-in-ForAll.result.now (variable_types c.as_slice.result.now) bound) (effect_found task state objects bound c.args.effect.now)
+    (universal_is task state objects bound c.args.effect.now c.in-ForAll.body.value c.deref-in-ForAll.result.now c.in-ForAll.groups c.as_slice.result.now is c.deref-in-ForAll.ensures c.as_slice.ensures))
+    c.gather_choices.ensures.gathered
+
+pub gather_all-gather-requires : goal.gather_all-gather-requires
+gather_all-gather-requires t c = (
+  (let lighter : effect_weight c.effect-item.result ≤ most_effect_weight (effect_parts_of c.args.effects.now) =
+      weighs_less c.args.effects.now c.loop-effect.effect-index c.effect-item.result c.loop-effect-test.true c.effect-item.is in
+      search rules),
+  item_within (length c.args.arguments.objects.now) (length c.args.room.now.bound.items) c.args.effects.now c.loop-effect.effect-index c.effect-item.result (length c.loop-effect.room.bound.items)
+      c.loop-effect-test.true c.effect-item.is (ap length c.loop-effect.invariant.bound) c.requires,
+)
+
+pub gather_all-returns-in_err-gather-clause-grows : goal.gather_all-returns-in_err-gather-clause-grows
+gather_all-returns-in_err-gather-clause-grows t c = grows_twice c.args.state.now c.loop-effect.state c.gather.new.state c.loop-effect.invariant.grows c.gather.ensures.grows
+
+pub gather_all-loop-effect-preserved : goal.gather_all-loop-effect-preserved
+gather_all-loop-effect-preserved t c =
+    let task = c.args.arguments.task.now in
+    let state = state_of c.args.state.now in
+    let objects = c.args.arguments.objects.now in
+    let bound = c.args.room.now.bound.items in
+    let i = c.loop-effect.effect-index in
+    let effect = c.effect-item.result in
+    let here = gathers_at (λ s l. effect_found task s objects l effect) (state_of c.loop-effect.state) state c.loop-effect.room.bound.items bound c.loop-effect.state.atoms c.gather.new.state.atoms (kept c.loop-effect.changes) (kept c.gather.new.changes)
+    c.loop-effect.invariant.state c.loop-effect.invariant.bound c.in_ok-gather.ensures.gathered in
+    record {
+      state = c.gather.ensures.state ∙ c.loop-effect.invariant.state;
+      grows = grows_twice c.args.state.now c.loop-effect.state c.gather.new.state c.loop-effect.invariant.grows c.gather.ensures.grows;
+      bound = ◌∙◌ {A = List ℕ} c.in_ok-gather.ensures.bound c.loop-effect.invariant.bound;
+      gathered = gathers_as state c.args.state.now.atoms c.gather.new.state.atoms (kept c.args.changes.now) (kept c.gather.new.changes) _ _
+          (one_effect_more task state objects bound c.args.effects.now i effect c.loop-effect-test.true c.effect-item.is)
+          (gathers_both state c.args.state.now.atoms c.loop-effect.state.atoms c.gather.new.state.atoms (kept c.args.changes.now) (kept c.loop-effect.changes) (kept c.gather.new.changes) _ _ c.loop-effect.invariant.gathered here);
+    }
+
+pub gather_choices-gather-requires : goal.gather_choices-gather-requires
+gather_choices-gather-requires t c =
+    let variables = variable_types c.args.quantified.groups.now in
+    let body = c.args.quantified.body.now in (
+      (let lighter : effect_weight body < effect_weight body + 2 * length (drop c.args.first variables) + 1 = omega arith in search rules),
+      effect_all_within c.args.arguments.task.now (state_of c.args.state.now) c.args.arguments.objects.now body (length c.args.arguments.objects.now) (length c.args.room.now.bound.items) variables c.args.first c.in_default.ensures.none c.requires.within,
+    )
+
+pub gather_choices-returns-in_default-clause-gathered : goal.gather_choices-returns-in_default-clause-gathered
+gather_choices-returns-in_default-clause-gathered t c =
+    let task = c.args.arguments.task.now in
+    let state = state_of c.args.state.now in
+    let objects = c.args.arguments.objects.now in
+    let body = c.args.quantified.body.now in
+    let bound = c.args.room.now.bound.items in
+    let variables = variable_types c.args.quantified.groups.now in
+    ok_as c.gather.result
+    (gathers_as state c.args.state.now.atoms c.gather.new.state.atoms (kept c.args.changes.now) (kept c.gather.new.changes) (effect_found task state objects bound body)
+    (choices_found task state objects body (drop c.args.first variables) bound)
+    (no_choice task state objects body variables c.args.first bound c.in_default.ensures.none))
+    c.gather.ensures.gathered
+
+pub gather_choices-gather_choices-requires : goal.gather_choices-gather_choices-requires
+gather_choices-gather_choices-requires t c =
+    let task = c.args.arguments.task.now in
+    let state = state_of c.args.state.now in
+    let objects = c.args.arguments.objects.now in
+    let variables = variable_types c.args.quantified.groups.now in
+    let body = c.args.quantified.body.now in
+    let bound = c.args.room.now.bound.items in
+    let more : length c.push.new.self.items ≡ length bound + 1 = pushed_length bound c.loop-object.room.bound.items c.push.new.self.items c.loop-object.object c.loop-object.invariant.bound c.in_ok-push.ensures.items in (
+      (let lighter : effect_weight body + 2 * length (drop (c.args.first + 1) variables) + 1 < effect_weight body + 2 * length (drop c.args.first variables) + 1 =
+          omega (arith, one_less_left (length objects) (length bound) variables c.args.first (conjunction no_parts) c.in-Some.types.now c.in-Some.ensures.some) in
+          search rules),
+      (
+        (let fits : c.args.first + 1 ≤ length c.push.new.self.items = omega (arith, more, c.requires.bound) in fits),
+        effect_next_within task state objects body variables c.args.first c.in-Some.types.now bound (length objects) c.in-Some.ensures.some (length c.push.new.self.items) (length bound) more c.requires.within,
+      ),
+    )
+
+pub gather_choices-returns-in_err-gather_choices-clause-grows : goal.gather_choices-returns-in_err-gather_choices-clause-grows
+gather_choices-returns-in_err-gather_choices-clause-grows t c = grows_twice c.args.state.now c.loop-object.state c.gather_choices.new.state c.loop-object.invariant.grows c.gather_choices.ensures.grows
+
+pub gather_choices-loop-object-preserved : goal.gather_choices-loop-object-preserved
+gather_choices-loop-object-preserved t c =
+    let task = c.args.arguments.task.now in
+    let state = state_of c.args.state.now in
+    let objects = c.args.arguments.objects.now in
+    let variables = variable_types c.args.quantified.groups.now in
+    let body = c.args.quantified.body.now in
+    let bound = c.args.room.now.bound.items in
+    let types = c.in-Some.types.now in
+    let i = c.loop-object.object in
+    let after : ℕ → Found = below task state objects body variables c.args.first types bound in
+    elim c.if-object_fits.branch [
+      | gather_choices-then-object_fits+in_ok-push+in_ok-gather_choices w ↦ record {
+        state = ap state_of w.state-is ∙ w.gather_choices.ensures.state ∙ c.loop-object.invariant.state;
+        grows = subst (Grows c.args.state.now) (sym w.state-is) (grows_twice c.args.state.now c.loop-object.state w.gather_choices.new.state c.loop-object.invariant.grows w.gather_choices.ensures.grows);
+        bound = ◌∙◌ {A = List ℕ} (ap (λ room. room.bound.items) w.room-is) (let count : w.gather_choices.new.room.bound.len ≡ length w.gather_choices.new.room.bound.items = search (rules, w.gather_choices.new.room.bound.ok) in
+            popped bound w.gather_choices.new.room.bound.items w.pop.new.self.items i w.gather_choices.new.room.bound.len count
+            (◌∙◌ {A = List ℕ} w.in_ok-gather_choices.ensures.bound (◌∙◌ {A = List ℕ} w.in_ok-push.ensures.items (ap (λ l. l ++ i ∷ []) c.loop-object.invariant.bound))) w.pop.ensures.rest);
+        gathered = subst (λ s. GathersMore state c.args.state.now.atoms s.atoms (kept c.args.changes.now) (kept c.if-object_fits.changes) (after (i + 1))) (sym w.state-is)
+            (subst (λ k. GathersMore state c.args.state.now.atoms w.gather_choices.new.state.atoms (kept c.args.changes.now) (kept k) (after (i + 1))) (sym w.changes-is)
+            (gathers_as state c.args.state.now.atoms w.gather_choices.new.state.atoms (kept c.args.changes.now) (kept w.gather_choices.new.changes) _ (after (i + 1))
+            (one_fits task state objects body variables c.args.first types bound i (sym c.object_fits.ensures ∙ w.if-object_fits.true))
+            (gathers_both state c.args.state.now.atoms c.loop-object.state.atoms w.gather_choices.new.state.atoms (kept c.args.changes.now) (kept c.loop-object.changes) (kept w.gather_choices.new.changes)
+            (after i) _ c.loop-object.invariant.gathered
+            (gathers_at (λ s l. choices_found task s objects body (drop (c.args.first + 1) variables) l) (state_of c.loop-object.state) state w.push.new.self.items (bound ++ i ∷ [])
+            c.loop-object.state.atoms w.gather_choices.new.state.atoms (kept c.loop-object.changes) (kept w.gather_choices.new.changes) c.loop-object.invariant.state
+            (◌∙◌ {A = List ℕ} w.in_ok-push.ensures.items (ap (λ l. l ++ i ∷ []) c.loop-object.invariant.bound)) w.in_ok-gather_choices.ensures.gathered))));
+      }
+      | gather_choices-else-object_fits w ↦ record {
+        state = ap state_of w.state-is ∙ c.loop-object.invariant.state;
+        grows = subst (Grows c.args.state.now) (sym w.state-is) c.loop-object.invariant.grows;
+        bound = ◌∙◌ {A = List ℕ} (ap (λ room. room.bound.items) w.room-is) c.loop-object.invariant.bound;
+        gathered = subst (λ s. GathersMore state c.args.state.now.atoms s.atoms (kept c.args.changes.now) (kept c.if-object_fits.changes) (after (i + 1))) (sym w.state-is)
+            (subst (λ k. GathersMore state c.args.state.now.atoms c.loop-object.state.atoms (kept c.args.changes.now) (kept k) (after (i + 1))) (sym w.changes-is)
+            (gathers_as state c.args.state.now.atoms c.loop-object.state.atoms (kept c.args.changes.now) (kept c.loop-object.changes) (after i) (after (i + 1))
+            (one_unfit task state objects body variables c.args.first types bound i (sym c.object_fits.ensures ∙ w.if-object_fits.false)) c.loop-object.invariant.gathered));
+      }
+    ]
+
+pub gather_choices-returns-clause-gathered : goal.gather_choices-returns-clause-gathered
+gather_choices-returns-clause-gathered t c =
+    let all : c.loop-object.object ≡ length c.args.arguments.task.now.objects = omega (arith, c.loop-object-test.false, c.loop-object.auto.object-end, c.object_count-object-end.ensures.count, c.object_count-object-end.ensures.few) in
+    gathers_as (state_of c.args.state.now) c.args.state.now.atoms c.loop-object.state.atoms (kept c.args.changes.now) (kept c.loop-object.changes) _ _
+    (all_objects c.args.arguments.task.now (state_of c.args.state.now) c.args.arguments.objects.now c.args.quantified.body.now (variable_types c.args.quantified.groups.now) c.args.first c.in-Some.types.now
+    c.args.room.now.bound.items c.in-Some.ensures.some c.loop-object.object all) c.loop-object.invariant.gathered

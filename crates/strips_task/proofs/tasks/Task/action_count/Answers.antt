@@ -1,0 +1,5 @@
+use Rattle.std.proofs.Common.{arith}
+use Rattle.strips_task.proofs.tasks.Task.action_count.Goals as goal
+
+pub returns-clause-few : goal.returns-clause-few
+returns-clause-few c = omega (arith, c.self.invariant.few_actions, c.len.ensures)

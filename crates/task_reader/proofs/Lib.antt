@@ -1,0 +1,9 @@
+pub mod Capping
+pub mod Causes
+pub mod Counting
+pub mod EffectSizes
+pub mod Excesses
+pub mod Lists
+pub mod Reading
+pub mod SyntaxSizes
+pub mod Walks
