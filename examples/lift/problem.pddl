@@ -1,0 +1,10 @@
+(define (problem three-guests)
+  (:domain lift)
+  (:objects ann bob cid - guest ground first second - floor)
+  (:init
+    (lift-at ground)
+    (above first ground) (above second ground) (above second first)
+    (waits ann ground) (to ann second) (shy ann)
+    (waits bob first) (to bob ground) (loud bob)
+    (waits cid ground) (to cid first))
+  (:goal (forall (?g - guest) (arrived ?g))))

@@ -1,0 +1,2 @@
+(define (problem t-1) (:domain t)
+  (:goal (p)))

@@ -1,0 +1,1 @@
+(define (problem t-1) (:domain t) (:objects c d) (:goal (p)))

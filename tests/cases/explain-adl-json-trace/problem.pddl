@@ -1,0 +1,4 @@
+(define (problem t-1) (:domain t)
+  (:objects a b)
+  (:init (p a) (p b) (r))
+  (:goal (and)))

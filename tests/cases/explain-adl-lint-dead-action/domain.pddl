@@ -1,0 +1,5 @@
+(define (domain t) (:requirements :adl)
+  (:predicates (p ?x) (r))
+  (:action a :parameters (?x)
+    :precondition (and (or (r) (p ?x)) (forall (?y) (imply (r) (p ?y))) (r))
+    :effect (p ?x)))

@@ -1,0 +1,5 @@
+(define (domain t) (:requirements :adl)
+  (:predicates (p ?x) (r))
+  (:action a :parameters (?x)
+    :precondition (p ?x)
+    :effect (and (when (p ?x) (not (r))) (forall (?y) (not (p ?y))) (not (r)) (r))))

@@ -1,0 +1,5 @@
+(define (domain t) (:requirements :adl)
+  (:predicates (p ?x ?y))
+  (:action a :parameters (?x ?z)
+    :precondition (exists (?z) (p ?x ?z))
+    :effect (forall (?y ?z) (when (p ?y ?z) (not (p ?y ?z))))))

@@ -1,0 +1,6 @@
+(define (domain t) (:requirements :adl)
+  (:predicates (p ?x) (q ?x) (r))
+  (:action a :parameters (?x)
+    :precondition (and (or (r) (p ?x)) (q ?x))
+    :effect (and (r) (when (not (r)) (r))))
+  (:action b :effect (forall (?y) (when (p ?y) (and (not (r)) (q ?y))))))

@@ -1,0 +1,1 @@
+(define (domain t) (:requirements :adl) (:predicates (p ?x)))

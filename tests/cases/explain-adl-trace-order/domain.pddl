@@ -1,0 +1,5 @@
+(define (domain t) (:requirements :adl)
+  (:predicates (p ?x) (q ?x) (r))
+  (:action a :parameters (?x)
+    :effect (and (when (r) (and (q ?x) (not (p ?x)))) (forall (?y) (when (p ?y) (and (not (p ?y)) (q ?y))))
+      (not (r)) (p ?x) (when (not (r)) (r)))))

@@ -1,0 +1,2 @@
+(define (problem t-1) (:domain t) (:objects c d)
+  (:goal (exists (?y) (q ?something))))
