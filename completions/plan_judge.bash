@@ -16,13 +16,13 @@ _plan_judge()
     else
         case ${COMP_WORDS[1]}:$previous:$current in
             judge:--domain:* | judge:--problem:*) compopt -o default ;;
-            judge:--dialect:*) words='strips ipc' ;;
+            judge:--dialect:*) words='strips ipc adl' ;;
             judge:--format:*) words='lines tsv json' ;;
             judge:--workers:*) ;;
             judge:*:-*) words='--domain --problem --dialect --format --workers -h --help' ;;
             judge:*) compopt -o default ;;
             explain:--domain:* | explain:--problem:*) compopt -o default ;;
-            explain:--dialect:*) words='strips ipc' ;;
+            explain:--dialect:*) words='strips ipc adl' ;;
             explain:--format:*) words='text json' ;;
             explain:*:-*) words='--domain --problem --dialect --format --trace --lint -h --help' ;;
             explain:*) compopt -o default ;;
@@ -30,7 +30,7 @@ _plan_judge()
             validate:*:-*) words='-v -t -S -h --help' ;;
             validate:*) compopt -o default ;;
             replay:--domain:* | replay:--problem:* | replay:--steps:*) compopt -o default ;;
-            replay:--dialect:*) words='strips ipc' ;;
+            replay:--dialect:*) words='strips ipc adl' ;;
             replay:*:*) words='--domain --problem --steps --dialect -h --help' ;;
             help:*:*) words='judge explain validate replay help' ;;
         esac

@@ -91,7 +91,7 @@ def words_of(argv: List[str], text: str) -> argparse.Namespace:
     parser.add_argument("--lab")
     parser.add_argument("--out")
     parser.add_argument("-j", "--jobs", type=number_of_jobs, default=len(os.sched_getaffinity(0)))
-    parser.add_argument("--dialect", choices=["ipc", "strips"], default="ipc")
+    parser.add_argument("--dialect", choices=["adl", "ipc", "strips"], default="adl")
     parser.add_argument("--reference")
     parser.add_argument("--compare", nargs=2, action="append", default=[])
     parser.add_argument("--title", default="Standings")

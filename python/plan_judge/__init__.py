@@ -23,12 +23,12 @@ from .calls import Dialect, Explanation, Stopper, explain, find_program, judge
 from .errors import CallFailed, Error, ProgramMissing, Refused, Stopped
 from .inputs import Named, Plans, Text
 from .records import read_report, write_report
-from .verdicts import Action, Atom, Condition, Equality, Fails, MissesGoal, Planner, Reason, Report, Unreadable, Valid, Verdict
+from .verdicts import Action, Atom, Condition, Equality, Fails, Formula, MissesGoal, Planner, Reason, Report, Unreadable, Valid, Verdict
 
 __version__ = "0.3.0"
 
 __all__ = [
-    "Action", "Atom", "CallFailed", "Condition", "Dialect", "Equality", "Error", "Explanation", "Fails", "MissesGoal", "Named", "Planner", "Plans",
+    "Action", "Atom", "CallFailed", "Condition", "Dialect", "Equality", "Error", "Explanation", "Fails", "Formula", "MissesGoal", "Named", "Planner", "Plans",
     "ProgramMissing", "Reason", "Refused", "Report", "Stopped", "Stopper", "Text", "Unreadable", "Valid", "Verdict", "__version__", "explain",
     "find_program", "judge", "read_report", "write_report",
 ]

@@ -16,7 +16,7 @@ from .inputs import Plans, Room, Share, Text, labelled
 from .records import read_report
 from .verdicts import Planner, Report, Verdict
 
-Dialect = Literal["strips", "ipc"]
+Dialect = Literal["strips", "ipc", "adl"]
 Program = Union[str, "os.PathLike[str]"]
 
 DOMAIN, PROBLEM = b"--domain=", b"--problem="
@@ -101,8 +101,8 @@ def _run(program: str, words: List[bytes], stopper: Optional[Stopper]) -> Tuple[
 
 def _task(room: Room, domain: Text, problem: Text, dialect: Dialect) -> List[bytes]:
     """The words of the command line for a domain and a problem. They end with `--`: a plan's path may begin with a dash."""
-    if dialect not in ("strips", "ipc"):
-        raise ValueError("the dialect is strips or ipc, not %r" % (dialect,))
+    if dialect not in ("strips", "ipc", "adl"):
+        raise ValueError("the dialect is strips, ipc or adl, not %r" % (dialect,))
     (domain_label, domain_source), (problem_label, problem_source) = labelled(domain, "domain"), labelled(problem, "problem")
     domain_word, problem_word = room.word(domain_source, domain_label), room.word(problem_source, problem_label)
     return [b"--dialect=" + dialect.encode(), DOMAIN + domain_word, PROBLEM + problem_word, b"--"]
@@ -134,7 +134,7 @@ def judge(
 ) -> Report:
     """Judges plans by one run of the program. The help of the package says which arguments are paths and which are texts.
 
-    dialect   "ipc" also reads action costs and equality
+    dialect   "ipc" also reads action costs and equality, and "adl" besides disjunctions, quantifiers and conditional effects
     workers   how many threads may judge, 1 to 32
     program   the path of the program; by default the one that the environment variable PLAN_JUDGE names, or plan_judge on the PATH
     stopper   ends this call if another thread calls its `stop`

@@ -5,16 +5,26 @@ import json
 from fractions import Fraction
 from typing import Any, Dict, List, Optional, Tuple, Union
 
-from .verdicts import Action, Atom, Condition, Equality, Fails, MissesGoal, Planner, Report, Unreadable, Valid, Verdict, decimal_text
+from .verdicts import Action, Atom, Condition, Equality, Fails, Formula, MissesGoal, Planner, Report, Unreadable, Valid, Verdict, decimal_text
 
 Record = Dict[str, Any]
 DECODER = json.JSONDecoder(parse_float=Fraction)  # a float would round a cost
 ENCODER = json.JSONEncoder(ensure_ascii=False, separators=(",", ":"))
 
 
+def _tuple(part: Any) -> Any:
+    return tuple(map(_tuple, part)) if isinstance(part, list) else part
+
+
+def _listed(part: Any) -> Any:
+    return list(map(_listed, part)) if isinstance(part, tuple) else part
+
+
 def _condition(words: List[Any], negated: bool = False) -> Condition:
-    if words[0] == "not":
+    if words[0] == "not" and all(isinstance(it, str) for it in words[1]):
         return _condition(words[1], True)
+    if not all(isinstance(it, str) for it in words):
+        return Formula(words[0], tuple(map(_tuple, words[1:])))
     if words[0] == "=":
         return Equality(words[1], words[2], negated)
     return Atom(words[0], tuple(words[1:]), negated)
@@ -73,6 +83,8 @@ def read_report(text: Union[str, bytes]) -> Report:
 
 
 def _words(condition: Condition) -> List[Any]:
+    if isinstance(condition, Formula):
+        return [condition.operator, *map(_listed, condition.parts)]
     words = ["=", condition.left, condition.right] if isinstance(condition, Equality) else [condition.predicate, *condition.arguments]
     return ["not", words] if condition.negated else words
 

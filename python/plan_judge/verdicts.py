@@ -4,7 +4,7 @@ from __future__ import annotations
 import abc
 import dataclasses
 from fractions import Fraction
-from typing import Iterable, Literal, Optional, Tuple, Union
+from typing import Any, Iterable, Literal, Optional, Tuple, Union
 
 Reason = Literal["unknown action", "wrong number of arguments", "unknown object", "wrong type", "missing"]
 
@@ -50,7 +50,22 @@ class Equality:
         return _list("not", equality) if self.negated else equality
 
 
-Condition = Union[Atom, Equality]
+def _text(part: Any) -> str:
+    return part if isinstance(part, str) else _list(*map(_text, part))
+
+
+@dataclasses.dataclass(frozen=True)
+class Formula:
+    """A condition that is made of others, as in the dialect adl: an operator such as "or" or "forall", and what stands behind it. Lists are tuples."""
+
+    operator: str
+    parts: Tuple[Any, ...]
+
+    def __str__(self) -> str:
+        return _text((self.operator, *self.parts))
+
+
+Condition = Union[Atom, Equality, Formula]
 
 
 def _missing(conditions: Iterable[Condition]) -> str:

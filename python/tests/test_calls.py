@@ -141,8 +141,8 @@ class Given(Folder):
             with self.assertRaisesRegex(ValueError, "workers is 1 to 32"):
                 judge(DOMAIN, PROBLEM, SHORT, workers=wrong)
         for call in CALLS:
-            with self.assertRaisesRegex(ValueError, "the dialect is strips or ipc"):
-                call(DOMAIN, PROBLEM, SHORT, dialect=cast(Any, "adl"))
+            with self.assertRaisesRegex(ValueError, "the dialect is strips, ipc or adl"):
+                call(DOMAIN, PROBLEM, SHORT, dialect=cast(Any, "pddl"))
 
 
 class Many(Folder):
