@@ -45,6 +45,29 @@ CREW = """(define (domain crew)
     :effect (and (not (turn ?b)) (turn ?a) (not (row %s)))))
 """
 
+# A turn moves whatever is in three places to the next of them: three effects under `when` for each of eight pieces.
+CUBE = """(define (domain cube)
+  (:requirements :typing :conditional-effects :universal-preconditions)
+  (:types piece place)
+  (:constants %s - place)
+  (:predicates (at ?p - piece ?l - place))
+%s)
+"""
+TURN = """  (:action turn-%s
+    :effect (forall (?p - piece) (and%s)))
+"""
+WHEN = "\n      (when (at ?p %s) (and (not (at ?p %s)) (at ?p %s)))"
+
+# Each lit lamp has to have a neighbour that is dark.
+LAMPS = """(define (domain lamps)
+  (:requirements :adl)
+  (:types lamp)
+  (:predicates (near ?a ?b - lamp) (lit ?a - lamp) (seen))
+  (:action look :parameters (?from - lamp)
+    :precondition (forall (?a - lamp) (imply (lit ?a) (exists (?b - lamp) (and (near ?a ?b) (not (lit ?b))))))
+    :effect (seen)))
+"""
+
 
 def problem(name, domain, objects, init, goal):
     return "(define (problem %s) (:domain %s)\n  (:objects %s)\n  (:init %s)\n  (:goal (and %s)))\n" % (
@@ -169,7 +192,29 @@ def large_problem(scale):
     yield "planner-0", ""
 
 
-# The name of a workload, what it is, and its files. A domain with functions is read in the dialect ipc.
+def turns(scale):
+    places = ["l%d" % number for number in range(8)]
+    cycles = [(0, 1, 2), (2, 3, 4), (4, 5, 6), (6, 7, 0)]
+    actions = []
+    for number, cycle in enumerate(cycles):
+        around = [places[at] for at in cycle]
+        actions.append(TURN % (number, "".join(WHEN % (here, here, there) for here, there in zip(around, around[1:] + around[:1]))))
+    yield "domain.pddl", CUBE % (" ".join(places), "".join(actions).rstrip("\n"))
+    yield "problem.pddl", problem("cube-1", "cube", " ".join("p%d" % number for number in range(8)) + " - piece",
+                                  ["(at p%d l%d)" % (number, number) for number in range(8)], [])
+    rng = random.Random(8)
+    yield "planner-0", plain("turn-%d" % rng.randrange(4) for _ in range(int(100000 * scale)))
+
+
+def looks(scale):
+    names = ["a%d" % number for number in range(100)]
+    init = ["(near %s %s)" % (name, names[(at + 37) % 100]) for at, name in enumerate(names)] + ["(lit %s)" % name for name in names[::2]]
+    yield "domain.pddl", LAMPS
+    yield "problem.pddl", problem("lamps-1", "lamps", " ".join(names) + " - lamp", init, ["(seen)"])
+    yield "planner-0", plain("look %s" % names[at % 100] for at in range(int(20000 * scale)))
+
+
+# The name of a workload, what it is, and its files. A domain with functions is read in the dialect ipc, and one with `forall` in adl.
 WORKLOADS = [
     ("many", "10,000 plans of 100 steps by 5 planners", on_a_grid(8, 5, 2000, 100, plain)),
     ("costs", "many, where each action has a cost", on_a_grid(8, 5, 2000, 100, plain, COSTLY)),
@@ -182,4 +227,6 @@ WORKLOADS = [
     ("types", "500,000 steps over types 1,000 deep", deep_types),
     ("arguments", "120,000 steps of 14 arguments", many_arguments),
     ("parse", "a problem of 62,500 objects and 310,000 initial atoms, and an empty plan", large_problem),
+    ("cube", "100,000 steps of 24 conditional effects", turns),
+    ("lamps", "20,000 steps with two quantifiers over 100 objects, one inside the other", looks),
 ]
