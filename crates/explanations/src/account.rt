@@ -3,7 +3,7 @@
 //! In a text for people, each formula is on a line of its own, with what does not hold inside it below. In records, it is an object, and so is each of its
 //! parts.
 
-use crate::formulas::{Instance, push_formula};
+use crate::formulae::{Instance, push_formula};
 use crate::page::{Page, object_name};
 use crate::plans::JudgedPlan;
 use strips_task::{Formula, VariableGroup};

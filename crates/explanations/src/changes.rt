@@ -1,6 +1,6 @@
 //! The step that changed an atom last.
 
-use crate::formulas::{Instance, push_formula};
+use crate::formulae::{Instance, push_formula};
 use crate::page::Page;
 use crate::plans::JudgedPlan;
 use crate::positions::bytes_at;

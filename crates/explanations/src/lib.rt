@@ -39,7 +39,7 @@ mod evaluation;
 mod expected;
 mod faults;
 mod forms;
-mod formulas;
+mod formulae;
 mod hints;
 mod keywords;
 mod library;

@@ -8,7 +8,7 @@
 
 use crate::Phrases;
 use crate::answers::push_plan_text;
-use crate::formulas::{Instance, push_formula};
+use crate::formulae::{Instance, push_formula};
 use crate::library::Library;
 use crate::page::Page;
 use crate::plans::{JudgedPlan, PlanAt, push_why};

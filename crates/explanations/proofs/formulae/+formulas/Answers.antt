@@ -3,7 +3,7 @@ use denote.Param.Weighed.{most}
 use Rattle.formulas.specs.Tree.{height}
 use Rattle.formulas.specs.declared.formula.Formula.TheDeep.{size-Formula, deep-Node}
 use Rattle.formulas.proofs.Sizes.{list_smaller}
-use Rattle.explanations.proofs.formulas.+formulas.Goals as goal
+use Rattle.explanations.proofs.formulae.+formulas.Goals as goal
 
 pub put_formula-put_parts-requires : goal.put_formula-put_parts-requires
 put_formula-put_parts-requires t c = (
