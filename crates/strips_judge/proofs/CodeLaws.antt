@@ -1,11 +1,12 @@
 -- Codes: what atoms and their numbers say of each other, one by one, and what growth leaves of it.
 
-use Rattle.std.proofs.Common.{◌≡◌, ◌<◌, ◌≤◌, ◌+◌, ◌↔◌, ℕ, zero, suc, Bool, true, false, not, nat_eq, List, [], ◌∷◌, ◌++◌, Option, Some, None, All, IsTrue, refl, ap, sym, ◌∙◌, length, map, slice_get, take, get_or, subst, ⊎_elim, arith}
+use Rattle.std.proofs.Common.{◌≡◌, ◌==◌, ◌<◌, ◌≤◌, ◌+◌, ◌↔◌, ℕ, zero, suc, Bool, true, false, not, cond, nat_eq, List, [], ◌∷◌, ◌++◌, Option, Some, None, All, IsTrue, refl, ap, sym, ◌∙◌, length, map, slice_get, take, get_or, subst, append-nil, ⊎_elim, arith, tests}
 use Rattle.std.specs.Option.{option_or}
 use Rattle.std.proofs.Math.Bool.{not-not}
 use Rattle.std.proofs.lemmas.List.{take_all, map-append}
 use Rattle.std.proofs.lemmas.Option.{get_or_from_slice_get, slice_get_cases, slice_get-get_or}
 use Rattle.std.proofs.lemmas.List.Elements.{All-append, All-nil, All-cons, All-push, All-pop}
+use Rattle.bit_rows.specs.Rows.{row_has}
 use Rattle.formulas.specs.declared.atoms.Atom.{Atom}
 use Rattle.formulas.specs.declared.terms.Term.{Term}
 use Rattle.formulas.specs.declared.terms.Pattern.{Pattern}
@@ -15,11 +16,13 @@ use Rattle.formulas.specs.Tree.{Tree, atom, equality}
 use Rattle.strips_task.specs.declared.actions.Action.{Action}
 use Rattle.strips_task.specs.declared.steps.StepText.{StepText}
 use Rattle.strips_task.specs.declared.tasks.TaskParts.{TaskParts}
-use Rattle.strips_judge.specs.Codes.{Code, AreNumbers, AsksFor, IsCode, asking_more}
+use Rattle.strips_judge.specs.declared.programs.Instruction.{Instruction}
+use Rattle.strips_judge.specs.Codes.{Code, AreNumbers, AsksFor, IsCode, asking_more, numbers_by}
 use Rattle.strips_judge.specs.Grounding.{ground}
 use Rattle.strips_judge.specs.Step.{deletes, deletes_by, adds, adds_by, action_named, objects_named, fault_by, hindrance, after, after_by, precondition, missing, missing_why}
 use Rattle.strips_task.specs.AtomNumbers.{number_in}
-use Rattle.strips_judge.specs.NumberedState.{KeepsNumbers}
+use Rattle.strips_judge.specs.NumberedState.{Numbered, KeepsNumbers, bit_of, state_of}
+use Rattle.strips_judge.specs.Programs.{AreBitsOf, numbers_changed}
 use Rattle.strips_judge.specs.State.{State, is_in, holds, after_effects, without, with_all}
 use Rattle.strips_judge.proofs.Applicable.{missing_from_satisfied}
 use Rattle.strips_task.proofs.Numbering.{number_in-lt}
@@ -63,9 +66,30 @@ numbers_within atoms (a ∷ more) (n ∷ ns) e =
     let rest : map (number_in atoms) more ≡ map Some ns = cc in
     All-cons (λ k. k < length atoms) n ns (number_in-lt atoms a n here) (numbers_within atoms more ns rest)
 
--- the added atoms of a code have numbers
-pub added_within : (parts : TaskParts) (atoms : List Atom) (step : StepText) (code : Code) → IsCode parts atoms step code → All (λ n. n < length atoms) code.added
-added_within parts atoms step code is = numbers_within atoms (adds parts (is_in []) step) code.added (is.added (is_in []))
+-- what a bit says of an atom with a number; another one is false
+abbrev bit_by : (ℕ → Bool) → Option ℕ → Bool
+bit_by bits (Some number) = bits number
+bit_by bits None = false
+
+-- the atoms that a code adds have numbers, whatever the bits are
+pub added_within : (parts : TaskParts) (atoms : List Atom) (step : StepText) (code : Code) → IsCode parts atoms step code → (bits : ℕ → Bool) → All (λ n. n < length atoms) (numbers_by bits true code)
+added_within parts atoms step code is bits =
+    let state : State = λ atom. bit_by bits (number_in atoms atom) in
+    numbers_within atoms (adds parts state step) (numbers_by bits true code) (is.added state bits (λ atom number e. sym (ap (bit_by bits) e)))
+
+-- a list is empty if its length says so
+pub nothing_in : {X : Type 0} (xs : List X) (is_empty : Bool) → is_empty ≡ (length xs == 0) → is_empty ≡ true → xs ≡ []
+nothing_in [] is_empty e full = refl
+nothing_in (x ∷ xs) is_empty e empty = absurd (grind (arith, tests, sym e ∙ empty))
+
+-- the bits of a state
+pub bits_of_state : (kept : Numbered) → AreBitsOf kept.atoms (state_of kept) (row_has kept.bits)
+bits_of_state kept = λ atom number e. sym (ap (bit_of kept.bits) e)
+
+-- without a program, a code changes the same atoms in every state
+pub without_program : (code : Code) → code.program ≡ [] → (bits : ℕ → Bool) (truth : Bool) → numbers_by bits truth code ≡ cond truth code.added code.deleted
+without_program code none bits true = ap (λ program. code.added ++ numbers_changed bits true 0 program) none ∙ append-nil code.added
+without_program code none bits false = ap (λ program. code.deleted ++ numbers_changed bits false 0 program) none ∙ append-nil code.deleted
 
 -- growth leaves numbers, what a code asks for, and codes
 pub numbers_kept : (old new : List Atom) → KeepsNumbers old new → (ground : List Atom) (numbers : List ℕ) → AreNumbers old ground numbers → AreNumbers new ground numbers
@@ -88,9 +112,9 @@ asks_kept parts old new keep conditions code h =
     }
 
 -- what a code asks for is not what it does
-pub asks_whatever : (parts : TaskParts) (atoms : List Atom) (conditions : List Tree) (code : Code) (deleted added : List ℕ) → AsksFor parts atoms conditions code
-    → AsksFor parts atoms conditions (record code { deleted = deleted; added = added })
-asks_whatever parts atoms conditions code deleted added h =
+pub asks_whatever : (parts : TaskParts) (atoms : List Atom) (conditions : List Tree) (code : Code) (deleted added : List ℕ) (program : List Instruction) → AsksFor parts atoms conditions code
+    → AsksFor parts atoms conditions (record code { deleted = deleted; added = added; program = program })
+asks_whatever parts atoms conditions code deleted added program h =
     record { trues = h.trues; falses = h.falses; needed = h.needed; forbidden = h.forbidden; exactly = h.exactly }
 
 pub code_kept : (parts : TaskParts) (old new : List Atom) → KeepsNumbers old new → (step : StepText) (code : Code) → IsCode parts old step code → IsCode parts new step code
@@ -98,8 +122,8 @@ code_kept parts old new keep step code h =
     record {
       faultless = h.faultless;
       asks = asks_kept parts old new keep (precondition parts step) code h.asks;
-      deleted = λ state. numbers_kept old new keep (deletes parts state step) code.deleted (h.deleted state);
-      added = λ state. numbers_kept old new keep (adds parts state step) code.added (h.added state);
+      deleted = λ state bits are. numbers_kept old new keep (deletes parts state step) (numbers_by bits false code) (h.deleted state bits (λ atom number e. are atom number (keep atom number e)));
+      added = λ state bits are. numbers_kept old new keep (adds parts state step) (numbers_by bits true code) (h.added state bits (λ atom number e. are atom number (keep atom number e)));
     }
 
 module _ (atoms : List Atom) (ground : List Atom) (numbers : List ℕ) (i : ℕ) (same : AreNumbers atoms ground numbers) (lt : i < length numbers) where

@@ -172,7 +172,7 @@ popped outer inner left object count all is rest =
     ∙ ap (λ n. take n (outer ++ object ∷ [])) (let e : length (outer ++ object ∷ []) - 1 ≡ length outer = omega (arith, length-append outer (object ∷ [])) in e)
     ∙ take-append_seam outer (object ∷ [])
 
-range_more : (a n : ℕ) → range_with_len a (suc n) ≡ range_with_len a n ++ (a + n) ∷ []
+pub range_more : (a n : ℕ) → range_with_len a (suc n) ≡ range_with_len a n ++ (a + n) ∷ []
 range_more a zero = ap (λ k. k ∷ []) (let e : a ≡ a + 0 = omega arith in e)
 range_more a (suc n) = ap (λ l. a ∷ l) (range_more (a + 1) n ∙ ap (λ k. range_with_len (a + 1) n ++ k ∷ []) (let e : a + 1 + n ≡ a + suc n = omega arith in e))
 

@@ -5,6 +5,7 @@ pub mod NumberedLaws
 pub mod AtomsFound
 pub mod SingleCells
 pub mod CodeLaws
+pub mod CompiledEffects
 pub mod Fits
 pub mod Weights
 pub mod VariableTypes
@@ -12,6 +13,8 @@ pub mod Evaluations
 pub mod EffectWeights
 pub mod ActionEffects
 pub mod Gathering
+pub mod NoChoices
+pub mod Instructions
 pub mod Growth
 pub mod Runs
 pub mod Searches

@@ -4,7 +4,7 @@ use Rattle.std.proofs.Common.{◌≡◌, ℕ, ◌+◌, ◌*◌, ◌<◌, ◌≤�
 use Rattle.formulas.specs.Tree.{Tree, atom, equality, negation, conjunction, disjunction, implication, exists, for_all, Parts, no_parts, part, parts_of}
 use Rattle.formulas.specs.Variables.{variable_types}
 
--- four calls for each variable of a quantifier, and two around the parts of every formula
+-- four calls for each variable of a quantifier, and two or three around the parts of every formula
 abbrev mutual
   pub weight : Tree → ℕ
   weight (atom positive pattern) = 0
@@ -13,8 +13,8 @@ abbrev mutual
   weight (conjunction parts) = most_weight parts + 2
   weight (disjunction parts) = most_weight parts + 2
   weight (implication premise conclusion) = max (weight premise) (weight conclusion) + 2
-  weight (exists groups body) = weight body + 4 * length (variable_types groups) + 2
-  weight (for_all groups body) = weight body + 4 * length (variable_types groups) + 2
+  weight (exists groups body) = weight body + 4 * length (variable_types groups) + 3
+  weight (for_all groups body) = weight body + 4 * length (variable_types groups) + 3
 
   pub most_weight : Parts → ℕ
   most_weight no_parts = 0

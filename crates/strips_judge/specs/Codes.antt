@@ -6,21 +6,24 @@ use Rattle.formulas.specs.Tree.{Tree}
 use Rattle.strips_task.specs.declared.steps.StepText.{StepText}
 use Rattle.strips_task.specs.declared.tasks.TaskParts.{TaskParts}
 use Rattle.strips_judge.specs.declared.codes.StepCode.{StepCode}
+use Rattle.strips_judge.specs.declared.programs.Instruction.{Instruction}
 use Rattle.strips_task.specs.AtomNumbers.{number_in}
+use Rattle.strips_judge.specs.Programs.{AreBitsOf, numbers_changed}
 use Rattle.strips_judge.specs.State.{State}
 use Rattle.strips_judge.specs.Step.{fault, precondition, deletes, adds}
 use Rattle.strips_judge.specs.Validity.{Satisfies}
 
--- the numbers of the atoms that a step needs to be true and to be false, and of those that it deletes and adds
+-- the numbers of the atoms that a step needs to be true and to be false, and of those that it always deletes and adds, and a program that finds the others
 pub record Code : Type 0 where
   pub needed : List ℕ
   pub forbidden : List ℕ
   pub deleted : List ℕ
   pub added : List ℕ
+  pub program : List Instruction
 
 -- the code that is borrowed
 abbrev pub code_shown : StepCode → Code
-code_shown code = record { needed = code.needed.now; forbidden = code.forbidden.now; deleted = code.deleted.now; added = code.added.now }
+code_shown code = record { needed = code.needed.now; forbidden = code.forbidden.now; deleted = code.deleted.now; added = code.added.now; program = code.program.now }
 
 -- these are the numbers of these atoms
 abbrev pub AreNumbers : List Atom → List Atom → List ℕ → Type 0
@@ -35,13 +38,17 @@ pub record AsksFor (parts : TaskParts) (atoms : List Atom) (conditions : List Tr
   pub forbidden : AreNumbers atoms falses code.forbidden
   pub exactly : (state : State) → (All (λ atom. state atom ≡ true) trues × All (λ atom. state atom ≡ false) falses) ↔ Satisfies parts state conditions
 
--- this is the code of a step, if atoms have these numbers: the step has no fault, and in every state the code asks and does what the step asks and does. So
--- only a step that does the same in every state has a code
+-- the numbers of the atoms that a code makes true in the state of these bits, or with `truth` false of those that it makes false
+abbrev pub numbers_by : (ℕ → Bool) → Bool → Code → List ℕ
+numbers_by bits true code = code.added ++ numbers_changed bits true 0 code.program
+numbers_by bits false code = code.deleted ++ numbers_changed bits false 0 code.program
+
+-- this is the code of a step, if atoms have these numbers: the step has no fault, and in every state the code asks and does what the step asks and does
 pub record IsCode (parts : TaskParts) (atoms : List Atom) (step : StepText) (code : Code) : Type 0 where
   pub faultless : fault parts step ≡ None
   pub asks : AsksFor parts atoms (precondition parts step) code
-  pub deleted : (state : State) → AreNumbers atoms (deletes parts state step) code.deleted
-  pub added : (state : State) → AreNumbers atoms (adds parts state step) code.added
+  pub deleted : (state : State) (bits : ℕ → Bool) → AreBitsOf atoms state bits → AreNumbers atoms (deletes parts state step) (numbers_by bits false code)
+  pub added : (state : State) (bits : ℕ → Bool) → AreBitsOf atoms state bits → AreNumbers atoms (adds parts state step) (numbers_by bits true code)
 
 -- the code that asks for one more atom
 abbrev pub asking_more : Code → Bool → ℕ → Code

@@ -38,6 +38,11 @@ abbrev pub only_deleted : Atom → Found
 only_deleted atom true = []
 only_deleted atom false = atom ∷ []
 
+-- one atom becomes true, or false
+abbrev pub changed_alone : Bool → Atom → Found
+changed_alone true atom = only_added atom
+changed_alone false atom = only_deleted atom
+
 -- what is found, and then more
 abbrev pub and_then : Found → Found → Found
 and_then found more truth = found truth ++ more truth

@@ -2,23 +2,30 @@
 //!
 //! The same steps occur in many plans of a task. For a step whose code is known, no word and no atom need be looked up: its code is tested
 //! and taken bit by bit. A code holds only what depends on the state. A step with a fault, or with an equality that does not hold,
-//! is not applicable in any state, and has no code. Nor has a step whose precondition has anything but literals, or one with an effect under `when` or
-//! `forall`.
-ghost use Rattle.std.specs.Prelude.{◌≡◌, ◌<◌, ◌∷◌, [], ◌++◌, List, Some, None, true, false, Bool, map, length, All, IsTrue, IfOk, IfSome, OnOk, OnErr};
+//! is not applicable in any state, and has no code. Nor has a step whose precondition has anything but literals, or one with effects under `when` or
+//! `forall` that have no program.
+ghost use Rattle.std.specs.Prelude.{◌≡◌, ◌<◌, ◌∷◌, [], ◌++◌, ℕ, List, Some, None, true, false, Bool, map, length, All, IsTrue, IfOk, IfSome, OnOk, OnErr};
+ghost use Rattle.bit_rows.specs.Rows.{row_has};
 ghost use Rattle.formulas.specs.declared.atoms.Atom.{Atom};
 ghost use Rattle.formulas.specs.Grounding.{with_objects};
 ghost use Rattle.formulas.specs.Tree.{Tree};
-ghost use Rattle.formulas.specs.Within.{IsPatternWithin, IsWithin};
+ghost use Rattle.formulas.specs.Meaning.{atom_of};
+ghost use Rattle.formulas.specs.Within.{IsEffectWithin, IsPatternWithin, IsWithin};
 ghost use Rattle.strips_task.specs.declared.steps.StepText.{StepText};
 ghost use Rattle.strips_task.specs.declared.tasks.TaskParts.{TaskParts};
-ghost use Rattle.strips_judge.specs.Codes.{AreNumbers, AsksFor, IsCode, asking_more, code_shown};
+ghost use Rattle.strips_judge.specs.Codes.{AreNumbers, AsksFor, IsCode, asking_more, code_shown, numbers_by};
 ghost use Rattle.strips_judge.specs.Grounding.{ground};
 ghost use Rattle.strips_task.specs.AtomNumbers.{number_in};
 ghost use Rattle.strips_judge.specs.NumberedState.{Grows, state_of};
-ghost use Rattle.strips_judge.specs.State.{State, with_all, without};
+ghost use Rattle.strips_judge.specs.Programs.{AreBitsOf};
+ghost use Rattle.strips_judge.specs.State.{State, after_effects, with_all, without};
 ghost use Rattle.strips_judge.specs.Step.{hindrance, after, deletes_by, adds_by};
 
+use crate::compiling::compile_all;
+use crate::effects::Arguments;
 use crate::evaluation::equality_holds;
+use crate::programs::{Instruction, run};
+use crate::scratch::{Changes, Room, Scratch};
 use crate::state::NumberedState;
 use std::alloc::{AllocError, Global};
 use std::marker::Model;
@@ -35,6 +42,8 @@ pub struct StepCode<'c> {
     pub deleted: &'c [u32],
     /// The atoms that are true afterwards.
     pub added: &'c [u32],
+    /// Finds the other atoms that are false or true afterwards.
+    pub program: &'c [Instruction],
 }
 
 /// Room for one code, used again for each step. Contracts see the code.
@@ -43,6 +52,7 @@ pub struct CodeBuffer {
     forbidden: Vec<u32>,
     deleted: Vec<u32>,
     added: Vec<u32>,
+    program: Vec<Instruction>,
 }
 
 impl Drop for CodeBuffer {
@@ -52,6 +62,7 @@ impl Drop for CodeBuffer {
             forbidden: _,
             deleted: _,
             added: _,
+            program: _,
         } = self;
     }
 }
@@ -61,7 +72,7 @@ impl Model for CodeBuffer {
 
     ghost Value = { Code };
 
-    ghost view = { λ c. record { needed = c.needed.items; forbidden = c.forbidden.items; deleted = c.deleted.items; added = c.added.items } };
+    ghost view = { λ c. record { needed = c.needed.items; forbidden = c.forbidden.items; deleted = c.deleted.items; added = c.added.items; program = c.program.items } };
 }
 
 impl CodeBuffer {
@@ -72,6 +83,7 @@ impl CodeBuffer {
             forbidden: Vec::new(alloc),
             deleted: Vec::new(alloc),
             added: Vec::new(alloc),
+            program: Vec::new(alloc),
         }
     }
 
@@ -84,6 +96,7 @@ impl CodeBuffer {
             forbidden: self.forbidden.as_slice(),
             deleted: self.deleted.as_slice(),
             added: self.added.as_slice(),
+            program: self.program.as_slice(),
         }
     }
 
@@ -108,25 +121,60 @@ impl CodeBuffer {
     }
 }
 
-/// Takes a step by its code if everything that the code asks for holds, and otherwise changes nothing. Returns whether it did. Takes no memory.
+/// Takes a step by its code if everything that the code asks for holds, and otherwise changes nothing. Returns whether it did. If memory runs out, nothing
+/// is changed.
+///
+/// Takes memory only for the numbers that a program finds, in the room that is used again for each step.
 #[inline(always)]
-pub fn take_by_code(state: &mut NumberedState<'_>, code: StepCode<'_>) -> bool
-    requires { All (λ number. number < length state.old.atoms) (code_shown code).added }
-    ensures taken { IsTrue result → (parts : TaskParts) (step : StepText) → IsCode parts state.old.atoms step (code_shown code.entry)
-        → (hindrance parts (state_of state.old) step ≡ None) × (state_of state.new ≡ after parts (state_of state.old) step) }
-    ensures not { result ≡ false → state_of state.new ≡ state_of state.old }
+pub fn take_by_code(
+    state: &mut NumberedState<'_>,
+    code: StepCode<'_>,
+    scratch: &mut Scratch,
+) -> Result<bool, AllocError>
+    requires { (bits : ℕ → Bool) → All (λ number. number < length state.old.atoms) (numbers_by bits true (code_shown code)) }
+    ensures taken { IfOk result (λ taken. IsTrue taken → (parts : TaskParts) (step : StepText) → IsCode parts state.old.atoms step (code_shown code.entry)
+        → (hindrance parts (state_of state.old) step ≡ None) × (state_of state.new ≡ after parts (state_of state.old) step)) }
+    ensures not { IfOk result (λ taken. taken ≡ false → state_of state.new ≡ state_of state.old) }
     ensures atoms { state.new.atoms ≡ state.old.atoms }
     ensures initial { state.new.initial ≡ state.old.initial }
 {
     if !all_are(state, code.needed, true) {
-        return false;
+        return Ok(false);
     }
     if !all_are(state, code.forbidden, false) {
-        return false;
+        return Ok(false);
+    }
+    if !code.program.is_empty() {
+        change_by_program(state, code, &mut scratch.changes)?;
+        return Ok(true);
     }
     clear_all(state, code.deleted);
     set_all(state, code.added);
-    true
+    Ok(true)
+}
+
+/// Changes what a code with a program changes, all at once.
+#[inline(never)]
+fn change_by_program(
+    state: &mut NumberedState<'_>,
+    code: StepCode<'_>,
+    changes: &mut Changes,
+) -> Result<(), AllocError>
+    requires { (bits : ℕ → Bool) → All (λ number. number < length state.old.atoms) (numbers_by bits true (code_shown code)) }
+    ensures state { OnOk result ((deletes adds : List Atom) → AreNumbers state.old.atoms deletes (numbers_by (row_has state.old.bits) false (code_shown code.entry))
+        → AreNumbers state.old.atoms adds (numbers_by (row_has state.old.bits) true (code_shown code.entry))
+        → state_of state.new ≡ after_effects (state_of state.old) deletes adds) }
+    ensures atoms { state.new.atoms ≡ state.old.atoms }
+    ensures initial { state.new.initial ≡ state.old.initial }
+{
+    changes.deleted.clear();
+    changes.deleted.extend_from_slice(code.deleted)?;
+    changes.added.clear();
+    changes.added.extend_from_slice(code.added)?;
+    run(state, code.program, changes)?;
+    clear_all(state, changes.deleted.as_slice());
+    set_all(state, changes.added.as_slice());
+    Ok(())
 }
 
 /// Whether all atoms with these numbers are true, or all are false.
@@ -168,6 +216,37 @@ pub(crate) fn set_all(state: &mut NumberedState<'_>, numbers: &[u32])
 /// Puts the code of an action with these objects into a buffer, if it has one.
 pub(crate) fn code_of_action(
     alloc: Global,
+    arguments: Arguments<'_>,
+    action: &Action,
+    state: &mut NumberedState<'_>,
+    room: &mut Room,
+    code: &mut CodeBuffer,
+) -> Result<bool, AllocError>
+    requires pre { All (IsWithin (length arguments.objects.now) 0) action.now.pre }
+    requires del { All (IsPatternWithin (length arguments.objects.now) 0) action.now.del }
+    requires add { All (IsPatternWithin (length arguments.objects.now) 0) action.now.add }
+    requires effects { All (IsEffectWithin (length arguments.objects.now) 0) action.now.effects }
+    ensures asks { IfOk result (λ found. IsTrue found → (parts : TaskParts) → AsksFor parts state.new.atoms (map (with_objects arguments.entry.objects.now []) action.now.pre) code.new) }
+    ensures deleted { IfOk result (λ found. IsTrue found → (before : State) (bits : ℕ → Bool) → AreBitsOf state.new.atoms before bits
+        → AreNumbers state.new.atoms (deletes_by arguments.entry.task.now arguments.entry.objects.now before (Some action.now)) (numbers_by bits false code.new)) }
+    ensures added { IfOk result (λ found. IsTrue found → (before : State) (bits : ℕ → Bool) → AreBitsOf state.new.atoms before bits
+        → AreNumbers state.new.atoms (adds_by arguments.entry.task.now arguments.entry.objects.now before (Some action.now)) (numbers_by bits true code.new)) }
+    ensures state { state_of state.new ≡ state_of state.old }
+    ensures grows { Grows state.old state.new }
+{
+    let objects = arguments.objects;
+    if !plain_code(alloc, action, objects, state, &mut room.atom, code)? {
+        return Ok(false);
+    }
+    room.bound.clear();
+    code.program.clear();
+    let effects = action.effects.as_slice();
+    compile_all(alloc, arguments, state, effects, room, &mut code.program)
+}
+
+/// Puts what an action with these objects asks for, and what it always deletes and adds, into a buffer, if it asks for literals alone.
+fn plain_code(
+    alloc: Global,
     action: &Action,
     objects: &[u16],
     state: &mut NumberedState<'_>,
@@ -178,16 +257,11 @@ pub(crate) fn code_of_action(
     requires del { All (IsPatternWithin (length objects.now) 0) action.now.del }
     requires add { All (IsPatternWithin (length objects.now) 0) action.now.add }
     ensures asks { IfOk result (λ found. IsTrue found → (parts : TaskParts) → AsksFor parts state.new.atoms (map (with_objects objects.now []) action.now.pre) code.new) }
-    ensures deleted { IfOk result (λ found. IsTrue found → (parts : TaskParts) (before : State)
-        → AreNumbers state.new.atoms (deletes_by parts objects.now before (Some action.now)) code.new.deleted) }
-    ensures added { IfOk result (λ found. IsTrue found → (parts : TaskParts) (before : State)
-        → AreNumbers state.new.atoms (adds_by parts objects.now before (Some action.now)) code.new.added) }
+    ensures deleted { IfOk result (λ found. IsTrue found → AreNumbers state.new.atoms (map (ground objects.now) action.now.del) code.new.deleted) }
+    ensures added { IfOk result (λ found. IsTrue found → AreNumbers state.new.atoms (map (ground objects.now) action.now.add) code.new.added) }
     ensures state { state_of state.new ≡ state_of state.old }
     ensures grows { Grows state.old state.new }
 {
-    if !action.effects.is_empty() {
-        return Ok(false);
-    }
     if !ask_all(alloc, action.pre.as_slice(), objects, state, atom, code)? {
         return Ok(false);
     }
@@ -240,7 +314,7 @@ fn ask_one(
 {
     match condition.node() {
         Node::Atom(positive, pattern) => {
-            let Some(number) = short_number(alloc, pattern, objects, state, atom)? else {
+            let Some(number) = short_number(alloc, pattern, objects, &[], state, atom)? else {
                 return Ok(false);
             };
             code.ask(*positive, number)?;
@@ -269,7 +343,7 @@ fn number_all(
 {
     numbers.clear();
     for pattern in patterns {
-        match short_number(alloc, pattern, objects, state, atom)? {
+        match short_number(alloc, pattern, objects, &[], state, atom)? {
             Some(number) => numbers.push(number)?,
             None => return Ok(false),
         }
@@ -278,17 +352,18 @@ fn number_all(
 }
 
 /// The number of the atom that a pattern stands for, if it fits in 32 bits. An atom without a number gets one.
-fn short_number(
+pub(crate) fn short_number(
     alloc: Global,
     pattern: &Pattern,
     objects: &[u16],
+    bound: &[u16],
     state: &mut NumberedState<'_>,
     atom: &mut Atom,
 ) -> Result<Option<u32>, AllocError>
-    requires { IsPatternWithin (length objects.now) 0 pattern.now }
-    ensures number { IfOk result (λ number. IfSome number (λ number. number_in state.new.atoms (ground objects.now pattern.now) ≡ Some number)) }
+    requires { IsPatternWithin (length objects.now) (length bound.now) pattern.now }
+    ensures number { IfOk result (λ number. IfSome number (λ number. number_in state.new.atoms (atom_of objects.now bound.now pattern.now) ≡ Some number)) }
     ensures state { state_of state.new ≡ state_of state.old }
     ensures grows { Grows state.old state.new }
 {
-    Ok(u32::try_from(state.number(alloc, pattern, objects, &[], atom)?).ok())
+    Ok(u32::try_from(state.number(alloc, pattern, objects, bound, atom)?).ok())
 }

@@ -13,7 +13,7 @@ ghost use Rattle.strips_judge.specs.Step.{after_by};
 
 use crate::arguments::object_fits;
 use crate::codes::{clear_all, set_all};
-use crate::evaluation::{evaluate, types_of};
+use crate::evaluation::{evaluate, have_objects, types_of};
 use crate::scratch::{Changes, Room};
 use crate::state::NumberedState;
 use std::alloc::{AllocError, Global};
@@ -28,9 +28,9 @@ pub(crate) struct Arguments<'a> {
 
 /// An effect under `forall`, with its variables.
 #[derive(Clone, Copy)]
-struct Quantified<'e> {
-    groups: &'e [VariableGroup],
-    body: &'e Effect,
+pub(crate) struct Quantified<'e> {
+    pub(crate) groups: &'e [VariableGroup],
+    pub(crate) body: &'e Effect,
 }
 
 /// Changes a state as an action with these objects does.
@@ -183,6 +183,9 @@ fn gather(
             gather(alloc, arguments, state, body, room, changes)
         }
         EffectNode::ForAll(groups, body) => {
+            if !have_objects(arguments.task, groups.as_slice()) {
+                return Ok(());
+            }
             let quantified = Quantified {
                 groups: groups.as_slice(),
                 body,

@@ -2,10 +2,10 @@
 //!
 //! A literal takes one look-up. In other formulas, nothing more is evaluated once the answer is known. A quantifier binds its variables one after the other,
 //! each to every object that fits, in one list that is used again and again.
-ghost use Rattle.std.specs.Prelude.{◌≡◌, ◌+◌, ◌≤◌, ◌∷◌, [], ◌++◌, All, Some, None, IfOk, IfNone, IfSome, OnOk, drop, length, nat_eq, slice_get};
+ghost use Rattle.std.specs.Prelude.{◌≡◌, ◌+◌, ◌≤◌, ◌∷◌, [], ◌++◌, ℕ, List, All, Some, None, false, IfOk, IfNone, IfSome, OnOk, drop, length, nat_eq, slice_get};
 ghost use Rattle.std.specs.List.{list_any};
 ghost use Rattle.formulas.specs.Meaning.{object_of, atom_of, signed};
-ghost use Rattle.formulas.specs.Variables.{variable_types};
+ghost use Rattle.formulas.specs.Variables.{extensions, variable_types};
 ghost use Rattle.formulas.specs.Within.{IsTermWithin, IsPatternWithin, IsWithin};
 ghost use Rattle.strips_judge.specs.Choices.{holds_bound, some_is, some_choice_gives};
 ghost use Rattle.strips_judge.specs.NumberedState.{state_of};
@@ -124,7 +124,7 @@ pub(crate) fn evaluate(
                 body,
                 truth: true,
             };
-            some_choice_gives(task, state, &quantified, 0, objects, room)
+            some_choice(task, state, &quantified, objects, room)
         }
         Node::ForAll(groups, body) => {
             let quantified = Quantified {
@@ -132,7 +132,7 @@ pub(crate) fn evaluate(
                 body,
                 truth: false,
             };
-            Ok(!some_choice_gives(task, state, &quantified, 0, objects, room)?)
+            Ok(!some_choice(task, state, &quantified, objects, room)?)
         }
     }
 }
@@ -158,6 +158,27 @@ fn some_is(
         }
     }
     Ok(false)
+}
+
+/// Whether a formula is true, or is false, for some choice of objects for its variables. If one of them has no object, nothing is evaluated.
+#[cycle(evaluate)]
+fn some_choice(
+    task: &Task,
+    state: &mut NumberedState<'_>,
+    quantified: &Quantified<'_>,
+    objects: &[u16],
+    room: &mut Room,
+) -> Result<bool, AllocError>
+    requires { IsWithin (length objects.now) (length room.old.bound.items + length (variable_types quantified.now.groups.now)) quantified.now.body.now }
+    ensures answer { IfOk result (λ answer. answer ≡ some_choice_gives task.now (state_of state.old) objects.now quantified.now.truth quantified.now.body.now
+        (variable_types quantified.now.groups.now) room.old.bound.items) }
+    ensures same { state.new ≡ state.old }
+    ensures bound { OnOk result (room.new.bound.items ≡ room.old.bound.items) }
+{
+    if !have_objects(task, quantified.groups) {
+        return Ok(false);
+    }
+    some_choice_gives(task, state, quantified, 0, objects, room)
 }
 
 /// Whether a formula is true, or is false, for some choice of objects for its variables from this one on.
@@ -235,6 +256,30 @@ fn object_gives(
     let answer = some_choice_gives(task, state, quantified, next, objects, room)?;
     room.bound.pop();
     Ok(answer)
+}
+
+/// Whether there is an object for each variable of these groups. Takes one pass over the objects for each group at most.
+pub(crate) fn have_objects(task: &Task, groups: &[VariableGroup]) -> bool
+    ensures { result ≡ false → (bound : List ℕ) → extensions (objects_of task.now) (variable_types groups.now) bound ≡ [] }
+{
+    for group in groups {
+        if !group.names.is_empty() && !has_object(task, group.types.as_slice()) {
+            return false;
+        }
+    }
+    true
+}
+
+/// Whether there is an object of one of these types, or of one below them.
+fn has_object(task: &Task, types: &[u16]) -> bool
+    ensures { result ≡ false → objects_of task.now types.now ≡ [] }
+{
+    for candidate in 0..task.object_count() as u16 {
+        if object_fits(task, types, candidate) {
+            return true;
+        }
+    }
+    false
 }
 
 /// The types of a variable, by its index in all groups.

@@ -21,6 +21,7 @@
 mod arguments;
 mod atom_keys;
 mod codes;
+mod compiling;
 mod conditions;
 mod effects;
 mod evaluation;
@@ -28,6 +29,7 @@ mod grounding;
 mod judging;
 pub mod laws;
 mod numbered_steps;
+mod programs;
 pub mod reasons;
 mod scratch;
 mod single_cells;
@@ -38,6 +40,7 @@ mod verdict;
 pub use codes::{CodeBuffer, StepCode, take_by_code};
 pub use judging::{judge, judge_goal, take_step};
 pub use numbered_steps::{code_of_numbered, take_numbered};
+pub use programs::Instruction;
 pub use scratch::Scratch;
 pub use state::NumberedState;
 pub use strips_task::{

@@ -79,7 +79,8 @@ pub fn code_of_numbered(
     let Some((action, objects)) = bound(task, numbers) else {
         return Ok(false);
     };
-    let found = code_of_action(alloc, action, objects, state, &mut scratch.room.atom, code)?;
+    let arguments = Arguments { task, objects };
+    let found = code_of_action(alloc, arguments, action, state, &mut scratch.room, code)?;
     Ok(found)
 }
 

@@ -4,6 +4,7 @@
 //! with a row of ones and hashes none of them. Atoms that come up later get the next numbers, and numbers never change: a state that is
 //! reset for another plan keeps them. Steps change the bits in place. An atom without a number is false.
 ghost use Rattle.std.specs.Prelude.{◌≡◌, ◌∷◌, [], ◌++◌, ◌<◌, ◌≤◌, ◌+◌, ◌*◌, ◌^◌, ℕ, true, false, None, Some, IfNone, IfOk, IfSome, OnErr, OnOk, length, slice_index_or};
+ghost use Rattle.bit_rows.specs.Rows.{row_has};
 ghost use Rattle.formulas.specs.Meaning as meaning;
 ghost use Rattle.formulas.specs.Within.{IsPatternWithin};
 ghost use Rattle.formulas.specs.declared.atoms.Atom.{Atom};
@@ -359,7 +360,8 @@ impl NumberedState<'_> {
 
     /// Whether the atom with a number is true.
     pub(crate) fn has(&self, number: usize) -> bool
-        ensures { (atom : Atom) → number_in self.now.atoms atom ≡ Some number → result ≡ state_of self.now atom }
+        ensures bit { result ≡ row_has self.now.bits number }
+        ensures truth { (atom : Atom) → number_in self.now.atoms atom ≡ Some number → result ≡ state_of self.now atom }
     {
         self.bits.has(number)
     }

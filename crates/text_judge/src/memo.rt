@@ -1,8 +1,8 @@
 //! The table of known steps.
 //!
 //! A step is found by the bytes that spell it: one hash with two secret numbers, since planners choose the bytes, then one slot of the
-//! table after the other up to an empty one. The bytes of all keys are in one buffer and the numbers of all codes in another, so that a
-//! step that is learned takes no memory of its own. All of it grows as steps are learned, up to bounds.
+//! table after the other up to an empty one. The bytes of all keys are in one buffer, and the numbers and the instructions of all codes in two others, so
+//! that a step that is learned takes no memory of its own. All of it grows as steps are learned, up to bounds.
 ghost use Rattle.std.specs.Prelude.{◌≡◌, ◌+◌, ◌<◌, ◌≤◌, ◌^◌, ◌∷◌, ◌++◌, [], ℕ, List, false, length, slice_get, slice_range, Some, All, IsTrue, IfSome, IfOk, OnErr, vec_capacity, vec_len};
 ghost use Rattle.strips_judge.specs.Codes.{code_shown};
 ghost use Rattle.text_judge.specs.Known.{known_at, IsEntry, IsEntryFor};
@@ -12,7 +12,7 @@ use pddl_words::{KeyedHash, are_same};
 use std::alloc::{AllocError, Global};
 use std::hash::BuildHasher;
 use std::marker::Model;
-use strips_judge::StepCode;
+use strips_judge::{Instruction, StepCode};
 use strips_task::Seed;
 
 /// How many slots a table has at first.
@@ -21,7 +21,8 @@ const FIRST_SLOTS: usize = 64;
 /// What is in an empty slot. It is the number of no step.
 const EMPTY: u32 = u32::MAX;
 
-/// Where a known step is kept: its key among the bytes, and its code among the numbers, the four lists of the code one after the other.
+/// Where a known step is kept: its key among the bytes, and its code among the numbers, the four lists of the code one after the other, and among the
+/// instructions.
 #[derive(Clone, Copy)]
 pub(crate) struct Entry {
     pub hash: u64,
@@ -33,6 +34,8 @@ pub(crate) struct Entry {
     pub forbidden_end: u32,
     pub deleted_end: u32,
     pub end: u32,
+    pub program_start: u32,
+    pub program_end: u32,
 }
 
 /// What is known of a step.
@@ -48,8 +51,10 @@ pub(crate) struct Memo {
     limits: MemoLimits,
     /// All keys.
     bytes: Vec<u8>,
-    /// All codes.
+    /// The lists of all codes.
     numbers: Vec<u32>,
+    /// The programs of all codes.
+    instructions: Vec<Instruction>,
     entries: Vec<Entry>,
     /// The slots of the table: in the slot of its hash, or in the next free one, the number of an entry. Their count is a power of two.
     slots: Vec<u32>,
@@ -62,6 +67,7 @@ impl Drop for Memo {
             limits: _,
             bytes: _,
             numbers: _,
+            instructions: _,
             entries: _,
             slots: _,
         } = self;
@@ -74,9 +80,9 @@ impl Model for Memo {
 
     ghost Value = { List Known };
 
-    ghost view = { λ m. map (known_at m.bytes.items m.numbers.items) m.entries.items };
+    ghost view = { λ m. map (known_at m.bytes.items m.numbers.items m.instructions.items) m.entries.items };
 
-    ghost invariant = { λ m. All (IsEntry (length m.bytes.items) (length m.numbers.items)) m.entries.items };
+    ghost invariant = { λ m. All (IsEntry (length m.bytes.items) (length m.numbers.items) (length m.instructions.items)) m.entries.items };
 }
 
 impl Memo {
@@ -92,6 +98,7 @@ impl Memo {
             limits,
             bytes: Vec::new(alloc),
             numbers: Vec::new(alloc),
+            instructions: Vec::new(alloc),
             entries: Vec::new(alloc),
             slots: Vec::new(alloc),
         }
@@ -105,6 +112,7 @@ impl Memo {
         self.slots.clear();
         self.bytes.clear();
         self.numbers.clear();
+        self.instructions.clear();
     }
 
     /// The known step that a key spells, with one hash.
@@ -115,7 +123,11 @@ impl Memo {
     {
         let hash = self.hash.of(key);
         match find_entry(hash, key, &self.slots, &self.entries, &self.bytes) {
-            Some(number) => Some(known_step(&self.entries[number], &self.numbers)),
+            Some(number) => Some(known_step(
+                &self.entries[number],
+                &self.numbers,
+                &self.instructions,
+            )),
             None => None,
         }
     }
@@ -133,15 +145,12 @@ impl Memo {
         ensures err { OnErr result (self.new ≡ self.old) }
     {
         let hash = self.hash.of(key);
-        let Some(entry) = entry_for(
-            hash,
-            amount,
-            key,
-            code,
-            self.bytes.len(),
-            self.numbers.len(),
-            self.limits,
-        ) else {
+        let lengths = Lengths {
+            bytes: self.bytes.len(),
+            numbers: self.numbers.len(),
+            instructions: self.instructions.len(),
+        };
+        let Some(entry) = entry_for(hash, amount, key, code, lengths, self.limits) else {
             return Ok(false);
         };
         if self.entries.len() >= self.limits.codes {
@@ -149,11 +158,13 @@ impl Memo {
         }
         self.bytes.reserve(key.len())?;
         self.numbers.reserve((entry.end - entry.start) as usize)?;
+        self.instructions.reserve(code.program.len())?;
         self.entries.reserve(1)?;
         make_slots(&mut self.slots, &self.entries)?;
         put(&mut self.slots, hash, self.entries.len() as u32);
         append(&mut self.bytes, key);
         append_code(&mut self.numbers, code);
+        append(&mut self.instructions, code.program);
         self.entries.push_reserved(entry);
         Ok(true)
     }
@@ -200,9 +211,13 @@ fn key_of<'m>(entry: &Entry, bytes: &'m [u8]) -> &'m [u8]
 
 /// What is known of the step of an entry.
 #[inline(always)]
-fn known_step<'m>(entry: &Entry, numbers: &'m [u32]) -> KnownStep<'m>
-    requires { IsEntry entry.now.key_end (length numbers.now) entry.now }
-    ensures code { (bytes : List ℕ) → code_shown result.code ≡ (known_at bytes numbers.now entry.now).code }
+fn known_step<'m>(
+    entry: &Entry,
+    numbers: &'m [u32],
+    instructions: &'m [Instruction],
+) -> KnownStep<'m>
+    requires { IsEntry entry.now.key_end (length numbers.now) (length instructions.now) entry.now }
+    ensures code { (bytes : List ℕ) → code_shown result.code ≡ (known_at bytes numbers.now instructions.now entry.now).code }
     ensures amount { result.amount ≡ entry.now.amount }
 {
     let needed_end = entry.needed_end as usize;
@@ -214,28 +229,37 @@ fn known_step<'m>(entry: &Entry, numbers: &'m [u32]) -> KnownStep<'m>
             forbidden: &numbers[needed_end..forbidden_end],
             deleted: &numbers[forbidden_end..deleted_end],
             added: &numbers[deleted_end..entry.end as usize],
+            program: &instructions[entry.program_start as usize..entry.program_end as usize],
         },
         amount: entry.amount,
     }
 }
 
-/// The entry of a step that is to follow the first `bytes` bytes and `numbers` numbers, unless it has no room there.
+/// How many bytes, numbers and instructions a table has.
+#[derive(Clone, Copy)]
+struct Lengths {
+    bytes: usize,
+    numbers: usize,
+    instructions: usize,
+}
+
+/// The entry of a step that is to follow all that a table of these lengths has, unless it has no room there.
 fn entry_for(
     hash: u64,
     amount: u64,
     key: &[u8],
     code: StepCode<'_>,
-    bytes: usize,
-    numbers: usize,
+    lengths: Lengths,
     limits: MemoLimits,
 ) -> Option<Entry>
-    ensures { IfSome result (λ entry. IsEntryFor entry bytes numbers key.now (code_shown code.entry) amount) }
+    ensures { IfSome result (λ entry. IsEntryFor entry lengths.bytes lengths.numbers lengths.instructions key.now (code_shown code.entry) amount) }
 {
-    let key_start = end_of(0, bytes, limits.key_bytes)?;
-    let start = end_of(0, numbers, limits.numbers)?;
+    let key_start = end_of(0, lengths.bytes, limits.key_bytes)?;
+    let start = end_of(0, lengths.numbers, limits.numbers)?;
     let needed_end = end_of(start, code.needed.len(), limits.numbers)?;
     let forbidden_end = end_of(needed_end, code.forbidden.len(), limits.numbers)?;
     let deleted_end = end_of(forbidden_end, code.deleted.len(), limits.numbers)?;
+    let program_start = end_of(0, lengths.instructions, limits.instructions)?;
     Some(Entry {
         hash,
         amount,
@@ -246,6 +270,8 @@ fn entry_for(
         forbidden_end,
         deleted_end,
         end: end_of(deleted_end, code.added.len(), limits.numbers)?,
+        program_start,
+        program_end: end_of(program_start, code.program.len(), limits.instructions)?,
     })
 }
 

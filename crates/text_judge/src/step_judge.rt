@@ -178,7 +178,7 @@ impl<'t> Judge<'t> {
             → HasTaken self.new (steps ++ step_spelled row.now ∷ [])) }
         ensures not { IfOk result (λ taken. taken ≡ false → (steps : List StepText) → HasTaken self.old steps → HasTaken self.new steps) }
     {
-        if self.take_known(row) {
+        if self.take_known(row)? {
             return Ok(true);
         }
         self.take_by_names(alloc, row)
@@ -186,27 +186,29 @@ impl<'t> Judge<'t> {
 
     /// Takes the step that a key spells, if it is known and applicable, and otherwise changes nothing. Returns whether it did.
     ///
-    /// Takes one hash of the key and no memory. The key may be any bytes: only a step that
+    /// Takes one hash of the key, and memory only for the changes of conditional effects. The key may be any bytes: only a step that
     /// [`take_by_names`](Judge::take_by_names) learned under the same bytes is known.
-    fn take_known(&mut self, key: &[u8]) -> bool
+    fn take_known(&mut self, key: &[u8]) -> Result<bool, AllocError>
         requires { self.old.count < MOST_STEPS }
         ensures task { self.new.task ≡ self.old.task }
-        ensures spelled { IsTrue result → IsSpelled key.now }
-        ensures taken { IsTrue result → (steps : List StepText) → HasTaken self.old steps → HasTaken self.new (steps ++ step_spelled key.now ∷ []) }
-        ensures not { result ≡ false → (steps : List StepText) → HasTaken self.old steps → HasTaken self.new steps }
-        ensures count { result ≡ false → self.new.count ≡ self.old.count }
+        ensures spelled { IfOk result (λ taken. IsTrue taken → IsSpelled key.now) }
+        ensures taken { IfOk result (λ taken. IsTrue taken → (steps : List StepText) → HasTaken self.old steps
+            → HasTaken self.new (steps ++ step_spelled key.now ∷ [])) }
+        ensures not { IfOk result (λ taken. taken ≡ false → (steps : List StepText) → HasTaken self.old steps → HasTaken self.new steps) }
+        ensures count { IfOk result (λ taken. taken ≡ false → self.new.count ≡ self.old.count) }
     {
         if !self.policy.asks() {
-            return false;
+            return Ok(false);
         }
-        let found = take_remembered(self.task, &self.memo, &mut self.state, key);
+        let scratch = &mut self.scratch;
+        let found = take_remembered(self.task, &self.memo, &mut self.state, key, scratch)?;
         self.policy.note(found.is_some());
         let Some(amount) = found else {
-            return false;
+            return Ok(false);
         };
         self.cost = added(self.cost, Some(u128::from(amount)));
         self.count += 1;
-        true
+        Ok(true)
     }
 
     /// Takes the step that a row spells, if its names are known and it is applicable, and otherwise changes no atom. Returns whether it did.

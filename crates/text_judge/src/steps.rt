@@ -14,26 +14,29 @@ use strips_judge::{
 };
 
 /// Takes the step that a key spells, if it is known and applicable, and returns what it adds to the cost. Otherwise changes nothing. The task
-/// is only there for the contract.
+/// is only there for the contract. If memory runs out, nothing is changed either.
 #[inline(always)]
 pub(crate) fn take_remembered(
     _task: &CostedTask,
     memo: &Memo,
     state: &mut NumberedState<'_>,
     key: &[u8],
-) -> Option<u64>
+    scratch: &mut Scratch,
+) -> Result<Option<u64>, AllocError>
     requires { All (IsLearned _task.now state.old.atoms) memo.now }
-    ensures spelled { IfSome result (λ amount. IsSpelled key.now) }
-    ensures taken { IfSome result (λ amount. Takes _task.now (state_of state.old) (state_of state.new) (step_spelled key.now) (Some amount)) }
-    ensures not { result ≡ None → state_of state.new ≡ state_of state.old }
+    ensures spelled { IfOk result (λ amount. IfSome amount (λ amount. IsSpelled key.now)) }
+    ensures taken { IfOk result (λ amount. IfSome amount (λ amount. Takes _task.now (state_of state.old) (state_of state.new) (step_spelled key.now) (Some amount))) }
+    ensures not { IfOk result (λ amount. amount ≡ None → state_of state.new ≡ state_of state.old) }
     ensures atoms { state.new.atoms ≡ state.old.atoms }
     ensures initial { state.new.initial ≡ state.old.initial }
 {
-    let known = memo.find(key)?;
-    if take_by_code(state, known.code) {
-        Some(known.amount)
+    let Some(known) = memo.find(key) else {
+        return Ok(None);
+    };
+    if take_by_code(state, known.code, scratch)? {
+        Ok(Some(known.amount))
     } else {
-        None
+        Ok(None)
     }
 }
 
@@ -81,7 +84,7 @@ pub(crate) fn take_new(
         return take_numbered(alloc, &task.task, step.numbers, state, scratch);
     }
     memo.add(step.key, code.code(), amount)?;
-    Ok(take_by_code(state, code.code()))
+    take_by_code(state, code.code(), scratch)
 }
 
 /// What a step adds to the cost, if it is to be learned: it may be, it is not known, and the amount is defined and has at most 64 bits.

@@ -8,7 +8,7 @@ pub loop-number-preserved : goal.loop-number-preserved
 loop-number-preserved c = λ ground same.
     let fits : c.has.result ≡ c.args.truth = grind (arith, tests, c.if-has-truth.false) in
     are_more c.args.state.now.atoms ground c.args.numbers.now c.loop-number.number-index same c.loop-number-test.true
-    (state_of c.args.state.now) c.args.truth c.has.result c.has.ensures fits (c.loop-number.invariant ground same)
+    (state_of c.args.state.now) c.args.truth c.has.result c.has.ensures.truth fits (c.loop-number.invariant ground same)
 
 pub returns : goal.returns
 returns c = λ t ground same.

@@ -1,56 +1,54 @@
-use Rattle.std.proofs.Common.{◌≡◌, ◌∙◌, IsTrue, true, false, List, [], ap, map, subst, sym, arith, tests}
-use Rattle.formulas.specs.declared.atoms.Atom.{Atom}
-use Rattle.formulas.specs.declared.terms.Pattern.{Pattern}
+use Rattle.std.proofs.Common.{◌≡◌, ◌∙◌, ℕ, Bool, IsTrue, true, false, List, [], ap, map, subst, sym}
 use Rattle.formulas.specs.Grounding.{with_objects}
-use Rattle.formulas.specs.Tree.{Tree}
 use Rattle.strips_judge.specs.Codes.{Code, AreNumbers, AsksFor}
 use Rattle.strips_judge.specs.Grounding.{ground}
-use Rattle.strips_judge.proofs.ActionEffects.{sure_alone}
+use Rattle.strips_judge.specs.Programs.{numbers_changed}
+use Rattle.strips_judge.specs.Step.{changed_by}
 use Rattle.strips_judge.proofs.CodeLaws.{numbers_kept, asks_kept, asks_whatever}
+use Rattle.strips_judge.proofs.CompiledEffects.{found_all, numbers_both}
 use Rattle.strips_judge.proofs.Growth.{grows_twice}
+use Rattle.strips_judge.proofs.VerdictLaws.{success_as}
 use Rattle.strips_judge.proofs.codes.code_of_action.Goals as goal
 
-pub returns-in_err-number_all-clause-grows : goal.returns-in_err-number_all-clause-grows
-returns-in_err-number_all-clause-grows c = grows_twice c.args.state.now c.ask_all.new.state c.number_all.new.state c.ask_all.ensures.grows c.number_all.ensures.grows
-
-pub returns-then-not-branch-2-clause-grows : goal.returns-then-not-branch-2-clause-grows
-returns-then-not-branch-2-clause-grows c = grows_twice c.args.state.now c.ask_all.new.state c.number_all.new.state c.ask_all.ensures.grows c.number_all.ensures.grows
-
 pub returns-clause-asks : goal.returns-clause-asks
-returns-clause-asks c = λ t parts.
-    let last = c.number_all-2.new.state in
-    let grown = grows_twice c.ask_all.new.state c.number_all.new.state last c.number_all.ensures.grows c.number_all-2.ensures.grows in
-    let asks = asks_kept parts c.ask_all.new.state.atoms last.atoms grown.numbers (map (with_objects c.args.objects.now []) c.as_slice.result.now) c.ask_all.new.code
-    (c.in_ok-ask_all.ensures.asks c.if-not-branch.false parts) in
-    subst (λ (conditions : List Tree). AsksFor parts last.atoms (map (with_objects c.args.objects.now []) conditions)
-    (record { needed = c.code.inside.needed.items; forbidden = c.code.inside.forbidden.items; deleted = c.number_all.new.numbers.items; added = c.number_all-2.new.numbers.items })) c.as_slice.ensures
-    (subst (λ (code : Code). AsksFor parts last.atoms (map (with_objects c.args.objects.now []) c.as_slice.result.now)
-    (record code { deleted = c.number_all.new.numbers.items; added = c.number_all-2.new.numbers.items })) (sym c.code.view_is)
-    (asks_whatever parts last.atoms (map (with_objects c.args.objects.now []) c.as_slice.result.now) c.ask_all.new.code c.number_all.new.numbers.items c.number_all-2.new.numbers.items asks))
+returns-clause-asks c =
+    success_as _ _ c.compile_all.result
+    (λ found h t parts.
+    let conditions = map (with_objects c.args.arguments.objects.now []) c.args.action.now.pre in
+    let asks = asks_kept parts c.plain_code.new.state.atoms c.compile_all.new.state.atoms c.compile_all.ensures.grows.numbers conditions c.plain_code.new.code (c.in_ok-plain_code.ensures.asks c.if-not-branch.false parts) in
+    subst (λ (code : Code). AsksFor parts c.compile_all.new.state.atoms conditions (record code { program = c.compile_all.new.program.items })) (sym c.code.view_is)
+    (asks_whatever parts c.compile_all.new.state.atoms conditions c.plain_code.new.code c.plain_code.new.code.deleted c.plain_code.new.code.added c.compile_all.new.program.items asks))
+    c.compile_all.ensures.compiled
 
 pub returns-clause-deleted : goal.returns-clause-deleted
-returns-clause-deleted c = λ t parts before.
-    let objects = c.args.objects.now in
-    let none : c.args.action.now.effects ≡ [] = let empty : IsTrue c.is_empty.result = grind (arith, tests, c.if-not-is_empty.false) in c.is_empty.ensures.0 empty in
-    subst (λ (l : List Atom). AreNumbers c.number_all-2.new.state.atoms l c.number_all.new.numbers.items)
-    (ap (map (ground objects)) c.as_slice-deletes.ensures ∙ sure_alone parts objects before false c.args.action.now.effects (map (ground objects) c.args.action.now.del) none)
-    (numbers_kept c.number_all.new.state.atoms c.number_all-2.new.state.atoms c.number_all-2.ensures.grows.numbers (map (ground objects) c.as_slice-deletes.result.now)
-    c.number_all.new.numbers.items (c.in_ok-number_all.ensures.numbers c.if-not-branch-2.false))
+returns-clause-deleted c =
+    success_as _ _ c.compile_all.result
+    (λ found h t before bits are.
+    let task = c.args.arguments.task.now in
+    let objects = c.args.arguments.objects.now in
+    let atoms = c.compile_all.new.state.atoms in
+    let deletes = map (ground objects) c.args.action.now.del in
+    numbers_both atoms deletes (changed_by task objects before false c.args.action.now.effects) c.code.inside.deleted.items (numbers_changed bits false 0 c.compile_all.new.program.items)
+    (numbers_kept c.plain_code.new.state.atoms atoms c.compile_all.ensures.grows.numbers deletes c.code.inside.deleted.items
+    (subst (λ (code : Code). AreNumbers c.plain_code.new.state.atoms deletes code.deleted) (sym c.code.view_is) (c.in_ok-plain_code.ensures.deleted c.if-not-branch.false)))
+    (found_all task objects c.clear.new.self.items c.args.action.now.effects c.as_slice-effects.result.now atoms c.clear-2.new.self.items c.compile_all.new.program.items c.clear.ensures.items c.as_slice-effects.ensures
+    c.clear-2.ensures.items (h t) before bits are false))
+    c.compile_all.ensures.compiled
 
 pub returns-clause-added : goal.returns-clause-added
-returns-clause-added c = λ t parts before.
-    let objects = c.args.objects.now in
-    let none : c.args.action.now.effects ≡ [] = let empty : IsTrue c.is_empty.result = grind (arith, tests, c.if-not-is_empty.false) in c.is_empty.ensures.0 empty in
-    subst (λ (l : List Atom). AreNumbers c.number_all-2.new.state.atoms l c.number_all-2.new.numbers.items)
-    (ap (map (ground objects)) c.as_slice-adds.ensures ∙ sure_alone parts objects before true c.args.action.now.effects (map (ground objects) c.args.action.now.add) none)
-    (c.in_ok-found.ensures.numbers t)
-
-pub returns-in_err-found-clause-grows : goal.returns-in_err-found-clause-grows
-returns-in_err-found-clause-grows c =
-    grows_twice c.args.state.now c.ask_all.new.state c.number_all-2.new.state c.ask_all.ensures.grows
-    (grows_twice c.ask_all.new.state c.number_all.new.state c.number_all-2.new.state c.number_all.ensures.grows c.number_all-2.ensures.grows)
+returns-clause-added c =
+    success_as _ _ c.compile_all.result
+    (λ found h t before bits are.
+    let task = c.args.arguments.task.now in
+    let objects = c.args.arguments.objects.now in
+    let atoms = c.compile_all.new.state.atoms in
+    let adds = map (ground objects) c.args.action.now.add in
+    numbers_both atoms adds (changed_by task objects before true c.args.action.now.effects) c.code.inside.added.items (numbers_changed bits true 0 c.compile_all.new.program.items)
+    (numbers_kept c.plain_code.new.state.atoms atoms c.compile_all.ensures.grows.numbers adds c.code.inside.added.items
+    (subst (λ (code : Code). AreNumbers c.plain_code.new.state.atoms adds code.added) (sym c.code.view_is) (c.in_ok-plain_code.ensures.added c.if-not-branch.false)))
+    (found_all task objects c.clear.new.self.items c.args.action.now.effects c.as_slice-effects.result.now atoms c.clear-2.new.self.items c.compile_all.new.program.items c.clear.ensures.items c.as_slice-effects.ensures
+    c.clear-2.ensures.items (h t) before bits are true))
+    c.compile_all.ensures.compiled
 
 pub returns-clause-grows : goal.returns-clause-grows
-returns-clause-grows c =
-    grows_twice c.args.state.now c.ask_all.new.state c.number_all-2.new.state c.ask_all.ensures.grows
-    (grows_twice c.ask_all.new.state c.number_all.new.state c.number_all-2.new.state c.number_all.ensures.grows c.number_all-2.ensures.grows)
+returns-clause-grows c = grows_twice c.args.state.now c.plain_code.new.state c.compile_all.new.state c.plain_code.ensures.grows c.compile_all.ensures.grows

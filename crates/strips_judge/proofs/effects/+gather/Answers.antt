@@ -34,8 +34,8 @@ gather-returns-in-And-clause-gathered t c =
     (joint_is task state objects bound c.args.effect.now c.in-And.parts.items c.deref.result.now c.deref.ensures.value is))
     c.gather_all.ensures.gathered
 
-pub gather-returns-in-ForAll-clause-gathered : goal.gather-returns-in-ForAll-clause-gathered
-gather-returns-in-ForAll-clause-gathered t c =
+pub gather-returns-else-not-have_objects-clause-gathered : goal.gather-returns-else-not-have_objects-clause-gathered
+gather-returns-else-not-have_objects-clause-gathered t c =
     let task = c.args.arguments.task.now in
     let state = state_of c.args.state.now in
     let objects = c.args.arguments.objects.now in
@@ -43,8 +43,8 @@ gather-returns-in-ForAll-clause-gathered t c =
     let is = sym c.node.ensures ∙ ap effect_of c.in-ForAll.is in
     ok_as c.gather_choices.result
     (gathers_as state c.args.state.now.atoms c.gather_choices.new.state.atoms (kept c.args.changes.now) (kept c.gather_choices.new.changes)
-    (choices_found task state objects c.deref-in-ForAll.result.now (variable_types c.as_slice.result.now) bound) (effect_found task state objects bound c.args.effect.now)
-    (universal_is task state objects bound c.args.effect.now c.in-ForAll.body.value c.deref-in-ForAll.result.now c.in-ForAll.groups c.as_slice.result.now is c.deref-in-ForAll.ensures c.as_slice.ensures))
+    (choices_found task state objects c.deref-in-ForAll.result.now (variable_types c.as_slice-in-ForAll.result.now) bound) (effect_found task state objects bound c.args.effect.now)
+    (universal_is task state objects bound c.args.effect.now c.in-ForAll.body.value c.deref-in-ForAll.result.now c.in-ForAll.groups c.as_slice-in-ForAll.result.now is c.deref-in-ForAll.ensures c.as_slice-in-ForAll.ensures))
     c.gather_choices.ensures.gathered
 
 pub gather_all-gather-requires : goal.gather_all-gather-requires

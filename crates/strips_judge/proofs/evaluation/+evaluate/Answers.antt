@@ -41,10 +41,10 @@ evaluate-returns-in-Or-clause-answer t c =
     (sym c.node.ensures ∙ ap tree_of c.in-Or.is) c.deref-in-Or.ensures.value is)
     c.some_is-in-Or.ensures.answer
 
-pub evaluate-returns-in_ok-some_choice_gives-in-ForAll-clause-answer : goal.evaluate-returns-in_ok-some_choice_gives-in-ForAll-clause-answer
-evaluate-returns-in_ok-some_choice_gives-in-ForAll-clause-answer t c =
+pub evaluate-returns-in_ok-some_choice-in-ForAll-clause-answer : goal.evaluate-returns-in_ok-some_choice-in-ForAll-clause-answer
+evaluate-returns-in_ok-some_choice-in-ForAll-clause-answer t c =
     all_is c.args.task.now (state_of c.args.state.now) c.args.objects.now c.args.room.now.bound.items c.args.formula.now c.in-ForAll.body.value c.deref-in-ForAll.result.now c.in-ForAll.groups c.as_slice-in-ForAll.result.now _
-    (sym c.node.ensures ∙ ap tree_of c.in-ForAll.is) c.deref-in-ForAll.ensures c.as_slice-in-ForAll.ensures c.in_ok-some_choice_gives-in-ForAll.ensures.answer
+    (sym c.node.ensures ∙ ap tree_of c.in-ForAll.is) c.deref-in-ForAll.ensures c.as_slice-in-ForAll.ensures c.in_ok-some_choice-in-ForAll.ensures.answer
 
 pub some_choice_gives-overflow_add-first : goal.some_choice_gives-overflow_add-first
 some_choice_gives-overflow_add-first t c = search (rules, c.args.room.now.bound.ok, c.args.room.now.bound.small, c.requires.bound)

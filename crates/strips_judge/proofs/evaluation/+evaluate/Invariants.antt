@@ -14,6 +14,9 @@ decreases-evaluate l = weight l.formula.now
 abbrev pub decreases-some_is : goal.decreases-some_is
 decreases-some_is l = most_weight (parts_of l.formulas.now) + 1
 
+abbrev pub decreases-some_choice : goal.decreases-some_choice
+decreases-some_choice l = weight l.quantified.now.body.now + 4 * length (variable_types l.quantified.now.groups.now) + 2
+
 abbrev pub decreases-some_choice_gives : goal.decreases-some_choice_gives
 decreases-some_choice_gives l = weight l.quantified.now.body.now + 4 * length (drop l.first (variable_types l.quantified.now.groups.now)) + 1
 

@@ -1,0 +1,4 @@
+(define (problem t-1)
+  (:domain t)
+  (:init (a))
+  (:goal (a)))

@@ -1,0 +1,5 @@
+(define (problem t-1)
+  (:domain t)
+  (:objects o0 o1 o2 o3 o4 o5 o6 o7 o8 o9 o10 o11 o12 o13 o14 - s)
+  (:init (q o0))
+  (:goal (forall (?a ?b ?c ?d ?e ?f ?g ?h - s ?n - none) (or))))
