@@ -6,7 +6,7 @@ import re
 from rooms import TOP, listed
 
 OWNER = re.compile(r"^(?:pub )?(impl|trait|struct|enum)\b(?:<[^{]*?>(?= ))?\s*([^{;]*)", re.MULTILINE)
-FUNCTION = re.compile(r"^[ ]*(pub )?(?:pub\([a-z]+\) )?(?:const )?fn (\w+)", re.MULTILINE)
+FUNCTION = re.compile(r'^[ ]*(pub )?(?:pub\([a-z]+\) )?(?:const )?(?:extern "C" )?fn (\w+)', re.MULTILINE)
 EXPORT = re.compile(r"^pub use (?:\w+::)+(?:\{([^}]*)\}|(\w+));|^pub mod (\w+);", re.MULTILINE)
 LINK = re.compile(r"\[(`[^`]+`)\](?:\([^)]*\))?")
 CLAUSE = re.compile(r"\b(ensures|requires)\s+(?:(\w+)\s+)?\{|[{;]")

@@ -5,9 +5,10 @@
 ghost use Rattle.std.specs.Prelude.{◌<◌};
 
 use judge_engine::fault::{Input, JudgeFault};
+use judge_engine::fault_text::{line_of_fault, push_fault};
 use judge_engine::inlet::{Absence, STANDARD_INPUT};
 use pddl_reader::{Dialect, ReadFault};
-use pddl_tokens::{Span, line_of};
+use pddl_tokens::Span;
 use report_text::{Text, push_json_string};
 use std::alloc::{AllocError, AllocFailed, Global};
 
@@ -37,13 +38,7 @@ impl<T: Drop> From<AllocFailed<T>> for Stop<'_> {
 impl<'a> Stop<'a> {
     /// The stop for a fault in texts, of which only the domain and the problem are needed.
     pub(crate) fn for_fault(fault: JudgeFault, domain: &[u8], problem: &[u8]) -> Self {
-        let line = match fault {
-            JudgeFault::Domain(fault) => line_at(domain, fault.span.start),
-            JudgeFault::Problem(fault) => line_at(problem, fault.span.start),
-            JudgeFault::Steps(fault) => fault.line,
-            _ => 1,
-        };
-        Stop::NoReport(fault, line)
+        Stop::NoReport(fault, line_of_fault(fault, domain, problem))
     }
 }
 
@@ -179,51 +174,20 @@ fn push_line(text: &mut Text, stop: Stop<'_>, call: Call<'_>) -> Result<(), Allo
             text.push(b"cannot read ")?;
             text.push(name.as_bytes())?;
         }
-        Stop::NoReport(fault, line) => push_fault(text, fault, line, call)?,
+        Stop::NoReport(fault, line) => {
+            push_fault(text, fault, line, name_in(fault, call).as_bytes())?;
+        }
         Stop::OutOfMemory => text.push(b"out of memory")?,
     }
     text.push(b"\n")
 }
 
-/// Adds why texts give no report.
-fn push_fault(
-    text: &mut Text,
-    fault: JudgeFault,
-    line: u32,
-    call: Call<'_>,
-) -> Result<(), AllocError> {
+/// The name of the file that a fault is about, if it is one of size.
+fn name_in(fault: JudgeFault, call: Call<'_>) -> &str {
     match fault {
-        JudgeFault::TooLarge(input) => {
-            text.push(call.file(input).as_bytes())?;
-            text.push(b" is too large")
-        }
-        JudgeFault::TooManyPlanners => text.push(b"more than 64 planners"),
-        JudgeFault::Domain(fault) => push_place(text, b"domain", line, fault),
-        JudgeFault::Problem(fault) => push_place(text, b"problem", line, fault),
-        JudgeFault::TooManyPlans => text.push(b"more than 65536 plans"),
-        JudgeFault::Steps(fault) => {
-            text.push(b"steps line ")?;
-            text.push_number(line as usize)?;
-            text.push(b": ")?;
-            text.push(fault.kind.word().as_bytes())
-        }
-        JudgeFault::OutOfMemory => text.push(b"out of memory"),
-        JudgeFault::NoThread => text.push(b"no thread"),
-        JudgeFault::Held(_) => text.push(b"a job is held"),
+        JudgeFault::TooLarge(input) => call.file(input),
+        _ => "",
     }
-}
-
-/// Adds what is wrong with a text and where: the line, the offsets of the first byte and of the end, and the kind of fault.
-fn push_place(text: &mut Text, what: &[u8], line: u32, fault: ReadFault) -> Result<(), AllocError> {
-    text.push(what)?;
-    text.push(b" line ")?;
-    text.push_number(line as usize)?;
-    text.push(b" bytes ")?;
-    text.push_number(fault.span.start as usize)?;
-    text.push(b"-")?;
-    text.push_number(fault.span.end as usize)?;
-    text.push(b": ")?;
-    text.push(fault.kind.word().as_bytes())
 }
 
 /// Adds the second line of a stop, if there is one.
@@ -292,14 +256,6 @@ fn is_bare(byte: u8) -> bool {
             byte,
             b'.' | b'_' | b'/' | b'+' | b'-' | b'=' | b'@' | b':' | b',' | b'%'
         )
-}
-
-/// The line of an offset in a text. An offset past the end counts as the end, and a text of 2^31 bytes or more as one line.
-fn line_at(bytes: &[u8], offset: u32) -> u32 {
-    if bytes.len() >= 1 << 31 {
-        return 1;
-    }
-    line_of(bytes, offset.min(bytes.len() as u32))
 }
 
 /// Adds bytes in such a way that a line on a terminal can show them: those that are not printing characters of ASCII as `\x0a`.

@@ -88,6 +88,18 @@ module _ (dialect : Dialect) (domain problem : List ℕ) (bundles : List BundleV
   read_not_held fault cause job is =
       subst (ReadingCallsFor dialect domain problem) is (cause (λ memory. let clash : Held job ≡ OutOfMemory = sym is ∙ memory in cc))
 
+-- all that readers report but want of memory lies in the texts
+pub read_of_texts : (dialect : Dialect) (domain problem : List ℕ) (fault : JudgeFault) → ReadingCallsFor dialect domain problem fault → IsOfTexts fault
+read_of_texts dialect domain problem (Domain fault) h = tt
+read_of_texts dialect domain problem (Problem fault) h = tt
+read_of_texts dialect domain problem (TooLarge large) h = tt
+read_of_texts dialect domain problem TooManyPlanners h = tt
+read_of_texts dialect domain problem TooManyPlans h = tt
+read_of_texts dialect domain problem (Steps fault) h = tt
+read_of_texts dialect domain problem OutOfMemory h = h
+read_of_texts dialect domain problem NoThread h = h
+read_of_texts dialect domain problem (Held job) h = h
+
 -- what lies in the texts is no want of memory
 pub not_memory : (fault : JudgeFault) → IsOfTexts fault → fault ≢ OutOfMemory
 not_memory fault in_texts memory = subst IsOfTexts memory in_texts

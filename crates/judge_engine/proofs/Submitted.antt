@@ -7,8 +7,9 @@ use Rattle.std.proofs.lemmas.List.Sums.{sum_by-append}
 use Rattle.std.proofs.lemmas.List.Elements.{All-nil, All-cons}
 use Rattle.std.proofs.lemmas.List.FromFn.{get_or-map-range_with_len, length-map-range_with_len}
 use Rattle.plan_cost.specs.declared.costs.CostedTask.{CostedTask}
+use Rattle.strips_task.specs.declared.plans.Plan.{Plan}
 use Rattle.intake_rules.specs.declared.finding.Finding.{Finding}
-use Rattle.intake_rules.specs.Findings.{counted_cost, right_finding, verdict_of}
+use Rattle.intake_rules.specs.Findings.{IsRight, counted_cost, right_finding, verdict_of}
 use Rattle.intake_rules.specs.History.{numbered_from}
 use Rattle.judge_bench.specs.Findings.{findings_of, of_planner}
 use Rattle.judge_bench.specs.Submissions.{SubmissionParts, jobs_from}
@@ -72,6 +73,12 @@ module _ (task : CostedTask) (bundles : List BundleValue) where
       let same : right_finding task (record { number = number; planner = 0; plan = (plan_of_cut bundles c).plan }) ≡ finding = cc in
       ap as_judged (sym same) ∙ ap (λ (x : Cut). judged_plan task (plan_of_cut bundles x).plan) (sym is)
   found_at number (c ∷ cuts) (suc i) finding cut at lt is = found_at (suc number) cuts i finding cut at (omega (arith, lt)) is
+
+-- what is found of a job is what its plan calls for
+pub right_is_judged : (task : CostedTask) (finding : Finding) (plan : Plan) → IsRight task finding → finding.job.plan ≡ plan → as_judged finding ≡ judged_plan task plan
+unfolding judged_plan verdict_of counted_cost
+right_is_judged task finding plan right same =
+    (λ j. record { plan = finding.job.plan; verdict = right.0 j; cost = right.1 j }) ∙ ap (judged_plan task) same
 
 -- all of them come from the one planner
 pub all_of_first : (bundles : List BundleValue) (cuts : List Cut) → All (λ (plan : SubmissionParts). plan.planner < 1) (handed_in bundles cuts)

@@ -9,3 +9,4 @@ pub mod ReplayText
 pub mod Status
 pub mod Tally
 pub mod ReportPosition
+pub mod FaultText

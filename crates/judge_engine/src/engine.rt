@@ -136,7 +136,7 @@ pub fn judge_run<R: Threads + Wait + Sync, G: Gate + Sync>(
 }
 
 /// The first input that is over the limit of a file.
-fn too_large(domain: &[u8], problem: &[u8], bundles: &[Bundle]) -> Option<Input>
+pub(crate) fn too_large(domain: &[u8], problem: &[u8], bundles: &[Bundle]) -> Option<Input>
     ensures { result ≡ too_large domain.now problem.now bundles.now }
 {
     if domain.len() > FILE_LIMIT {

@@ -12,9 +12,11 @@
 //! [`inlet`] and [`outlet`] are where texts come from and reports go.
 #![tactic(auto)]
 
+pub mod alone;
 pub mod bundle;
 pub mod engine;
 pub mod fault;
+pub mod fault_text;
 pub mod inlet;
 pub mod outlet;
 mod planner;

@@ -1,0 +1,14 @@
+//! The judge for programs in C, and in every language that calls C.
+//!
+//! Texts come in as bytes with a length, and the answer goes into a buffer of the caller's. Each export states the answer of the library for these bytes. What C
+//! has to keep to, `c/plan_judge.h` says.
+//!
+//! [`judging`] has the call that judges, [`explaining`] the one that explains. What they take is in `inputs`, and what they
+//! give in `answer`; `refusing` says why texts are refused.
+#![tactic(auto)]
+
+mod answer;
+pub mod explaining;
+mod inputs;
+pub mod judging;
+mod refusing;

@@ -1,0 +1,13 @@
+pub mod ListLemmas
+pub mod Alike
+pub mod Replaced
+pub mod WellFormed
+pub mod Terms
+pub mod TypedObjects
+pub mod TypedTerms
+pub mod WrittenOut
+pub mod WrittenOutEffects
+pub mod WrittenOutFits
+pub mod Implications
+pub mod ImplicationsFit
+pub mod Literals
