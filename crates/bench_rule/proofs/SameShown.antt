@@ -6,7 +6,7 @@ use mathlib.Core.Option.{some, some-injective}
 use mathlib.Core.Option as maybe
 use native.Mathlib.Decide.{ℕ_discrete}
 use lib.ListN.{get_elem?}
-use Rattle.plan_cost.specs.declared.costs.CostedTask.{CostedTask}
+use Rattle.strips_task.specs.declared.costs.CostedTask.{CostedTask}
 use Rattle.intake_rules.specs.declared.finding.Finding.{Finding}
 use Rattle.intake_rules.specs.declared.stage.Stage.{Stage}
 use Rattle.intake_rules.specs.declared.stage.Stage.TheVariants as stage

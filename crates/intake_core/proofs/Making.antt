@@ -6,7 +6,7 @@ use Rattle.std.proofs.lemmas.List.{length-replicate, get_or-replicate, get_or_pa
 use Rattle.std.proofs.lemmas.Option.{slice_get-get_or, slice_get_within}
 use Rattle.bit_rows.specs.Rows.{row_has}
 use Rattle.bit_rows.proofs.Bits.{row_has-zero}
-use Rattle.plan_cost.specs.declared.costs.CostedTask.{CostedTask}
+use Rattle.strips_task.specs.declared.costs.CostedTask.{CostedTask}
 use Rattle.intake_rules.specs.Intake.{Intake, empty_intake, jobs_of}
 use Rattle.intake_core.specs.declared.slot.Slot.{Slot}
 use Rattle.intake_core.specs.declared.slot.Planner.{Planner}

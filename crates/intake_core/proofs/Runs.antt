@@ -2,7 +2,7 @@
 
 use Rattle.std.proofs.Common.{◌≡◌, ◌++◌, ℕ, List, [], ◌∷◌, length, map, take, drop, Option, Some, None, ap, sym, ◌∙◌, subst, refl, zero, suc, append_assoc, append-nil, arith}
 use Rattle.std.specs.Prelude.{slice_get, option_map, IfSome, Result, Ok, Err, OnOk, is_err, false}
-use Rattle.plan_cost.specs.declared.costs.CostedTask.{CostedTask}
+use Rattle.strips_task.specs.declared.costs.CostedTask.{CostedTask}
 use Rattle.intake_rules.specs.declared.reply.Reply.{Reply}
 use Rattle.intake_rules.specs.Findings.{IsRight, right_finding}
 use Rattle.intake_rules.specs.History.{History, IsLawful, TakesLeast, IsRightFinish, HasRightFindings}

@@ -1,7 +1,7 @@
 -- What a list of steps does to a desk.
 
 use Rattle.std.specs.Prelude.{ℕ, List, [], ◌∷◌, map, take, slice_get, option_map}
-use Rattle.plan_cost.specs.declared.costs.CostedTask.{CostedTask}
+use Rattle.strips_task.specs.declared.costs.CostedTask.{CostedTask}
 use Rattle.intake_rules.specs.declared.reply.Reply.{Reply}
 use Rattle.intake_rules.specs.Findings.{right_finding}
 use Rattle.intake_rules.specs.History.{History, IsLawful, TakesLeast}

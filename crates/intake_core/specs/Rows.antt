@@ -2,7 +2,7 @@
 
 use Rattle.std.specs.Prelude.{◌≡◌, ◌<◌, ◌≤◌, ◌-◌, ℕ, suc, Bool, true, false, List, Option, Some, None, map, length, slice_get, slice_index_or, set, option_map}
 use Rattle.bit_rows.specs.Rows.{row_has}
-use Rattle.plan_cost.specs.declared.costs.CostedTask.{CostedTask}
+use Rattle.strips_task.specs.declared.costs.CostedTask.{CostedTask}
 use Rattle.intake_rules.specs.declared.finding.Finding.{Finding}
 use Rattle.intake_rules.specs.declared.stage.Stage.TheVariants.{Finished}
 use Rattle.intake_rules.specs.declared.stage.Stage.{Stage}

@@ -1,7 +1,7 @@
 -- A desk as contracts see it.
 
 use Rattle.std.specs.Prelude.{ℕ}
-use Rattle.plan_cost.specs.declared.costs.CostedTask.{CostedTask}
+use Rattle.strips_task.specs.declared.costs.CostedTask.{CostedTask}
 use Rattle.intake_rules.specs.declared.reply.Reply.{Reply}
 use Rattle.intake_rules.specs.Intake.{Intake}
 use Rattle.intake_rules.specs.Rules.{Event, after, reply_to}

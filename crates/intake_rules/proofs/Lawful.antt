@@ -12,7 +12,7 @@ use Rattle.intake_rules.specs.History.{History, numbered_from, jobs, closes, is_
 use Rattle.intake_rules.specs.Intake.{Intake, has_planner, has_job, is_closed_in, stage_of, jobs_of, least_waiting, next_job}
 use Rattle.intake_rules.specs.Rules.{Event, submit, close, take_job, hand_back, finish, emit, first_that_applies, refused_or, Allows, reply_to, taken}
 use Rattle.intake_rules.specs.Laws.{EmptyHistory, OneMore, LeastGoesOn}
-use Rattle.plan_cost.specs.declared.costs.CostedTask.{CostedTask}
+use Rattle.strips_task.specs.declared.costs.CostedTask.{CostedTask}
 use Rattle.intake_rules.proofs.Allowed.{least_allowed, returned_from, finished_from, emitted_from}
 use Rattle.intake_rules.proofs.Consistent.{IsConsistent, none_consistent, planners_job}
 use Rattle.intake_rules.proofs.Ends.{quiet, closed_last}

@@ -4,7 +4,7 @@ use Rattle.std.specs.Prelude.{◌≡◌}
 use Rattle.strips_task.specs.declared.plans.Plan.{Plan}
 use Rattle.strips_judge.specs.declared.verdict.Verdict.{Verdict}
 use Rattle.plan_cost.specs.declared.costs.Cost.{Cost}
-use Rattle.plan_cost.specs.declared.costs.CostedTask.{CostedTask}
+use Rattle.strips_task.specs.declared.costs.CostedTask.{CostedTask}
 use Rattle.plan_cost.specs.Assessments.{assessment}
 use Rattle.intake_rules.specs.declared.finding.Finding.{Finding}
 use Rattle.intake_rules.specs.Jobs.{AcceptedPlan}

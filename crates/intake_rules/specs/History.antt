@@ -3,7 +3,7 @@
 use Rattle.std.specs.Prelude.{◌≡◌, ℕ, zero, suc, List, [], ◌∷◌, ◌++◌, ⊤, Option, Some, None, Bool, true, false, ◌&&◌, not, nat_eq, length, map, slice_get, filter, take, is_some, if◌then◌else◌, IfSome}
 use Rattle.std.specs.List.{filter_map, list_any}
 use Rattle.strips_task.specs.declared.plans.Plan.{Plan}
-use Rattle.plan_cost.specs.declared.costs.CostedTask.{CostedTask}
+use Rattle.strips_task.specs.declared.costs.CostedTask.{CostedTask}
 use Rattle.intake_rules.specs.declared.finding.Finding.{Finding}
 use Rattle.intake_rules.specs.declared.reply.Reply.{Reply}
 use Rattle.intake_rules.specs.declared.reply.Reply.TheVariants as reply

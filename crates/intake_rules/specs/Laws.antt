@@ -2,7 +2,7 @@
 
 use Rattle.std.specs.Prelude.{◌≡◌, ◌≢◌, ◌↔◌, ◌⊎◌, ◌<◌, ◌≤◌, ◌++◌, ℕ, suc, List, [], ◌∷◌, Option, Some, true, false, length, map, take, slice_get, All, MatchOption}
 use Rattle.strips_task.specs.declared.plans.Plan.{Plan}
-use Rattle.plan_cost.specs.declared.costs.CostedTask.{CostedTask}
+use Rattle.strips_task.specs.declared.costs.CostedTask.{CostedTask}
 use Rattle.intake_rules.specs.declared.finding.Finding.{Finding}
 use Rattle.intake_rules.specs.declared.refusal.Refusal.{Refusal}
 use Rattle.intake_rules.specs.declared.refusal.Refusal.TheVariants as refusal

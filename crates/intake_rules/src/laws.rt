@@ -4,7 +4,7 @@
 //! about an intake that gives out the least job. The others say what holds of every lawful history, and so, by [`prefixes_are_lawful`], at every
 //! moment of it.
 ghost use Rattle.std.specs.Prelude.{ℕ, List};
-ghost use Rattle.plan_cost.specs.declared.costs.CostedTask.{CostedTask};
+ghost use Rattle.strips_task.specs.declared.costs.CostedTask.{CostedTask};
 ghost use Rattle.intake_rules.specs.declared.reply.Reply.{Reply};
 ghost use Rattle.intake_rules.specs.History.{History, IsLawful, HasRightFindings};
 ghost use Rattle.intake_rules.specs.Laws.{ComparesJobs, EmptyHistory, OneMore, LeastGoesOn, OneHistory, PrefixesAreLawful, VerdictsInOrder, RefusalsChangeNothing, RefusedAfterClose, RefusedDoubled, RefusedStrange, WholeListOnceClosed, CompleteIsWhole};

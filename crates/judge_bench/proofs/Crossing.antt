@@ -17,8 +17,8 @@ use Rattle.strips_task.specs.contracts.actions.Action as action
 use Rattle.strips_task.specs.contracts.tasks.TaskParts as parts
 use Rattle.strips_task.specs.contracts.tasks.Task as task
 use Rattle.strips_task.specs.contracts.tasks.Task.TheInside as inside
-use Rattle.plan_cost.specs.contracts.costs.CostedTask as costed
-use Rattle.plan_cost.proofs.costs.Costs.TheSendSync as costs
+use Rattle.strips_task.specs.contracts.costs.CostedTask as costed
+use Rattle.strips_task.proofs.costs.Costs.TheSendSync as costs
 use Rattle.judge_bench.specs.contracts.worker.WorkerSeat.TheInside as worker_inside
 use Rattle.judge_bench.specs.contracts.worker.WorkerSeat as worker
 use Rattle.bench_rule.specs.contracts.contents.Item as item

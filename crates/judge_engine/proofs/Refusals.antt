@@ -4,7 +4,7 @@ use Rattle.std.proofs.Common.{◌≡◌, ◌≢◌, ℕ, ◌<◌, ◌≤◌, Lis
 use Rattle.pddl_syntax.specs.declared.fault.FaultKind.TheVariants.{OutOfMemory as Memory}
 use Rattle.pddl_syntax.specs.declared.fault.ReadFault.{ReadFault}
 use Rattle.pddl_syntax.specs.Trees.{text_fault}
-use Rattle.plan_cost.specs.declared.costs.CostedTask.{CostedTask}
+use Rattle.strips_task.specs.declared.costs.CostedTask.{CostedTask}
 use Rattle.pddl_syntax.specs.declared.dialect.Dialect.{Dialect}
 use Rattle.judge_engine.specs.declared.fault.Input.{Input}
 use Rattle.judge_engine.specs.declared.fault.JudgeFault.{JudgeFault}

@@ -3,7 +3,7 @@
 use Rattle.std.proofs.Common.{◌≡◌, Bool, true, false, List, ℕ, Option, Some, None, Result, Ok, Err, inl, inr, ap, refl, ◌∙◌}
 use Rattle.std.specs.Prelude.{◌≢◌, ◌⊎◌, is_none, if◌then◌else◌}
 use Rattle.std.specs.Option.{option_and_then}
-use Rattle.plan_cost.specs.declared.costs.CostedTask.{CostedTask}
+use Rattle.strips_task.specs.declared.costs.CostedTask.{CostedTask}
 use Rattle.pddl_syntax.specs.declared.dialect.Dialect.{Dialect}
 use Rattle.steps_text.specs.declared.fault.StepsFault.{StepsFault}
 use Rattle.steps_text.specs.StepsTexts.{StepsValue, steps_text}

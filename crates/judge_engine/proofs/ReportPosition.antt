@@ -6,7 +6,7 @@ use Rattle.std.specs.List.{concat, flat_map, slice_split}
 use Rattle.std.proofs.lemmas.Bool.{eq-eqb, ne_eqb}
 use Rattle.std.proofs.lemmas.List.{length-map}
 use Rattle.std.proofs.lemmas.List.Splits.{length-slice_split}
-use Rattle.plan_cost.specs.declared.costs.CostedTask.{CostedTask}
+use Rattle.strips_task.specs.declared.costs.CostedTask.{CostedTask}
 use Rattle.strips_task.specs.declared.plans.Plan.{Plan}
 use Rattle.judge_bench.specs.Submissions.{SubmissionParts}
 use Rattle.plan_text.specs.Bundle.{is_separator, lines, parts}

@@ -3,7 +3,7 @@
 use Rattle.std.specs.Prelude.{ℕ, Bool, List, length, map, nat_lt, nat_le, ◌&&◌, Option, None, Some, is_none, if◌then◌else◌}
 use Rattle.std.specs.List.{position_from, sum_by}
 use Rattle.std.specs.Option.{option_map}
-use Rattle.plan_cost.specs.declared.costs.CostedTask.{CostedTask}
+use Rattle.strips_task.specs.declared.costs.CostedTask.{CostedTask}
 use Rattle.plan_cost.specs.Assessments.{assessment}
 use Rattle.strips_task.specs.declared.plans.Plan.{Plan}
 use Rattle.plan_text.specs.Bundle.{parts}

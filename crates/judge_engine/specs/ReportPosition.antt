@@ -1,7 +1,7 @@
 -- How a report goes through the plans of the planners, one by one. Wherever another planner's plans begin, the sum of the one before comes first.
 
 use Rattle.std.specs.Prelude.{ℕ, ◌+◌, ◌<◌, ◌≤◌, ◌==◌, List, [], ◌∷◌, ◌++◌, map, get_or, None, if◌then◌else◌}
-use Rattle.plan_cost.specs.declared.costs.CostedTask.{CostedTask}
+use Rattle.strips_task.specs.declared.costs.CostedTask.{CostedTask}
 use Rattle.judge_bench.specs.Submissions.{SubmissionParts}
 use Rattle.report_text.specs.declared.format.Format.{Format}
 use Rattle.report_text.specs.Format.{plan_in, summary_in}

@@ -2,7 +2,7 @@
 
 use Rattle.std.proofs.Common.{◌≡◌, [], ◌∷◌, Option, refl, ap, sym, subst}
 use Rattle.std.specs.Map.{keys_of}
-use Rattle.plan_cost.specs.declared.costs.Costs.{Costs}
+use Rattle.strips_task.specs.declared.costs.Costs.{Costs}
 use Rattle.strips_task.specs.declared.tasks.TaskParts.{TaskParts}
 use Rattle.strips_task.specs.WellFormed.{IsWellFormed}
 use Rattle.pddl_reader.specs.declared.resolution.domain.Head.{Head}

@@ -6,7 +6,7 @@ use Rattle.formulas.specs.declared.terms.Pattern.{Pattern}
 use Rattle.formulas.specs.declared.variables.VariableGroup as kept
 use Rattle.formulas.specs.EffectTree.{EffectTree, change, joint, conditional, universal, effect_parts_of}
 use Rattle.formulas.specs.Tree.{Tree}
-use Rattle.plan_cost.specs.declared.amounts.Amount.{Amount}
+use Rattle.strips_task.specs.declared.amounts.Amount.{Amount}
 use Rattle.pddl_syntax.specs.declared.syntax.VariableGroup as groups
 use Rattle.pddl_syntax.specs.Forms.{variable_groups}
 use Rattle.pddl_syntax.specs.Optional.{through, with_front}

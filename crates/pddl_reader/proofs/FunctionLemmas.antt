@@ -6,9 +6,9 @@ use Rattle.std.specs.Str.{bytes_eq}
 use Rattle.pddl_words.specs.Words.{folded}
 use Rattle.formulas.specs.declared.terms.Pattern.{Pattern}
 use Rattle.formulas.specs.declared.atoms.Atom.{Atom}
-use Rattle.plan_cost.specs.declared.amounts.Amount.{Amount}
-use Rattle.plan_cost.specs.declared.amounts.Amount.TheVariants.{Number, Function}
-use Rattle.plan_cost.specs.declared.amounts.TheConstants.{MOST_INCREASES}
+use Rattle.strips_task.specs.declared.amounts.Amount.{Amount}
+use Rattle.strips_task.specs.declared.amounts.Amount.TheVariants.{Number, Function}
+use Rattle.strips_task.specs.declared.amounts.TheConstants.{MOST_INCREASES}
 use Rattle.pddl_syntax.specs.declared.syntax.VariableGroup as groups
 use Rattle.pddl_syntax.specs.Forms.{variable_groups}
 use Rattle.pddl_syntax.specs.Keywords.{total_cost_word}

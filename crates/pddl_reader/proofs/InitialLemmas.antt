@@ -4,8 +4,8 @@ use Rattle.std.proofs.Common.{◌≡◌, ℕ, ◌++◌, Bool, true, false, List,
 use Rattle.std.proofs.lemmas.List.{append-nil}
 use Rattle.std.specs.Option.{option_and_then}
 use Rattle.formulas.specs.declared.atoms.Atom.{Atom}
-use Rattle.plan_cost.specs.declared.values.Given.TheVariants.{First, Again, Another}
-use Rattle.plan_cost.specs.Values.{value_of, given_over, with_value}
+use Rattle.strips_task.specs.declared.values.Given.TheVariants.{First, Again, Another}
+use Rattle.strips_task.specs.Values.{value_of, given_over, with_value}
 use Rattle.pddl_syntax.specs.declared.fault.ReadFault.{ReadFault}
 use Rattle.pddl_syntax.specs.Optional.{guard, through}
 use Rattle.pddl_syntax.specs.Reading.{Puts}

@@ -15,7 +15,7 @@ use Rattle.strips_task.specs.Names.{are_distinct}
 use Rattle.strips_task.specs.Types.{IsTypeTree}
 use Rattle.strips_task.specs.WellFormed.{are_variables, is_pattern, is_formula, is_effect, is_action}
 use Rattle.strips_task.proofs.NameNumbers.{entries_distinct}
-use Rattle.plan_cost.specs.declared.amounts.Amount.{Amount}
+use Rattle.strips_task.specs.declared.amounts.Amount.{Amount}
 use Rattle.pddl_reader.specs.declared.resolution.actions.ActionTables.{ActionTables}
 use Rattle.pddl_reader.specs.declared.resolution.actions.CostedAction.{CostedAction}
 use Rattle.pddl_reader.specs.declared.resolution.effects.Effects.{Effects}

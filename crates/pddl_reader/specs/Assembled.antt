@@ -1,7 +1,7 @@
 -- Domains and tasks put together from their parts.
 
 use Rattle.strips_task.specs.declared.tasks.TaskParts.{TaskParts}
-use Rattle.plan_cost.specs.declared.costs.CostedTask.{CostedTask}
+use Rattle.strips_task.specs.declared.costs.CostedTask.{CostedTask}
 use Rattle.pddl_reader.specs.declared.resolution.domain.Head.{Head}
 use Rattle.pddl_reader.specs.declared.resolution.domain.Tables.{Tables}
 use Rattle.pddl_reader.specs.declared.resolution.problem.Given.{Given}

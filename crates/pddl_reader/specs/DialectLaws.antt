@@ -1,7 +1,7 @@
 -- What the larger dialects keep of the smaller ones.
 
 use Rattle.std.specs.Prelude.{◌≡◌, ℕ, List, [], Some, None}
-use Rattle.plan_cost.specs.declared.costs.CostedTask.{CostedTask}
+use Rattle.strips_task.specs.declared.costs.CostedTask.{CostedTask}
 use Rattle.pddl_syntax.specs.declared.dialect.Dialect.TheVariants.{Strips, Ipc, Adl}
 use Rattle.pddl_reader.specs.Domain.{DomainValue}
 use Rattle.pddl_reader.specs.Texts.{domain_in_text, problem_in_text}

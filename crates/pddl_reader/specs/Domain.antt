@@ -8,7 +8,7 @@ use Rattle.pddl_words.specs.Words.{folded}
 use Rattle.strips_task.specs.declared.actions.Action.{Action}
 use Rattle.formulas.specs.Tree.{Tree}
 use Rattle.strips_task.specs.WellFormed.{most_predicates, most_actions}
-use Rattle.plan_cost.specs.declared.amounts.Amount.{Amount}
+use Rattle.strips_task.specs.declared.amounts.Amount.{Amount}
 use Rattle.pddl_reader.specs.declared.resolution.actions.ActionTables.{ActionTables}
 use Rattle.pddl_reader.specs.declared.resolution.actions.CostedAction.{CostedAction}
 use Rattle.pddl_reader.specs.declared.resolution.effects.Effects.{Effects}

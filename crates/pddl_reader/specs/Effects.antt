@@ -5,7 +5,7 @@ use Rattle.std.specs.Option.{option_map}
 use Rattle.formulas.specs.declared.terms.Pattern.{Pattern}
 use Rattle.formulas.specs.EffectTree.{EffectTree, change, joint, conditional, universal, effect_parts_of}
 use Rattle.formulas.specs.Tree.{Tree}
-use Rattle.plan_cost.specs.declared.amounts.Amount.{Amount}
+use Rattle.strips_task.specs.declared.amounts.Amount.{Amount}
 use Rattle.pddl_syntax.specs.Optional.{followed_by, through}
 use Rattle.pddl_syntax.specs.Syntax.{EffectForm, atom_effect, increase_effect, joint_effect, conditional_effect, universal_effect, EffectForms, no_effects, effect_then}
 use Rattle.pddl_reader.specs.declared.resolution.effects.Effects.{Effects}

@@ -6,13 +6,13 @@ use Rattle.std.specs.Option.{option_map}
 use Rattle.formulas.specs.declared.terms.Pattern.{Pattern}
 use Rattle.formulas.specs.declared.atoms.Atom.{Atom}
 use Rattle.strips_task.specs.Names.{number_named}
-use Rattle.plan_cost.specs.declared.amounts.Amount.{Amount}
-use Rattle.plan_cost.specs.declared.amounts.Amount.TheVariants.{Number, Function}
-use Rattle.plan_cost.specs.declared.amounts.TheConstants.{MOST_INCREASES}
-use Rattle.plan_cost.specs.declared.costs.Costs.{Costs}
-use Rattle.plan_cost.specs.declared.values.Given.{Given}
-use Rattle.plan_cost.specs.declared.values.Given.TheVariants.{First, Again, Another}
-use Rattle.plan_cost.specs.Values.{value_of, given_over, with_value}
+use Rattle.strips_task.specs.declared.amounts.Amount.{Amount}
+use Rattle.strips_task.specs.declared.amounts.Amount.TheVariants.{Number, Function}
+use Rattle.strips_task.specs.declared.amounts.TheConstants.{MOST_INCREASES}
+use Rattle.strips_task.specs.declared.costs.Costs.{Costs}
+use Rattle.strips_task.specs.declared.values.Given.{Given}
+use Rattle.strips_task.specs.declared.values.Given.TheVariants.{First, Again, Another}
+use Rattle.strips_task.specs.Values.{value_of, given_over, with_value}
 use Rattle.pddl_syntax.specs.Keywords.{total_cost_word}
 use Rattle.pddl_syntax.specs.Optional.{guard}
 use Rattle.pddl_syntax.specs.Syntax.{AmountForm, number_amount, function_amount, ValueForm}

@@ -6,7 +6,7 @@ use Rattle.pddl_words.specs.Words.{folded}
 use Rattle.formulas.specs.declared.atoms.Atom.{Atom}
 use Rattle.formulas.specs.Tree.{Tree}
 use Rattle.strips_task.specs.declared.tasks.TaskParts.{TaskParts}
-use Rattle.plan_cost.specs.declared.costs.CostedTask.{CostedTask}
+use Rattle.strips_task.specs.declared.costs.CostedTask.{CostedTask}
 use Rattle.pddl_reader.specs.Scopes.{outermost}
 use Rattle.pddl_reader.specs.Variables.{no_variables}
 use Rattle.pddl_syntax.specs.Optional.{through}

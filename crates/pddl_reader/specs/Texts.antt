@@ -3,7 +3,7 @@
 use Rattle.std.specs.Prelude.{ℕ, List, Option, Some, None}
 use Rattle.std.specs.Option.{option_and_then, option_map}
 use Rattle.strips_task.specs.declared.tasks.TaskParts.{TaskParts}
-use Rattle.plan_cost.specs.declared.costs.CostedTask.{CostedTask}
+use Rattle.strips_task.specs.declared.costs.CostedTask.{CostedTask}
 use Rattle.pddl_syntax.specs.declared.fault.ReadFault.{ReadFault}
 use Rattle.pddl_reader.specs.Domain.{DomainValue, domain_of}
 use Rattle.pddl_syntax.specs.Levels.{trees}

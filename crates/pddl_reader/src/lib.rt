@@ -22,8 +22,7 @@ mod readers;
 mod resolution;
 
 pub use pddl_syntax::{Dialect, FaultKind, ReadFault};
-pub use plan_cost::CostedTask;
 pub use plan_text::{Parts, read_plan};
 pub use readers::{read_domain, read_domain_in, read_problem, read_problem_in};
 pub use resolution::domain::Domain;
-pub use strips_task::Seed;
+pub use strips_task::{CostedTask, Seed};

@@ -9,9 +9,8 @@ ghost use Rattle.pddl_syntax.specs.Trees.{text_fault};
 use crate::resolution::domain::{Domain, resolve_domain};
 use crate::resolution::problem::resolve_problem;
 use pddl_syntax::{Dialect, ReadFault, check_text, domain_text, problem_text};
-use plan_cost::CostedTask;
 use std::alloc::Global;
-use strips_task::{Seed, Task};
+use strips_task::{CostedTask, Seed, Task};
 
 /// Reads a domain (PDDL 2.1, Fox and Long 2003, appendix A). Walks over the text twice, over lists of variables three times, and looks up
 /// each name with one hash. The tables of the domain, and those of the task made from it, hash with the seed; the domain does not depend

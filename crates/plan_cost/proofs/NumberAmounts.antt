@@ -3,8 +3,8 @@
 use Rattle.std.proofs.Common.{◌≡◌, ℕ, true, List, [], ◌∷◌, map, refl, ap, sym, true≢false}
 use Rattle.std.specs.List.{list_all}
 use Rattle.formulas.specs.declared.atoms.Atom.{Atom}
-use Rattle.plan_cost.specs.declared.amounts.Amount.{Amount}
-use Rattle.plan_cost.specs.declared.amounts.Amount.TheVariants.{Number, Function}
+use Rattle.strips_task.specs.declared.amounts.Amount.{Amount}
+use Rattle.strips_task.specs.declared.amounts.Amount.TheVariants.{Number, Function}
 use Rattle.plan_cost.specs.Amounts.{is_number}
 use Rattle.plan_cost.specs.Costs.{amount_of}
 

@@ -1,8 +1,8 @@
 -- Kinds of amounts.
 
 use Rattle.std.specs.Prelude.{Bool, true, false}
-use Rattle.plan_cost.specs.declared.amounts.Amount.{Amount}
-use Rattle.plan_cost.specs.declared.amounts.Amount.TheVariants.{Number, Function}
+use Rattle.strips_task.specs.declared.amounts.Amount.{Amount}
+use Rattle.strips_task.specs.declared.amounts.Amount.TheVariants.{Number, Function}
 
 -- whether an amount is a number
 abbrev pub is_number : Amount → Bool

@@ -9,8 +9,8 @@ use Rattle.strips_judge.specs.Verdict.{verdict}
 use Rattle.plan_cost.specs.declared.assessments.Assessment.{Assessment}
 use Rattle.plan_cost.specs.declared.costs.Cost.{Cost}
 use Rattle.plan_cost.specs.declared.costs.Cost.TheVariants.{NotCounted}
-use Rattle.plan_cost.specs.declared.costs.CostedTask.{CostedTask}
-use Rattle.plan_cost.specs.declared.costs.Costs.{Costs}
+use Rattle.strips_task.specs.declared.costs.CostedTask.{CostedTask}
+use Rattle.strips_task.specs.declared.costs.Costs.{Costs}
 use Rattle.plan_cost.specs.Costs.{cost_of}
 
 -- the cost that goes with a verdict: that of the plan, if the plan is valid and costs are counted

@@ -11,12 +11,12 @@ use Rattle.strips_task.specs.declared.tasks.TaskParts.{TaskParts}
 use Rattle.strips_task.specs.Names.{number_named}
 use Rattle.formulas.specs.Meaning.{object_of}
 use Rattle.strips_judge.specs.Step.{objects_named}
-use Rattle.plan_cost.specs.declared.amounts.Amount.{Amount}
-use Rattle.plan_cost.specs.declared.amounts.Amount.TheVariants.{Number, Function}
+use Rattle.strips_task.specs.declared.amounts.Amount.{Amount}
+use Rattle.strips_task.specs.declared.amounts.Amount.TheVariants.{Number, Function}
 use Rattle.plan_cost.specs.declared.costs.Cost.{Cost}
 use Rattle.plan_cost.specs.declared.costs.Cost.TheVariants.{NotCounted, Undefined, Billionths}
-use Rattle.plan_cost.specs.declared.costs.Costs.{Costs}
-use Rattle.plan_cost.specs.Values.{value_of}
+use Rattle.strips_task.specs.declared.costs.Costs.{Costs}
+use Rattle.strips_task.specs.Values.{value_of, initial_cost}
 
 -- an amount when the parameters stand for these objects: its number, or the value of its ground function, if that has one
 abbrev pub amount_of : List (Atom × ℕ) → List ℕ → Amount → Option ℕ
@@ -30,10 +30,6 @@ increases_of parts costs word = unwrap_or (option_and_then (slice_get costs.incr
 -- the amounts that a step adds, one for each increase of its action
 abbrev pub step_amounts : TaskParts → Costs → StepText → List (Option ℕ)
 step_amounts parts costs step = map (amount_of costs.values (objects_named parts step.args)) (increases_of parts costs step.action)
-
--- the value that the total cost begins with: 0 if the problem gives none
-abbrev pub initial_cost : Costs → ℕ
-initial_cost costs = unwrap_or (value_of costs.values (record { pred = costs.total_cost; args = [] })) 0
 
 -- the sum of two amounts, undefined if one of them is
 abbrev pub added : Option ℕ → Option ℕ → Option ℕ

@@ -6,10 +6,11 @@ use Rattle.strips_task.specs.declared.plans.Plan.{Plan}
 use Rattle.strips_task.specs.declared.steps.StepText.{StepText}
 use Rattle.strips_task.specs.declared.tasks.TaskParts.{TaskParts}
 use Rattle.strips_judge.specs.Verdict.{verdict}
-use Rattle.plan_cost.specs.declared.costs.CostedTask.{CostedTask}
-use Rattle.plan_cost.specs.declared.costs.Costs.{Costs}
+use Rattle.strips_task.specs.declared.costs.CostedTask.{CostedTask}
+use Rattle.strips_task.specs.declared.costs.Costs.{Costs}
 use Rattle.plan_cost.specs.Assessments.{assessment}
-use Rattle.plan_cost.specs.Costs.{added, sum_of, initial_cost, step_amounts, steps_cost}
+use Rattle.plan_cost.specs.Costs.{added, sum_of, step_amounts, steps_cost}
+use Rattle.strips_task.specs.Values.{initial_cost}
 
 -- the verdict of an assessment is that of the plan for the task without its costs
 abbrev pub VerdictIgnoresCosts : CostedTask → Plan → Type 0

@@ -3,4 +3,3 @@ pub mod Assessments
 pub mod CompactCosts
 pub mod Costs
 pub mod Laws
-pub mod Values

@@ -9,7 +9,8 @@ ghost use Rattle.strips_task.specs.declared.tasks.TaskParts.{TaskParts};
 ghost use Rattle.strips_judge.specs.Step.{objects_named};
 ghost use Rattle.strips_judge.specs.StepNumbers.{IsNumbered};
 ghost use Rattle.plan_cost.specs.CompactCosts.{IsCompact};
-ghost use Rattle.plan_cost.specs.Costs.{amount_of, increases_of, step_amounts, initial_cost, sum_of, steps_cost, cost_answer, cost_of};
+ghost use Rattle.plan_cost.specs.Costs.{amount_of, increases_of, step_amounts, sum_of, steps_cost, cost_answer, cost_of};
+ghost use Rattle.strips_task.specs.Values.{initial_cost};
 
 use crate::objects::{find_objects_for, ground};
 use crate::{Amount, Cost, Costs, FunctionValues, MOST_INCREASES};

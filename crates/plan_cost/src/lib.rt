@@ -9,23 +9,22 @@
 //! ```
 //!
 //! Actions may increase `(total-cost)`, by numbers or by values that the problem gives to functions (PDDL 2.1, Fox and Long 2003,
-//! section 4). A reader fills [`Costs`], and a task with them is a [`CostedTask`]. [`plan_cost`] adds up what the steps of a plan cost.
-//! [`assess`] judges a plan, and adds up its cost if it is valid. No condition can read a cost, so the verdict is that of the task without
-//! its costs.
+//! section 4). A reader fills [`Costs`], and a task with them is a [`CostedTask`]; both are re-exported from the crate `strips_task`.
+//! [`plan_cost`] adds up what the steps of a plan cost. [`assess`] judges a plan, and adds up its cost if it is valid. No condition can read
+//! a cost, so the verdict is that of the task without its costs.
 #![tactic(auto)]
 
-mod amounts;
 mod assessments;
 mod compact;
 mod costs;
 mod counting;
 pub mod laws;
 mod objects;
-mod values;
 
-pub use amounts::{Amount, Increases, MOST_INCREASES};
 pub use assessments::{Assessment, assess};
 pub use compact::CompactCost;
-pub use costs::{Cost, CostedTask, Costs};
+pub use costs::Cost;
 pub use counting::{CostScratch, numbered_cost, plan_cost, step_cost};
-pub use values::{FunctionValues, Given};
+pub use strips_task::{
+    Amount, CostedTask, Costs, FunctionValues, Given, Increases, MOST_INCREASES,
+};

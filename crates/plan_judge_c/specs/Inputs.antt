@@ -1,6 +1,6 @@
 -- What a caller in C hands in.
 
-use Rattle.std.specs.Prelude.{ℕ, List, map, Option, Some, None, ◌==◌, if◌then◌else◌}
+use Rattle.std.specs.Prelude.{ℕ, nat_lt, Bool, ◌&&◌, ◌||◌, List, map, Option, Some, None, ◌==◌, if◌then◌else◌}
 use Rattle.pddl_syntax.specs.declared.dialect.Dialect.{Dialect}
 use Rattle.pddl_syntax.specs.declared.dialect.Dialect.TheVariants.{Strips, Ipc, Adl}
 use Rattle.report_text.specs.declared.format.Format.{Format}
@@ -16,6 +16,10 @@ dialect_numbered number = if number == 0 then Some Strips else if number == 1 th
 -- the format with a number
 abbrev pub format_numbered : ℕ → Option Format
 format_numbered number = if number == 0 then Some Lines else if number == 1 then Some Table else if number == 2 then Some Json else None
+
+-- explanations can be asked for by these numbers: as a text for people or as JSON, with what each step changes, with warnings, with both or with neither
+abbrev pub is_asked : ℕ → ℕ → Bool
+is_asked format extras = ((format == 0) || (format == 2)) && nat_lt extras 4
 
 -- a file as a planner's file
 abbrev pub bundle_of : NamedText → BundleValue

@@ -4,7 +4,7 @@ ghost use Rattle.explanations.specs.AllValid.{all_valid_for};
 ghost use Rattle.task_reader.specs.Texts.{task_in};
 ghost use Rattle.plan_judge_c.specs.Answers.{IsTooLarge, are_valid};
 ghost use Rattle.plan_judge_c.specs.Handing.{IsHandedOut};
-ghost use Rattle.plan_judge_c.specs.Inputs.{dialect_numbered, source_of};
+ghost use Rattle.plan_judge_c.specs.Inputs.{dialect_numbered, is_asked, source_of};
 ghost use Rattle.plan_judge_c.specs.declared.answer.TheConstants.{MADE, REFUSED, MISUSED, OUT_OF_MEMORY};
 
 use crate::answer::{Answer, MADE, MISUSED, OUT_OF_MEMORY, REFUSED, hand_out, no_text};
@@ -39,7 +39,8 @@ pub extern "C" fn plan_judge_explain(
     ensures made { result.status ≡ MADE → are_valid texts.now ≡ true }
     ensures refused { result.status ≡ REFUSED → (are_valid texts.now ≡ false) ⊎ IsTooLarge texts.now }
     ensures written { (text : List ℕ) × IsHandedOut text result.length out.old out.new }
-    ensures unknown { dialect_numbered texts.now.dialect ≡ None → result.status ≡ MISUSED }
+    ensures misused { result.status ≡ MISUSED → (dialect_numbered texts.now.dialect ≡ None) ⊎ (is_asked format extras ≡ false) }
+    ensures unknown { (dialect_numbered texts.now.dialect ≡ None) ⊎ (is_asked format extras ≡ false) → result.status ≡ MISUSED }
     ensures no_text { MISUSED ≤ result.status → (result.length ≡ 0) × (out.new ≡ out.old) }
 {
     let Some(options) = options_from(texts.dialect, format, extras) else {
@@ -66,7 +67,8 @@ pub extern "C" fn plan_judge_explain(
 /// How to explain, if all numbers are known.
 fn options_from(dialect: u32, format: u32, extras: u32) -> Option<Options>
     ensures dialect { MatchOption result ⊤ (λ options. dialect_numbered dialect ≡ Some options.dialect) }
-    ensures unknown { dialect_numbered dialect ≡ None → result ≡ None }
+    ensures asked { MatchOption result ⊤ (λ options. is_asked format extras ≡ true) }
+    ensures unknown { result ≡ None → (dialect_numbered dialect ≡ None) ⊎ (is_asked format extras ≡ false) }
 {
     let dialect = dialect_numbered(dialect)?;
     let format = match format {

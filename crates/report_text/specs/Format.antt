@@ -14,8 +14,8 @@ use Rattle.strips_judge.specs.declared.verdict.Why.TheVariants.{UnknownAction, W
 use Rattle.plan_text.specs.StepAt.{step_at}
 use Rattle.plan_cost.specs.declared.costs.Cost.{Cost}
 use Rattle.plan_cost.specs.declared.costs.Cost.TheVariants.{NotCounted, Undefined, Billionths}
-use Rattle.plan_cost.specs.declared.costs.Costs.{Costs}
-use Rattle.plan_cost.specs.declared.costs.CostedTask.{CostedTask}
+use Rattle.strips_task.specs.declared.costs.Costs.{Costs}
+use Rattle.strips_task.specs.declared.costs.CostedTask.{CostedTask}
 use Rattle.report_text.specs.declared.format.Format.{Format}
 use Rattle.report_text.specs.declared.format.Format.TheVariants.{Lines, Table, Json}
 use Rattle.report_text.specs.CostText.{billionths_text}

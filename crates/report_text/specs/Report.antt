@@ -14,7 +14,7 @@ use Rattle.strips_judge.specs.declared.verdict.Why.TheVariants.{UnknownAction, W
 use Rattle.plan_text.specs.StepAt.{step_at}
 use Rattle.plan_cost.specs.declared.costs.Cost.{Cost}
 use Rattle.plan_cost.specs.declared.costs.Cost.TheVariants.{NotCounted, Undefined, Billionths}
-use Rattle.plan_cost.specs.declared.costs.Costs.{Costs}
+use Rattle.strips_task.specs.declared.costs.Costs.{Costs}
 use Rattle.plan_cost.specs.Costs.{cost_answer}
 use Rattle.intake_rules.specs.declared.finding.Finding.{Finding}
 use Rattle.report_text.specs.Conditions.{condition_text}

@@ -1,6 +1,6 @@
 -- Codes: what atoms and their numbers say of each other, one by one, and what growth leaves of it.
 
-use Rattle.std.proofs.Common.{◌≡◌, ◌==◌, ◌<◌, ◌≤◌, ◌+◌, ◌↔◌, ℕ, zero, suc, Bool, true, false, not, cond, nat_eq, List, [], ◌∷◌, ◌++◌, Option, Some, None, All, IsTrue, refl, ap, sym, ◌∙◌, length, map, slice_get, take, get_or, subst, append-nil, ⊎_elim, arith, tests}
+use Rattle.std.proofs.Common.{◌≡◌, ◌==◌, ◌<◌, ◌≤◌, ◌+◌, ◌↔◌, ℕ, zero, suc, Bool, true, false, not, cond, List, [], ◌∷◌, ◌++◌, Option, Some, None, All, IsTrue, refl, ap, sym, ◌∙◌, length, map, slice_get, take, get_or, subst, append-nil, ⊎_elim, arith, tests}
 use Rattle.std.specs.Option.{option_or}
 use Rattle.std.proofs.Math.Bool.{not-not}
 use Rattle.std.proofs.lemmas.List.{take_all, map-append}
@@ -8,11 +8,9 @@ use Rattle.std.proofs.lemmas.Option.{get_or_from_slice_get, slice_get_cases, sli
 use Rattle.std.proofs.lemmas.List.Elements.{All-append, All-nil, All-cons, All-push, All-pop}
 use Rattle.bit_rows.specs.Rows.{row_has}
 use Rattle.formulas.specs.declared.atoms.Atom.{Atom}
-use Rattle.formulas.specs.declared.terms.Term.{Term}
 use Rattle.formulas.specs.declared.terms.Pattern.{Pattern}
 use Rattle.formulas.specs.Grounding.{with_objects}
-use Rattle.formulas.specs.Meaning.{object_of, signed}
-use Rattle.formulas.specs.Tree.{Tree, atom, equality}
+use Rattle.formulas.specs.Tree.{Tree, atom}
 use Rattle.strips_task.specs.declared.actions.Action.{Action}
 use Rattle.strips_task.specs.declared.steps.StepText.{StepText}
 use Rattle.strips_task.specs.declared.tasks.TaskParts.{TaskParts}
@@ -22,8 +20,9 @@ use Rattle.strips_judge.specs.Grounding.{ground}
 use Rattle.strips_judge.specs.Step.{deletes, deletes_by, adds, adds_by, action_named, objects_named, fault_by, hindrance, after, after_by, precondition, missing, missing_why}
 use Rattle.strips_task.specs.AtomNumbers.{number_in}
 use Rattle.strips_judge.specs.NumberedState.{Numbered, KeepsNumbers, bit_of, state_of}
-use Rattle.strips_judge.specs.Programs.{AreBitsOf, numbers_changed}
-use Rattle.strips_judge.specs.State.{State, is_in, holds, after_effects, without, with_all}
+use Rattle.strips_judge.specs.Programs.{AreBitsOf, IsNumber, numbers_changed}
+use Rattle.strips_judge.specs.State.{State, holds, after_effects, without, with_all}
+use Rattle.strips_judge.specs.Statics.{KeepsStatics}
 use Rattle.strips_judge.proofs.Applicable.{missing_from_satisfied}
 use Rattle.strips_task.proofs.Numbering.{number_in-lt}
 use Rattle.strips_judge.proofs.StepLaws.{taken_more, without-more, with_all-more, grounded_holds}
@@ -66,16 +65,19 @@ numbers_within atoms (a ∷ more) (n ∷ ns) e =
     let rest : map (number_in atoms) more ≡ map Some ns = cc in
     All-cons (λ k. k < length atoms) n ns (number_in-lt atoms a n here) (numbers_within atoms more ns rest)
 
--- what a bit says of an atom with a number; another one is false
-abbrev bit_by : (ℕ → Bool) → Option ℕ → Bool
-bit_by bits (Some number) = bits number
-bit_by bits None = false
+-- the numbers of these atoms are numbers of atoms
+pub are_numbers : (atoms ground : List Atom) (numbers : List ℕ) → AreNumbers atoms ground numbers → All (IsNumber atoms) numbers
+are_numbers atoms [] [] e = All-nil (IsNumber atoms)
+are_numbers atoms [] (n ∷ ns) e = cc
+are_numbers atoms (a ∷ more) [] e = cc
+are_numbers atoms (a ∷ more) (n ∷ ns) e =
+    let here : number_in atoms a ≡ Some n = cc in
+    let rest : map (number_in atoms) more ≡ map Some ns = cc in
+    All-cons (IsNumber atoms) n ns (a, here) (are_numbers atoms more ns rest)
 
--- the atoms that a code adds have numbers, whatever the bits are
+-- the numbers that a code adds are below how many there are, whatever the bits are
 pub added_within : (parts : TaskParts) (atoms : List Atom) (step : StepText) (code : Code) → IsCode parts atoms step code → (bits : ℕ → Bool) → All (λ n. n < length atoms) (numbers_by bits true code)
-added_within parts atoms step code is bits =
-    let state : State = λ atom. bit_by bits (number_in atoms atom) in
-    numbers_within atoms (adds parts state step) (numbers_by bits true code) (is.added state bits (λ atom number e. sym (ap (bit_by bits) e)))
+added_within parts atoms step code is bits = λ i d lt. let found = is.within bits i d lt in number_in-lt atoms found.0 (get_or (numbers_by bits true code) i d) found.1
 
 -- a list is empty if its length says so
 pub nothing_in : {X : Type 0} (xs : List X) (is_empty : Bool) → is_empty ≡ (length xs == 0) → is_empty ≡ true → xs ≡ []
@@ -122,8 +124,9 @@ code_kept parts old new keep step code h =
     record {
       faultless = h.faultless;
       asks = asks_kept parts old new keep (precondition parts step) code h.asks;
-      deleted = λ state bits are. numbers_kept old new keep (deletes parts state step) (numbers_by bits false code) (h.deleted state bits (λ atom number e. are atom number (keep atom number e)));
-      added = λ state bits are. numbers_kept old new keep (adds parts state step) (numbers_by bits true code) (h.added state bits (λ atom number e. are atom number (keep atom number e)));
+      deleted = λ state bits stays are. numbers_kept old new keep (deletes parts state step) (numbers_by bits false code) (h.deleted state bits stays (λ atom number e. are atom number (keep atom number e)));
+      added = λ state bits stays are. numbers_kept old new keep (adds parts state step) (numbers_by bits true code) (h.added state bits stays (λ atom number e. are atom number (keep atom number e)));
+      within = λ bits i d lt. let found = h.within bits i d lt in (found.0, keep found.0 (get_or (numbers_by bits true code) i d) found.1);
     }
 
 module _ (atoms : List Atom) (ground : List Atom) (numbers : List ℕ) (i : ℕ) (same : AreNumbers atoms ground numbers) (lt : i < length numbers) where
@@ -167,7 +170,7 @@ asks_nothing parts atoms code none nor =
       falses = [];
       needed = sym (ap (map Some) none);
       forbidden = sym (ap (map Some) nor);
-      exactly = λ state. (λ h. All-nil (λ tree. IsTrue (holds parts state [] tree)), λ h. (All-nil (λ atom. state atom ≡ true), All-nil (λ atom. state atom ≡ false)));
+      exactly = λ state stays. (λ h. All-nil (λ tree. IsTrue (holds parts state [] tree)), λ h. (All-nil (λ atom. state atom ≡ true), All-nil (λ atom. state atom ≡ false)));
     }
 
 -- all of these, and one more
@@ -187,11 +190,11 @@ module _ (parts : TaskParts) (old new : List Atom) (keep : KeepsNumbers old new)
         falses = h.falses;
         needed = numbers_more old new keep h.trues (h.trues ++ fact ∷ []) code.needed (code.needed ++ number ∷ []) fact number refl refl h.needed here;
         forbidden = numbers_kept old new keep h.falses code.forbidden h.forbidden;
-        exactly = λ state. (
+        exactly = λ state stays. (
           λ given. let parted = (all_more (λ a. state a ≡ true) h.trues fact).1 given.0 in
-              (all_more (Holds state) before more).0 ((h.exactly state).0 (parted.0, given.1), means state ∙ parted.1),
+              (all_more (Holds state) before more).0 ((h.exactly state stays).0 (parted.0, given.1), means state ∙ parted.1),
           λ holding. let parted = (all_more (Holds state) before more).1 holding in
-              let so_far = (h.exactly state).1 parted.0 in
+              let so_far = (h.exactly state stays).1 parted.0 in
               ((all_more (λ a. state a ≡ true) h.trues fact).0 (so_far.0, sym (means state) ∙ parted.1), so_far.1),
         );
       }
@@ -205,26 +208,26 @@ module _ (parts : TaskParts) (old new : List Atom) (keep : KeepsNumbers old new)
         falses = h.falses ++ fact ∷ [];
         needed = numbers_kept old new keep h.trues code.needed h.needed;
         forbidden = numbers_more old new keep h.falses (h.falses ++ fact ∷ []) code.forbidden (code.forbidden ++ number ∷ []) fact number refl refl h.forbidden here;
-        exactly = λ state. (
+        exactly = λ state stays. (
           λ given. let parted = (all_more (λ a. state a ≡ false) h.falses fact).1 given.1 in
-              (all_more (Holds state) before more).0 ((h.exactly state).0 (given.0, parted.0), means state ∙ ap not parted.1),
+              (all_more (Holds state) before more).0 ((h.exactly state stays).0 (given.0, parted.0), means state ∙ ap not parted.1),
           λ holding. let parted = (all_more (Holds state) before more).1 holding in
-              let so_far = (h.exactly state).1 parted.0 in
+              let so_far = (h.exactly state stays).1 parted.0 in
               (so_far.0, (all_more (λ a. state a ≡ false) h.falses fact).0 (so_far.1, sym (not-not (state fact)) ∙ ap not (sym (means state) ∙ parted.1))),
         );
       }
 
-  -- a condition more that holds in every state
-  pub asks_always : ((state : State) → holds parts state [] more ≡ true) → AsksFor parts new (before ++ more ∷ []) code
+  -- a condition more that holds in every state of the task
+  asks_always : ((state : State) → KeepsStatics parts state → holds parts state [] more ≡ true) → AsksFor parts new (before ++ more ∷ []) code
   asks_always always =
       record {
         trues = h.trues;
         falses = h.falses;
         needed = numbers_kept old new keep h.trues code.needed h.needed;
         forbidden = numbers_kept old new keep h.falses code.forbidden h.forbidden;
-        exactly = λ state. (
-          λ given. (all_more (Holds state) before more).0 ((h.exactly state).0 given, always state),
-          λ holding. (h.exactly state).1 ((all_more (Holds state) before more).1 holding).0,
+        exactly = λ state stays. (
+          λ given. (all_more (Holds state) before more).0 ((h.exactly state stays).0 given, always state stays),
+          λ holding. (h.exactly state stays).1 ((all_more (Holds state) before more).1 holding).0,
         );
       }
 
@@ -239,22 +242,20 @@ asks_literal parts old new keep before code objects tree false pattern number is
     asks_false parts old new keep before (with_objects objects [] tree) code h (ground objects pattern) number here
     (λ state. grounded_holds parts state objects tree ∙ ap (holds parts state objects) is)
 
--- an equality more that holds
-pub asks_equality : (parts : TaskParts) (atoms : List Atom) (before : List Tree) (code : Code) (objects : List ℕ) (tree : Tree) (positive : Bool) (left right : Term)
-    → tree ≡ equality positive left right → signed positive (nat_eq (object_of objects [] left) (object_of objects [] right)) ≡ true
-    → AsksFor parts atoms before code → AsksFor parts atoms (before ++ with_objects objects [] tree ∷ []) code
-asks_equality parts atoms before code objects tree positive left right is fits h =
-    asks_always parts atoms atoms (λ a n e. e) before (with_objects objects [] tree) code h
-    (λ state. grounded_holds parts state objects tree ∙ ap (holds parts state objects) is ∙ fits)
+-- one more that holds in every state of the task
+pub asks_lasting : (parts : TaskParts) (atoms : List Atom) (before : List Tree) (code : Code) (objects : List ℕ) (tree : Tree)
+    → ((state : State) → KeepsStatics parts state → holds parts state objects tree ≡ true) → AsksFor parts atoms before code → AsksFor parts atoms (before ++ with_objects objects [] tree ∷ []) code
+asks_lasting parts atoms before code objects tree lasts h =
+    asks_always parts atoms atoms (λ a n e. e) before (with_objects objects [] tree) code h (λ state stays. grounded_holds parts state objects tree ∙ lasts state stays)
 
-module _ (parts : TaskParts) (atoms : List Atom) (state : State) (step : StepText) (code : Code) (is : IsCode parts atoms step code) where
+module _ (parts : TaskParts) (atoms : List Atom) (state : State) (step : StepText) (code : Code) (stays : KeepsStatics parts state) (is : IsCode parts atoms step code) where
   -- a step with a code is not hindered where all is as the code asks
   pub code_hinders_not : ((ground : List Atom) → AreNumbers atoms ground code.needed → All (λ atom. state atom ≡ true) ground)
       → ((ground : List Atom) → AreNumbers atoms ground code.forbidden → All (λ atom. state atom ≡ false) ground) → hindrance parts state step ≡ None
   code_hinders_not needs forbids =
       let conditions = precondition parts step in
       ap (λ o. option_or o (missing_why (missing parts state conditions))) is.faultless
-      ∙ ap missing_why (missing_from_satisfied parts state conditions ((is.asks.exactly state).0 (needs is.asks.trues is.asks.needed, forbids is.asks.falses is.asks.forbidden)))
+      ∙ ap missing_why (missing_from_satisfied parts state conditions ((is.asks.exactly state stays).0 (needs is.asks.trues is.asks.needed, forbids is.asks.falses is.asks.forbidden)))
 
   -- and leads to the state after its deletes and adds
   pub code_leads : (middle next : State) → middle ≡ without state (deletes parts state step) → next ≡ with_all middle (adds parts state step) → next ≡ after parts state step

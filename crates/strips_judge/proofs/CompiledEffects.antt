@@ -1,10 +1,11 @@
 -- What programs find when instructions are added to them.
 
-use Rattle.std.proofs.Common.{◌≡◌, ℕ, zero, suc, ◌+◌, ◌-◌, ◌<◌, ◌≤◌, Bool, true, false, not, cond, ◌&&◌, List, [], ◌∷◌, ◌++◌, Some, refl, sym, ap, ◌∙◌, subst, drop, take, get_or, length, map, append-nil, append_assoc, length-append, arith}
+use Rattle.std.proofs.Common.{◌≡◌, ℕ, zero, suc, ◌+◌, ◌<◌, Bool, true, false, cond, ◌&&◌, List, [], ◌∷◌, ◌++◌, Some, All, refl, sym, ap, ◌∙◌, subst, take, get_or, length, map, append-nil, append_assoc, arith}
 use Rattle.std.proofs.Math.Seq.{drop-length, drop-append_seam, take-append_seam}
 use Rattle.std.proofs.Math.Bool.{and-false}
 use Rattle.std.proofs.lemmas.List.Folds.{list_all_more}
 use Rattle.std.proofs.lemmas.List.{map-append}
+use Rattle.std.proofs.lemmas.List.Elements.{All-append, All-cons, All-nil}
 use Rattle.std.specs.Bool.{beq}
 use Rattle.std.specs.List.{flat_map, insert, list_all}
 use Rattle.formulas.specs.declared.atoms.Atom.{Atom}
@@ -23,8 +24,9 @@ use Rattle.strips_judge.specs.Codes.{AreNumbers}
 use Rattle.strips_judge.specs.Compiling.{FoundIn, Finds, FindsMore, where_it_holds}
 use Rattle.strips_judge.specs.Gathered.{and_then, changed_alone, effect_found, effects_found}
 use Rattle.strips_judge.specs.NumberedState.{KeepsNumbers}
-use Rattle.strips_judge.specs.Programs.{AreBitsOf, numbers_changed}
+use Rattle.strips_judge.specs.Programs.{AreBitsOf, IsNumber, numbers_changed}
 use Rattle.strips_judge.specs.State.{State, objects_of}
+use Rattle.strips_judge.specs.Statics.{KeepsStatics}
 use Rattle.strips_judge.specs.Step.{changed_by}
 use Rattle.strips_judge.proofs.CodeLaws.{numbers_kept}
 use Rattle.strips_judge.proofs.Instructions.{skipped}
@@ -38,56 +40,71 @@ numbers_both atoms these those numbers others h k =
 pub bits_before : (old new : List Atom) → KeepsNumbers old new → (state : State) (bits : ℕ → Bool) → AreBitsOf new state bits → AreBitsOf old state bits
 bits_before old new keep state bits are = λ atom number e. are atom number (keep atom number e)
 
+-- numbers of atoms are still that where more atoms have numbers
+pub numbers_stay : (old new : List Atom) → KeepsNumbers old new → (numbers : List ℕ) → All (IsNumber old) numbers → All (IsNumber new) numbers
+numbers_stay old new keep numbers h = λ i d lt. let found = h i d lt in (found.0, keep found.0 (get_or numbers i d) found.1)
+
 -- nothing more is found
-pub more_nothing : (atoms : List Atom) (program : List Instruction) (found : FoundIn) → ((state : State) (truth : Bool) → found state truth ≡ []) → FindsMore atoms program program found
+pub more_nothing : {parts : TaskParts} (atoms : List Atom) (program : List Instruction) (found : FoundIn) → ((state : State) → KeepsStatics parts state → (truth : Bool) → found state truth ≡ []) → FindsMore parts atoms program program found
 more_nothing atoms program found none =
     record {
       more = [];
       is = sym (append-nil program);
       finds = record {
-        numbers = λ state bits are truth. ap (map (number_in atoms)) (none state truth);
+        numbers = λ state bits stays are truth. ap (map (number_in atoms)) (none state stays truth);
+        within = λ bits truth. All-nil (IsNumber atoms);
         goes_on = λ bits truth rest. refl;
       };
     }
 
--- the same in other words
-pub more_as : (atoms : List Atom) (old new : List Instruction) (found same : FoundIn) → ((state : State) (truth : Bool) → found state truth ≡ same state truth)
-    → FindsMore atoms old new found → FindsMore atoms old new same
-more_as atoms old new found same is h =
+-- the same in other words, in states in which static atoms are as at the start
+pub more_where : {parts : TaskParts} (atoms : List Atom) (old new : List Instruction) (found same : FoundIn) → ((state : State) → KeepsStatics parts state → (truth : Bool) → found state truth ≡ same state truth)
+    → FindsMore parts atoms old new found → FindsMore parts atoms old new same
+more_where atoms old new found same is h =
     record {
       more = h.more;
       is = h.is;
       finds = record {
-        numbers = λ state bits are truth. subst (λ l. AreNumbers atoms l (numbers_changed bits truth 0 h.more)) (is state truth) (h.finds.numbers state bits are truth);
+        numbers = λ state bits stays are truth. subst (λ l. AreNumbers atoms l (numbers_changed bits truth 0 h.more)) (is state stays truth) (h.finds.numbers state bits stays are truth);
+        within = h.finds.within;
         goes_on = h.finds.goes_on;
       };
     }
 
+-- the same in other words
+pub more_as : {parts : TaskParts} (atoms : List Atom) (old new : List Instruction) (found same : FoundIn) → ((state : State) (truth : Bool) → found state truth ≡ same state truth)
+    → FindsMore parts atoms old new found → FindsMore parts atoms old new same
+more_as atoms old new found same is h = more_where atoms old new found same (λ state stays truth. is state truth) h
+
 -- the same while atoms get numbers
-abbrev pub more_kept : (old_atoms new_atoms : List Atom) → KeepsNumbers old_atoms new_atoms → (old new : List Instruction) (found : FoundIn) → FindsMore old_atoms old new found → FindsMore new_atoms old new found
+abbrev pub more_kept : {parts : TaskParts} (old_atoms new_atoms : List Atom) → KeepsNumbers old_atoms new_atoms → (old new : List Instruction) (found : FoundIn) → FindsMore parts old_atoms old new found → FindsMore parts new_atoms old new found
 more_kept old_atoms new_atoms keep old new found h =
     record {
       more = h.more;
       is = h.is;
       finds = record {
-        numbers = λ state bits are truth.
-            numbers_kept old_atoms new_atoms keep (found state truth) (numbers_changed bits truth 0 h.more) (h.finds.numbers state bits (bits_before old_atoms new_atoms keep state bits are) truth);
+        numbers = λ state bits stays are truth.
+            numbers_kept old_atoms new_atoms keep (found state truth) (numbers_changed bits truth 0 h.more) (h.finds.numbers state bits stays (bits_before old_atoms new_atoms keep state bits are) truth);
+        within = λ bits truth. numbers_stay old_atoms new_atoms keep (numbers_changed bits truth 0 h.more) (h.finds.within bits truth);
         goes_on = h.finds.goes_on;
       };
     }
 
 -- first one thing is found and then another
-pub more_both : (first second : List Atom) → KeepsNumbers first second → (old between new : List Instruction) (found more : FoundIn)
-    → FindsMore first old between found → FindsMore second between new more → FindsMore second old new (λ state. and_then (found state) (more state))
+pub more_both : {parts : TaskParts} (first second : List Atom) → KeepsNumbers first second → (old between new : List Instruction) (found more : FoundIn)
+    → FindsMore parts first old between found → FindsMore parts second between new more → FindsMore parts second old new (λ state. and_then (found state) (more state))
 more_both first second keep old between new found more h k =
     let first_half = (more_kept first second keep old between found h).finds in
     record {
       more = h.more ++ k.more;
       is = k.is ∙ ap (λ l. l ++ k.more) h.is ∙ append_assoc old h.more k.more;
       finds = record {
-        numbers = λ state bits are truth.
+        numbers = λ state bits stays are truth.
             subst (AreNumbers second (found state truth ++ more state truth)) (sym (h.finds.goes_on bits truth k.more))
-            (numbers_both second (found state truth) (more state truth) (numbers_changed bits truth 0 h.more) (numbers_changed bits truth 0 k.more) (first_half.numbers state bits are truth) (k.finds.numbers state bits are truth));
+            (numbers_both second (found state truth) (more state truth) (numbers_changed bits truth 0 h.more) (numbers_changed bits truth 0 k.more) (first_half.numbers state bits stays are truth) (k.finds.numbers state bits stays are truth));
+        within = λ bits truth.
+            subst (All (IsNumber second)) (sym (h.finds.goes_on bits truth k.more))
+            (All-append (IsNumber second) (numbers_changed bits truth 0 h.more) (numbers_changed bits truth 0 k.more) (first_half.within bits truth) (k.finds.within bits truth));
         goes_on = λ bits truth rest.
             ap (numbers_changed bits truth 0) (append_assoc h.more k.more rest)
             ∙ h.finds.goes_on bits truth (k.more ++ rest)
@@ -98,14 +115,15 @@ more_both first second keep old between new found more h k =
     }
 
 -- an atom more changes
-pub more_change : (atoms : List Atom) (program new : List Instruction) (made : Bool) (atom : Atom) (number : ℕ) → number_in atoms atom ≡ Some number → new ≡ program ++ Change made number ∷ []
-    → FindsMore atoms program new (λ state. changed_alone made atom)
+pub more_change : {parts : TaskParts} (atoms : List Atom) (program new : List Instruction) (made : Bool) (atom : Atom) (number : ℕ) → number_in atoms atom ≡ Some number → new ≡ program ++ Change made number ∷ []
+    → FindsMore parts atoms program new (λ state. changed_alone made atom)
 more_change atoms program new made atom number is added =
     record {
       more = Change made number ∷ [];
       is = added;
       finds = record {
-        numbers = λ state bits are truth. by made truth;
+        numbers = λ state bits stays are truth. by made truth;
+        within = λ bits truth. one (beq made truth);
         goes_on = λ bits truth rest. split (beq made truth) (numbers_changed bits truth 0 rest);
       };
     }
@@ -115,6 +133,10 @@ more_change atoms program new made atom number is added =
     by true false = refl
     by false true = refl
     by false false = ap (λ o. o ∷ []) is
+
+    one : (b : Bool) → All (IsNumber atoms) (cond b (number ∷ []) [])
+    one true = All-cons (IsNumber atoms) number [] (atom, is) (All-nil (IsNumber atoms))
+    one false = All-nil (IsNumber atoms)
 
     split : (b : Bool) (rest : List ℕ) → cond b (number ∷ rest) rest ≡ cond b (number ∷ []) [] ++ rest
     split true rest = refl
@@ -134,9 +156,9 @@ skipped_on : (bits : ℕ → Bool) (truth : Bool) (program rest : List Instructi
 skipped_on bits truth program rest = skipped bits truth (length program) (program ++ rest) ∙ ap (numbers_changed bits truth 0) (drop-append_seam program rest)
 
 module _ (parts : TaskParts) (objects bound : List ℕ) (literal : Tree) (old_atoms new_atoms : List Atom) (keep : KeepsNumbers old_atoms new_atoms) (before old : List Instruction) (found : FoundIn)
-    (h : FindsMore old_atoms before old found) where
+    (h : FindsMore parts old_atoms before old found) where
   abbrev Behind : List Instruction → Type 0
-  Behind new = FindsMore new_atoms before new (where_it_holds parts objects bound literal found)
+  Behind new = FindsMore parts new_atoms before new (where_it_holds parts objects bound literal found)
 
   -- what was found is found only where a literal holds, which a test decides
   pub more_tested : (wanted : Bool) (fact : Atom) (number skip : ℕ) (new : List Instruction) → number_in new_atoms fact ≡ Some number
@@ -146,21 +168,27 @@ module _ (parts : TaskParts) (objects bound : List ℕ) (literal : Tree) (old_at
         more = Test wanted number skip ∷ h.more;
         is = put;
         finds = record {
-          numbers = λ state bits are truth.
+          numbers = λ state bits stays are truth.
               let same : holds_bound parts state objects bound literal ≡ beq (bits number) wanted = means state ∙ signed_equal wanted (state fact) ∙ ap (λ b. beq b wanted) (sym (are fact number is)) in
               subst (λ b. AreNumbers new_atoms (cond b (found state truth) []) (numbers_changed bits truth (cond (beq (bits number) wanted) 0 skip) h.more)) (sym same)
-              (by state bits truth (beq (bits number) wanted) (kept.numbers state bits are truth));
+              (by state bits truth (beq (bits number) wanted) (kept.numbers state bits stays are truth));
+          within = λ bits truth. or_none bits truth (beq (bits number) wanted);
           goes_on = λ bits truth rest. on bits truth (beq (bits number) wanted) rest;
         };
       }
     where
-      kept : Finds new_atoms h.more found
+      kept : Finds parts new_atoms h.more found
       kept = (more_kept old_atoms new_atoms keep before old found h).finds
 
       by : (state : State) (bits : ℕ → Bool) (truth b : Bool) → AreNumbers new_atoms (found state truth) (numbers_changed bits truth 0 h.more)
           → AreNumbers new_atoms (cond b (found state truth) []) (numbers_changed bits truth (cond b 0 skip) h.more)
       by state bits truth true e = e
       by state bits truth false e = sym (ap (map Some) (ap (λ k. numbers_changed bits truth k h.more) all ∙ all_skipped bits truth h.more))
+
+      or_none : (bits : ℕ → Bool) (truth b : Bool) → All (IsNumber new_atoms) (numbers_changed bits truth (cond b 0 skip) h.more)
+      or_none bits truth true = kept.within bits truth
+      or_none bits truth false =
+          subst (All (IsNumber new_atoms)) (sym (ap (λ k. numbers_changed bits truth k h.more) all ∙ all_skipped bits truth h.more)) (All-nil (IsNumber new_atoms))
 
       on : (bits : ℕ → Bool) (truth b : Bool) (rest : List Instruction)
           → numbers_changed bits truth (cond b 0 skip) (h.more ++ rest) ≡ numbers_changed bits truth (cond b 0 skip) h.more ++ numbers_changed bits truth 0 rest
@@ -169,11 +197,11 @@ module _ (parts : TaskParts) (objects bound : List ℕ) (literal : Tree) (old_at
           ap (λ k. numbers_changed bits truth k (h.more ++ rest)) all ∙ skipped_on bits truth h.more rest
           ∙ ap (λ l. l ++ numbers_changed bits truth 0 rest) (sym (ap (λ k. numbers_changed bits truth k h.more) all ∙ all_skipped bits truth h.more))
 
-  -- a literal that holds in every state needs no test
-  pub more_certain : (new : List Instruction) → new ≡ old → ((state : State) → holds_bound parts state objects bound literal ≡ true) → Behind new
+  -- a literal that holds in every state of the task needs no test
+  pub more_certain : (new : List Instruction) → new ≡ old → ((state : State) → KeepsStatics parts state → holds_bound parts state objects bound literal ≡ true) → Behind new
   more_certain new same holds =
       subst (λ l. Behind l) (sym same)
-      (more_as new_atoms before old found (where_it_holds parts objects bound literal found) (λ state truth. ap (λ b. cond b (found state truth) []) (sym (holds state)))
+      (more_where new_atoms before old found (where_it_holds parts objects bound literal found) (λ state stays truth. ap (λ b. cond b (found state truth) []) (sym (holds state stays)))
       (more_kept old_atoms new_atoms keep before old found h))
 
 -- what is found in the states in which all of these formulas hold
@@ -224,12 +252,12 @@ module _ (parts : TaskParts) (objects bound : List ℕ) (whole body this : Effec
       (λ j. cond (holds_bound parts state objects (same j) condition) (effect_found parts state objects bound (same_body j) truth) [])
       ∙ ap (λ e. effect_found parts state objects bound e truth) (sym is)
 
-  -- an effect whose condition holds in no state
-  pub never_is : (condition : Tree) (now : List ℕ) → whole ≡ conditional condition body → now ≡ bound → ((state : State) → holds_bound parts state objects now condition ≡ false)
-      → (state : State) (truth : Bool) → effect_found parts state objects bound whole truth ≡ []
-  never_is condition now is same fails state truth =
+  -- an effect whose condition holds in no state of the task
+  pub never_is : (condition : Tree) (now : List ℕ) → whole ≡ conditional condition body → now ≡ bound → ((state : State) → KeepsStatics parts state → holds_bound parts state objects now condition ≡ false)
+      → (state : State) → KeepsStatics parts state → (truth : Bool) → effect_found parts state objects bound whole truth ≡ []
+  never_is condition now is same fails state stays truth =
       ap (λ e. effect_found parts state objects bound e truth) is
-      ∙ ap (λ b. cond b (effect_found parts state objects bound body truth) []) (ap (λ l. holds_bound parts state objects l condition) (sym same) ∙ fails state)
+      ∙ ap (λ b. cond b (effect_found parts state objects bound body truth) []) (ap (λ l. holds_bound parts state objects l condition) (sym same) ∙ fails state stays)
 
   -- an effect for which there is no choice of objects
   pub no_choice_is : (groups these : List VariableGroup) → whole ≡ universal groups body → these ≡ groups → extensions (objects_of parts) (variable_types these) bound ≡ []
@@ -238,10 +266,16 @@ module _ (parts : TaskParts) (objects bound : List ℕ) (whole body this : Effec
       ap (λ e. effect_found parts state objects bound e truth) is
       ∙ ap (flat_map (λ extended. effect_found parts state objects extended body truth)) (ap (λ l. extensions (objects_of parts) (variable_types l) bound) (sym same) ∙ none)
 
+-- a program that was empty finds only numbers of atoms
+pub found_within : (parts : TaskParts) (atoms : List Atom) (old program : List Instruction) (found : FoundIn) → old ≡ [] → FindsMore parts atoms old program found
+    → (bits : ℕ → Bool) (truth : Bool) → All (IsNumber atoms) (numbers_changed bits truth 0 program)
+found_within parts atoms old program found empty h bits truth =
+    subst (λ l. All (IsNumber atoms) (numbers_changed bits truth 0 l)) (sym (h.is ∙ ap (λ l. l ++ h.more) empty)) (h.finds.within bits truth)
+
 -- a program that was empty finds what all effects of an action change
 pub found_all : (parts : TaskParts) (objects bound : List ℕ) (effects these : List EffectTree) (atoms : List Atom) (old program : List Instruction) → bound ≡ [] → these ≡ effects → old ≡ []
-    → FindsMore atoms old program (λ before. effects_found parts before objects bound these)
-    → (state : State) (bits : ℕ → Bool) → AreBitsOf atoms state bits → (truth : Bool) → AreNumbers atoms (changed_by parts objects state truth effects) (numbers_changed bits truth 0 program)
-found_all parts objects bound effects these atoms old program none same empty h state bits are truth =
+    → FindsMore parts atoms old program (λ before. effects_found parts before objects bound these)
+    → (state : State) (bits : ℕ → Bool) → KeepsStatics parts state → AreBitsOf atoms state bits → (truth : Bool) → AreNumbers atoms (changed_by parts objects state truth effects) (numbers_changed bits truth 0 program)
+found_all parts objects bound effects these atoms old program none same empty h state bits stays are truth =
     subst (λ l. AreNumbers atoms (changed_by parts objects state truth effects) (numbers_changed bits truth 0 l)) (sym (h.is ∙ ap (λ l. l ++ h.more) empty))
-    (subst (λ l. AreNumbers atoms l (numbers_changed bits truth 0 h.more)) (λ j. effects_found parts state objects (none j) (same j) truth) (h.finds.numbers state bits are truth))
+    (subst (λ l. AreNumbers atoms l (numbers_changed bits truth 0 h.more)) (λ j. effects_found parts state objects (none j) (same j) truth) (h.finds.numbers state bits stays are truth))

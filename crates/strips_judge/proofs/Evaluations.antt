@@ -1,9 +1,11 @@
 -- What a formula says of its parts, where code sees them as lists, and what a quantifier says of one variable after the other.
 
-use Rattle.std.proofs.Common.{◌≡◌, ℕ, ◌+◌, ◌-◌, ◌<◌, ◌≤◌, zero, suc, Bool, true, false, cond, not, ◌&&◌, ◌||◌, List, [], ◌∷◌, ◌++◌, Some, None, All, refl, sym, ap, ◌∙◌, subst, drop, length, filter, slice_get, get_or, arith}
+use Rattle.std.proofs.Common.{◌≡◌, ℕ, ◌+◌, ◌<◌, ◌≤◌, zero, suc, Bool, true, false, cond, not, ◌&&◌, ◌||◌, List, [], ◌∷◌, ◌++◌, Some, None, All, refl, sym, ap, ◌∙◌, subst, drop, length, filter, slice_get, get_or, arith}
+use Rattle.std.proofs.lemmas.List.{drop_all}
 use Rattle.std.proofs.lemmas.List.Elements.{All-nil, All-cons}
+use Rattle.std.proofs.lemmas.Option.{get_or_from_slice_get}
 use Rattle.std.specs.Bool.{beq}
-use Rattle.std.specs.List.{flat_map, list_all, list_any, range_with_len}
+use Rattle.std.specs.List.{flat_map, list_all, list_any}
 use Rattle.formulas.specs.declared.variables.VariableGroup.{VariableGroup}
 use Rattle.formulas.specs.Tree.{Tree, conjunction, disjunction, for_all, parts_of}
 use Rattle.formulas.specs.Variables.{variable_types, extensions}
@@ -14,6 +16,7 @@ use Rattle.strips_judge.specs.Choices.{holds_bound, some_is, some_choice_gives}
 use Rattle.strips_judge.specs.Fitting.{object_fits}
 use Rattle.strips_judge.specs.NumberedState.{Numbered, state_of}
 use Rattle.strips_judge.specs.State.{State, objects_of}
+use Rattle.strips_judge.proofs.Searches.{any_here, any_later}
 
 -- the parts of a formula name the parameters and variables that it may name
 pub parts_within : (params bound : ℕ) (trees : List Tree) → AreWithin params bound (parts_of trees) → All (IsWithin params bound) trees
@@ -149,20 +152,6 @@ module _ (params bound : ℕ) where
         (let e : bound + length (drop first variables) ≡ bound = omega (arith, ap length (drop_past variables first none)) in e)
         h
 
--- numbers in a row: the first of those that are left, and the others
-module _ (q : ℕ → Bool) (i n : ℕ) where
-  range_left : i < n → range_with_len i (n - i) ≡ i ∷ range_with_len (i + 1) (n - (i + 1))
-  range_left lt = ap (range_with_len i) (let e : n - i ≡ suc (n - (i + 1)) = omega (arith, lt) in e)
-
-  pub any_left_here : i < n → q i ≡ true → list_any q (range_with_len i (n - i)) ≡ true
-  any_left_here lt h = ap (list_any q) (range_left lt) ∙ ap (λ b. b || list_any q (range_with_len (i + 1) (n - (i + 1)))) h
-
-  pub any_left_later : i < n → q i ≡ false → list_any q (range_with_len i (n - i)) ≡ list_any q (range_with_len (i + 1) (n - (i + 1)))
-  any_left_later lt h = ap (list_any q) (range_left lt) ∙ ap (λ b. b || list_any q (range_with_len (i + 1) (n - (i + 1)))) h
-
-  pub any_none_left : n ≤ i → list_any q (range_with_len i (n - i)) ≡ false
-  any_none_left le = ap (λ k. list_any q (range_with_len i k)) (let e : n - i ≡ 0 = omega (arith, le) in e)
-
 -- an object that fits and gives what is asked, or one that does not
 module _ (parts : TaskParts) (arguments : List ℕ) (truth : Bool) (body : Tree) (variables : List (List ℕ)) (object : ℕ) where
   -- the state and the objects that are bound are those at the start
@@ -180,27 +169,32 @@ module _ (parts : TaskParts) (state : State) (arguments : List ℕ) (truth : Boo
   abbrev pub fits_and_gives : ℕ → Bool
   fits_and_gives object = object_fits parts types object && gives object
 
-  module _ (i : ℕ) (so_far : list_any fits_and_gives (range_with_len 0 (length parts.objects)) ≡ list_any fits_and_gives (range_with_len i (length parts.objects - i))) where
-    pub object_found : i < length parts.objects → object_fits parts types i ≡ true → gives i ≡ true → list_any gives (objects_of parts types) ≡ true
-    object_found lt fit found =
-        any_kept gives (object_fits parts types) (range_with_len 0 (length parts.objects))
-        ∙ so_far
-        ∙ any_left_here fits_and_gives i (length parts.objects) lt (ap (λ b. b && gives i) fit ∙ found)
+  -- the objects are looked for among others
+  module _ (candidates : List ℕ) (all : filter (object_fits parts types) candidates ≡ objects_of parts types) (i : ℕ) (so_far : list_any fits_and_gives candidates ≡ list_any fits_and_gives (drop i candidates)) where
+    module _ (object : ℕ) (lt : i < length candidates) (at : slice_get candidates i ≡ Some object) where
+      is : object ≡ get_or candidates i object
+      is = sym (get_or_from_slice_get candidates i object object at)
 
-    pub object_unfit : i < length parts.objects → object_fits parts types i ≡ false
-        → list_any fits_and_gives (range_with_len 0 (length parts.objects)) ≡ list_any fits_and_gives (range_with_len (i + 1) (length parts.objects - (i + 1)))
-    object_unfit lt unfit = so_far ∙ any_left_later fits_and_gives i (length parts.objects) lt (ap (λ b. b && gives i) unfit)
+      pub object_found : object_fits parts types object ≡ true → gives object ≡ true → list_any gives (objects_of parts types) ≡ true
+      object_found fit found =
+          ap (list_any gives) (sym all)
+          ∙ any_kept gives (object_fits parts types) candidates
+          ∙ so_far
+          ∙ any_here fits_and_gives candidates i object lt is (ap (λ b. b && gives object) fit ∙ found)
 
-    pub object_otherwise : i < length parts.objects → gives i ≡ false
-        → list_any fits_and_gives (range_with_len 0 (length parts.objects)) ≡ list_any fits_and_gives (range_with_len (i + 1) (length parts.objects - (i + 1)))
-    object_otherwise lt otherwise = so_far ∙ any_left_later fits_and_gives i (length parts.objects) lt (ap (λ b. object_fits parts types i && b) otherwise ∙ and_false (object_fits parts types i))
-      where
-        and_false : (b : Bool) → (b && false) ≡ false
-        and_false true = refl
-        and_false false = refl
+      pub object_unfit : object_fits parts types object ≡ false → list_any fits_and_gives candidates ≡ list_any fits_and_gives (drop (i + 1) candidates)
+      object_unfit unfit = so_far ∙ any_later fits_and_gives candidates i object lt is (ap (λ b. b && gives object) unfit)
 
-    pub no_object : length parts.objects ≤ i → list_any gives (objects_of parts types) ≡ false
+      pub object_otherwise : gives object ≡ false → list_any fits_and_gives candidates ≡ list_any fits_and_gives (drop (i + 1) candidates)
+      object_otherwise otherwise = so_far ∙ any_later fits_and_gives candidates i object lt is (ap (λ b. object_fits parts types object && b) otherwise ∙ and_false (object_fits parts types object))
+        where
+          and_false : (b : Bool) → (b && false) ≡ false
+          and_false true = refl
+          and_false false = refl
+
+    pub no_object : length candidates ≤ i → list_any gives (objects_of parts types) ≡ false
     no_object past =
-        any_kept gives (object_fits parts types) (range_with_len 0 (length parts.objects))
+        ap (list_any gives) (sym all)
+        ∙ any_kept gives (object_fits parts types) candidates
         ∙ so_far
-        ∙ any_none_left fits_and_gives i (length parts.objects) past
+        ∙ ap (list_any fits_and_gives) (drop_all i candidates past)

@@ -1,14 +1,14 @@
 -- Gathering the changes of effects one after the other.
 
-use Rattle.std.proofs.Common.{◌≡◌, ℕ, Result, Ok, Err, OnOk, ◌+◌, ◌-◌, ◌<◌, ◌≤◌, zero, suc, Bool, true, false, cond, ◌&&◌, not, List, [], ◌∷◌, ◌++◌, Some, None, All, refl, sym, ap, ◌∙◌, subst, filter, map, length, take, drop, get_or, slice_get, append-nil, append_assoc, length-append, arith}
-use Rattle.std.proofs.Math.Path.{fun_ext}
+use Rattle.std.proofs.Common.{◌≡◌, ℕ, Result, Ok, Err, OnOk, ◌+◌, ◌-◌, ◌<◌, ◌≤◌, Bool, true, false, cond, List, [], ◌∷◌, ◌++◌, Some, None, All, refl, sym, ap, ◌∙◌, subst, filter, map, length, take, drop, get_or, slice_get, append-nil, append_assoc, length-append, arith}
 use Rattle.std.proofs.Math.Seq.{take-append_seam}
+use Rattle.std.proofs.lemmas.List.{take_all}
 use Rattle.std.proofs.lemmas.List.Elements.{All-nil, All-cons, filter-append}
-use Rattle.std.specs.List.{flat_map, range_with_len}
+use Rattle.std.proofs.lemmas.Option.{get_or_from_slice_get}
+use Rattle.std.specs.List.{flat_map}
 use Rattle.formulas.specs.declared.atoms.Atom.{Atom}
 use Rattle.formulas.specs.declared.variables.VariableGroup.{VariableGroup}
 use Rattle.formulas.specs.EffectTree.{EffectTree, joint, universal, effect_parts_of}
-use Rattle.formulas.specs.Changes.{changes, all_changes}
 use Rattle.formulas.specs.Variables.{variable_types, extensions}
 use Rattle.formulas.specs.Tree.{conjunction, no_parts}
 use Rattle.formulas.specs.Within.{IsEffectWithin, AreEffectsWithin}
@@ -172,10 +172,6 @@ popped outer inner left object count all is rest =
     ∙ ap (λ n. take n (outer ++ object ∷ [])) (let e : length (outer ++ object ∷ []) - 1 ≡ length outer = omega (arith, length-append outer (object ∷ [])) in e)
     ∙ take-append_seam outer (object ∷ [])
 
-pub range_more : (a n : ℕ) → range_with_len a (suc n) ≡ range_with_len a n ++ (a + n) ∷ []
-range_more a zero = ap (λ k. k ∷ []) (let e : a ≡ a + 0 = omega arith in e)
-range_more a (suc n) = ap (λ l. a ∷ l) (range_more (a + 1) n ∙ ap (λ k. range_with_len (a + 1) n ++ k ∷ []) (let e : a + 1 + n ≡ a + suc n = omega arith in e))
-
 module _ (parts : TaskParts) (state : State) (arguments : List ℕ) (effect : EffectTree) where
   -- without variables there is one choice
   pub no_choice : (variables : List (List ℕ)) (first : ℕ) (bound : List ℕ) → slice_get variables first ≡ None → (truth : Bool)
@@ -189,32 +185,35 @@ module _ (parts : TaskParts) (state : State) (arguments : List ℕ) (effect : Ef
     abbrev pub with_object : Bool → ℕ → List Atom
     with_object truth object = choices_found parts state arguments effect (drop (first + 1) variables) (bound ++ object ∷ []) truth
 
-    -- and what it changes for those with an object below this one
-    abbrev pub below : ℕ → Found
-    below object truth = flat_map (λ o. cond (object_fits parts types o) (with_object truth o) []) (range_with_len 0 object)
+    -- and what it changes for those with one of these objects, if it fits
+    abbrev pub of_some : List ℕ → Found
+    of_some these truth = flat_map (λ o. cond (object_fits parts types o) (with_object truth o) []) these
 
-    one_more : (object : ℕ) (truth : Bool) → below object truth ++ cond (object_fits parts types object) (with_object truth object) [] ≡ below (object + 1) truth
-    one_more object truth =
-        flat_more (λ o. cond (object_fits parts types o) (with_object truth o) []) (range_with_len 0 object) (range_with_len 0 (object + 1)) object
-        (ap (range_with_len 0) (let e : object + 1 ≡ suc object = omega arith in e) ∙ range_more 0 object ∙ ap (λ k. range_with_len 0 object ++ k ∷ []) (let e : 0 + object ≡ object = omega arith in e))
+    module _ (candidates : List ℕ) where
+      module _ (i object : ℕ) (lt : i < length candidates) (at : slice_get candidates i ≡ Some object) where
+        one_more : (truth : Bool) → of_some (take i candidates) truth ++ cond (object_fits parts types object) (with_object truth object) [] ≡ of_some (take (i + 1) candidates) truth
+        one_more truth =
+            flat_more (λ o. cond (object_fits parts types o) (with_object truth o) []) (take i candidates) (take (i + 1) candidates) object
+            (taken_more candidates i object lt (sym (get_or_from_slice_get candidates i object object at)))
 
-    -- an object that fits
-    pub one_fits : (object : ℕ) → object_fits parts types object ≡ true → (truth : Bool) → and_then (below object) (λ t. with_object t object) truth ≡ below (object + 1) truth
-    one_fits object fits truth = ap (λ b. below object truth ++ cond b (with_object truth object) []) (sym fits) ∙ one_more object truth
+        -- an object that fits
+        pub one_fits : object_fits parts types object ≡ true → (truth : Bool) → and_then (of_some (take i candidates)) (λ t. with_object t object) truth ≡ of_some (take (i + 1) candidates) truth
+        one_fits fits truth = ap (λ b. of_some (take i candidates) truth ++ cond b (with_object truth object) []) (sym fits) ∙ one_more truth
 
-    -- one that does not
-    pub one_unfit : (object : ℕ) → object_fits parts types object ≡ false → (truth : Bool) → below object truth ≡ below (object + 1) truth
-    one_unfit object unfit truth =
-        sym (append-nil (below object truth)) ∙ ap (λ b. below object truth ++ cond b (with_object truth object) []) (sym unfit) ∙ one_more object truth
+        -- one that does not
+        pub one_unfit : object_fits parts types object ≡ false → (truth : Bool) → of_some (take i candidates) truth ≡ of_some (take (i + 1) candidates) truth
+        one_unfit unfit truth =
+            sym (append-nil (of_some (take i candidates) truth)) ∙ ap (λ b. of_some (take i candidates) truth ++ cond b (with_object truth object) []) (sym unfit) ∙ one_more truth
 
-    -- all objects
-    pub all_objects : slice_get variables first ≡ Some types → (object : ℕ) → object ≡ length parts.objects → (truth : Bool)
-        → below object truth ≡ choices_found parts state arguments effect (drop first variables) bound truth
-    all_objects at object all truth =
-        ap (λ n. below n truth) all
-        ∙ flat_kept (with_object truth) (object_fits parts types) (range_with_len 0 (length parts.objects))
-        ∙ sym (flat_flat (λ extended. effect_found parts state arguments extended effect truth) (λ o. extensions (objects_of parts) (drop (first + 1) variables) (bound ++ o ∷ [])) (objects_of parts types))
-        ∙ ap (λ l. choices_found parts state arguments effect l bound truth) (sym (drop_at variables first types at))
+      -- all objects
+      pub all_objects : slice_get variables first ≡ Some types → filter (object_fits parts types) candidates ≡ objects_of parts types → (i : ℕ) → length candidates ≤ i → (truth : Bool)
+          → of_some (take i candidates) truth ≡ choices_found parts state arguments effect (drop first variables) bound truth
+      all_objects at all i past truth =
+          ap (λ l. of_some l truth) (take_all i candidates past)
+          ∙ flat_kept (with_object truth) (object_fits parts types) candidates
+          ∙ ap (flat_map (with_object truth)) all
+          ∙ sym (flat_flat (λ extended. effect_found parts state arguments extended effect truth) (λ o. extensions (objects_of parts) (drop (first + 1) variables) (bound ++ o ∷ [])) (objects_of parts types))
+          ∙ ap (λ l. choices_found parts state arguments effect l bound truth) (sym (drop_at variables first types at))
 
     -- with one variable more bound, one less is left
     pub effect_next_within : (params : ℕ) → slice_get variables first ≡ Some types → (now outer : ℕ) → now ≡ outer + 1 → IsEffectWithin params (outer + length (drop first variables)) effect

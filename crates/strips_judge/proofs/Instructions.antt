@@ -1,10 +1,10 @@
 -- Programs, one instruction after the other, and what they find when they are put together.
 
-use Rattle.std.proofs.Common.{◌≡◌, ℕ, ◌+◌, ◌<◌, zero, suc, Bool, true, false, not, cond, List, [], ◌∷◌, ◌++◌, Some, refl, sym, ap, ◌∙◌, drop, length, get_or, arith}
+use Rattle.std.proofs.Common.{◌≡◌, ℕ, ◌+◌, ◌<◌, zero, suc, Bool, true, false, not, cond, List, [], ◌∷◌, refl, sym, ap, ◌∙◌, drop, length, get_or}
 use Rattle.std.proofs.lemmas.List.{drop-drop, get_or_default}
 use Rattle.std.specs.Bool.{beq}
 use Rattle.strips_judge.specs.declared.programs.Instruction.{Instruction}
-use Rattle.strips_judge.specs.declared.programs.Instruction.TheVariants.{Test, Change}
+use Rattle.strips_judge.specs.declared.programs.Instruction.TheVariants.{Test}
 use Rattle.strips_judge.specs.Programs.{numbers_changed}
 use Rattle.strips_judge.proofs.Searches.{left}
 

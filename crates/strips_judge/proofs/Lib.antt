@@ -7,6 +7,7 @@ pub mod SingleCells
 pub mod CodeLaws
 pub mod CompiledEffects
 pub mod Fits
+pub mod Listings
 pub mod Weights
 pub mod VariableTypes
 pub mod Evaluations
@@ -17,6 +18,7 @@ pub mod NoChoices
 pub mod Instructions
 pub mod Growth
 pub mod Runs
+pub mod StaticLaws
 pub mod Searches
 pub mod StepLaws
 pub mod VerdictLaws

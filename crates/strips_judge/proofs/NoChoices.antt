@@ -1,20 +1,21 @@
 -- Quantifiers over a variable without objects.
 
-use Rattle.std.proofs.Common.{◌≡◌, ℕ, ◌+◌, ◌<◌, zero, suc, Bool, false, cond, List, [], ◌∷◌, ◌++◌, refl, sym, ap, ◌∙◌, subst, filter, length, map, get_or, arith}
+use Rattle.std.proofs.Common.{◌≡◌, ℕ, ◌+◌, ◌<◌, zero, suc, Bool, false, cond, List, [], ◌∷◌, ◌++◌, refl, sym, ap, ◌∙◌, subst, Some, filter, length, map, get_or, slice_get, take, arith}
 use Rattle.std.proofs.lemmas.List.Elements.{filter-append}
-use Rattle.std.specs.List.{flat_map, range_with_len}
+use Rattle.std.proofs.lemmas.Option.{get_or_from_slice_get}
+use Rattle.std.specs.List.{flat_map}
 use Rattle.formulas.specs.declared.variables.VariableGroup.{VariableGroup}
 use Rattle.formulas.specs.Variables.{variable_types, extensions}
-use Rattle.strips_judge.proofs.Gathering.{range_more}
+use Rattle.strips_judge.proofs.StepLaws.{taken_more}
 
--- none of the numbers so far passes, nor does the next one
-pub none_passes_yet : (passes : ℕ → Bool) (n : ℕ) → filter passes (range_with_len 0 n) ≡ [] → passes n ≡ false → filter passes (range_with_len 0 (n + 1)) ≡ []
-none_passes_yet passes n none fails =
-    ap (λ k. filter passes (range_with_len 0 k)) (let e : n + 1 ≡ suc n = omega arith in e)
-    ∙ ap (filter passes) (range_more 0 n)
-    ∙ filter-append passes (range_with_len 0 n) ((0 + n) ∷ [])
-    ∙ ap (λ l. l ++ filter passes ((0 + n) ∷ [])) none
-    ∙ ap (λ b. cond b ((0 + n) ∷ []) []) (ap passes (let e : 0 + n ≡ n = omega arith in e) ∙ fails)
+-- none of the items so far passes, nor does the next one
+pub none_passes_yet : {X : Type 0} (passes : X → Bool) (xs : List X) (i : ℕ) (x : X) → i < length xs → slice_get xs i ≡ Some x → filter passes (take i xs) ≡ [] → passes x ≡ false
+    → filter passes (take (i + 1) xs) ≡ []
+none_passes_yet passes xs i x lt at none fails =
+    ap (filter passes) (taken_more xs i x lt (sym (get_or_from_slice_get xs i x x at)))
+    ∙ filter-append passes (take i xs) (x ∷ [])
+    ∙ ap (λ l. l ++ filter passes (x ∷ [])) none
+    ∙ ap (λ b. cond b (x ∷ []) []) fails
 
 flat_none : {X Y : Type 0} (f : X → List Y) → ((x : X) → f x ≡ []) → (xs : List X) → flat_map f xs ≡ []
 flat_none f none [] = refl

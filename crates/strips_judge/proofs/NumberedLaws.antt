@@ -94,13 +94,17 @@ list_any-first_occurrences atom (x ∷ xs) = by (atom_eq atom x) refl (list_any-
         (λ y same. ap not (ap (atom_eq x) (sym (atom_same atom y same)) ∙ atom_equiv.symm x atom ∙ e)) (first_occurrences atom_eq xs)
         ∙ rest
 
+-- whether an atom is among those at the start
+pub initial_has : (atom : Atom) (atoms : List Atom) → is_some (number_in (first_occurrences atom_eq atoms) atom) ≡ is_in atoms atom
+initial_has atom atoms = is_some-index (atom_eq atom) 0 (first_occurrences atom_eq atoms) ∙ list_any-first_occurrences atom atoms
+
 -- where the bits of the initial atoms are set and no others, the state is the initial one, whatever atoms have numbers behind theirs
 pub initial_state : (atoms later : List Atom) (bits : List ℕ) → ((k : ℕ) → row_has bits k ≡ ltb k (length (first_occurrences atom_eq atoms)))
     → state_by (first_occurrences atom_eq atoms ++ later) bits ≡ is_in atoms
 initial_state atoms later bits first = fun_ext (λ atom. by atom (number_in (first_occurrences atom_eq atoms) atom) refl)
   where
     among : (atom : Atom) (o : Option ℕ) → number_in (first_occurrences atom_eq atoms) atom ≡ o → is_some o ≡ is_in atoms atom
-    among atom o e = ap is_some (sym e) ∙ is_some-index (atom_eq atom) 0 (first_occurrences atom_eq atoms) ∙ list_any-first_occurrences atom atoms
+    among atom o e = ap is_some (sym e) ∙ initial_has atom atoms
 
     late : (atom : Atom) → number_in (first_occurrences atom_eq atoms) atom ≡ None → (o : Option ℕ) → number_in (first_occurrences atom_eq atoms ++ later) atom ≡ o → bit_of bits o ≡ false
     late atom none None f = refl

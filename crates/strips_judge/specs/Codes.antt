@@ -8,8 +8,9 @@ use Rattle.strips_task.specs.declared.tasks.TaskParts.{TaskParts}
 use Rattle.strips_judge.specs.declared.codes.StepCode.{StepCode}
 use Rattle.strips_judge.specs.declared.programs.Instruction.{Instruction}
 use Rattle.strips_task.specs.AtomNumbers.{number_in}
-use Rattle.strips_judge.specs.Programs.{AreBitsOf, numbers_changed}
+use Rattle.strips_judge.specs.Programs.{AreBitsOf, IsNumber, numbers_changed}
 use Rattle.strips_judge.specs.State.{State}
+use Rattle.strips_judge.specs.Statics.{KeepsStatics}
 use Rattle.strips_judge.specs.Step.{fault, precondition, deletes, adds}
 use Rattle.strips_judge.specs.Validity.{Satisfies}
 
@@ -29,26 +30,29 @@ code_shown code = record { needed = code.needed.now; forbidden = code.forbidden.
 abbrev pub AreNumbers : List Atom → List Atom → List ℕ → Type 0
 AreNumbers atoms these numbers = map (number_in atoms) these ≡ map Some numbers
 
--- a code asks for these conditions: its numbers are those of atoms such that a state satisfies the conditions if and only if the first of these atoms are true
--- in it and the others are false
+-- a code asks for these conditions: its numbers are those of atoms such that a state in which static atoms are as at
+-- the start satisfies the conditions if and only if the first of these atoms are true in it and the others are false
 pub record AsksFor (parts : TaskParts) (atoms : List Atom) (conditions : List Tree) (code : Code) : Type 0 where
   pub trues : List Atom
   pub falses : List Atom
   pub needed : AreNumbers atoms trues code.needed
   pub forbidden : AreNumbers atoms falses code.forbidden
-  pub exactly : (state : State) → (All (λ atom. state atom ≡ true) trues × All (λ atom. state atom ≡ false) falses) ↔ Satisfies parts state conditions
+  pub exactly : (state : State) → KeepsStatics parts state → (All (λ atom. state atom ≡ true) trues × All (λ atom. state atom ≡ false) falses) ↔ Satisfies parts state conditions
 
 -- the numbers of the atoms that a code makes true in the state of these bits, or with `truth` false of those that it makes false
 abbrev pub numbers_by : (ℕ → Bool) → Bool → Code → List ℕ
 numbers_by bits true code = code.added ++ numbers_changed bits true 0 code.program
 numbers_by bits false code = code.deleted ++ numbers_changed bits false 0 code.program
 
--- this is the code of a step, if atoms have these numbers: the step has no fault, and in every state the code asks and does what the step asks and does
+-- this is the code of a step, if atoms have these numbers: the step has no fault, and in every state in which static
+-- atoms are as at the start the code asks and does what the step asks and does; whatever
+-- the bits are, it makes only atoms true that have numbers
 pub record IsCode (parts : TaskParts) (atoms : List Atom) (step : StepText) (code : Code) : Type 0 where
   pub faultless : fault parts step ≡ None
   pub asks : AsksFor parts atoms (precondition parts step) code
-  pub deleted : (state : State) (bits : ℕ → Bool) → AreBitsOf atoms state bits → AreNumbers atoms (deletes parts state step) (numbers_by bits false code)
-  pub added : (state : State) (bits : ℕ → Bool) → AreBitsOf atoms state bits → AreNumbers atoms (adds parts state step) (numbers_by bits true code)
+  pub deleted : (state : State) (bits : ℕ → Bool) → KeepsStatics parts state → AreBitsOf atoms state bits → AreNumbers atoms (deletes parts state step) (numbers_by bits false code)
+  pub added : (state : State) (bits : ℕ → Bool) → KeepsStatics parts state → AreBitsOf atoms state bits → AreNumbers atoms (adds parts state step) (numbers_by bits true code)
+  pub within : (bits : ℕ → Bool) → All (IsNumber atoms) (numbers_by bits true code)
 
 -- the code that asks for one more atom
 abbrev pub asking_more : Code → Bool → ℕ → Code

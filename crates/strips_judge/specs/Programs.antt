@@ -8,6 +8,10 @@ use Rattle.strips_judge.specs.declared.programs.Instruction.{Instruction}
 use Rattle.strips_judge.specs.declared.programs.Instruction.TheVariants.{Test, Change}
 use Rattle.strips_judge.specs.State.{State}
 
+-- an atom has this number
+abbrev pub IsNumber : List Atom → ℕ → Type 0
+IsNumber atoms number = (atom : Atom) × (number_in atoms atom ≡ Some number)
+
 -- these bits say of each atom with a number whether it is true in the state
 abbrev pub AreBitsOf : List Atom → State → (ℕ → Bool) → Type 0
 AreBitsOf atoms state bits = (atom : Atom) (number : ℕ) → number_in atoms atom ≡ Some number → bits number ≡ state atom

@@ -1,8 +1,8 @@
 //! Codes of steps: what a step asks of the state and does to it, by the numbers of its atoms.
 //!
 //! The same steps occur in many plans of a task. For a step whose code is known, no word and no atom need be looked up: its code is tested
-//! and taken bit by bit. A code holds only what depends on the state. A step with a fault, or with an equality that does not hold,
-//! is not applicable in any state, and has no code. Nor has a step whose precondition has anything but literals, or one with effects under `when` or
+//! and taken bit by bit. A code holds only what depends on the state. A step with a fault, or with an equality or a static
+//! condition that does not hold, is not applicable in any state, and has no code. Nor has a step whose precondition has anything but literals, or one with effects under `when` or
 //! `forall` that have no program.
 ghost use Rattle.std.specs.Prelude.{◌≡◌, ◌<◌, ◌∷◌, [], ◌++◌, ℕ, List, Some, None, true, false, Bool, map, length, All, IsTrue, IfOk, IfSome, OnOk, OnErr};
 ghost use Rattle.bit_rows.specs.Rows.{row_has};
@@ -17,13 +17,14 @@ ghost use Rattle.strips_judge.specs.Codes.{AreNumbers, AsksFor, IsCode, asking_m
 ghost use Rattle.strips_judge.specs.Grounding.{ground};
 ghost use Rattle.strips_task.specs.AtomNumbers.{number_in};
 ghost use Rattle.strips_judge.specs.NumberedState.{Grows, state_of};
-ghost use Rattle.strips_judge.specs.Programs.{AreBitsOf};
+ghost use Rattle.strips_judge.specs.Programs.{AreBitsOf, IsNumber};
 ghost use Rattle.strips_judge.specs.State.{State, after_effects, with_all, without};
+ghost use Rattle.strips_judge.specs.Statics.{KeepsStatics};
 ghost use Rattle.strips_judge.specs.Step.{hindrance, after, deletes_by, adds_by};
 
 use crate::compiling::compile_all;
 use crate::effects::Arguments;
-use crate::evaluation::equality_holds;
+use crate::lasting::lasting_truth;
 use crate::programs::{Instruction, run};
 use crate::scratch::{Changes, Room, Scratch};
 use crate::state::NumberedState;
@@ -132,29 +133,50 @@ pub fn take_by_code(
     scratch: &mut Scratch,
 ) -> Result<bool, AllocError>
     requires { (bits : ℕ → Bool) → All (λ number. number < length state.old.atoms) (numbers_by bits true (code_shown code)) }
-    ensures taken { IfOk result (λ taken. IsTrue taken → (parts : TaskParts) (step : StepText) → IsCode parts state.old.atoms step (code_shown code.entry)
+    ensures taken { IfOk result (λ taken. IsTrue taken → (parts : TaskParts) (step : StepText) → KeepsStatics parts (state_of state.old) → IsCode parts state.old.atoms step (code_shown code.entry)
         → (hindrance parts (state_of state.old) step ≡ None) × (state_of state.new ≡ after parts (state_of state.old) step)) }
     ensures not { IfOk result (λ taken. taken ≡ false → state_of state.new ≡ state_of state.old) }
+    ensures failed { OnErr result (state.new ≡ state.old) }
     ensures atoms { state.new.atoms ≡ state.old.atoms }
     ensures initial { state.new.initial ≡ state.old.initial }
 {
+    if !code.program.is_empty() {
+        return take_with_program(state, code, scratch);
+    }
     if !all_are(state, code.needed, true) {
         return Ok(false);
     }
     if !all_are(state, code.forbidden, false) {
         return Ok(false);
     }
-    if !code.program.is_empty() {
-        change_by_program(state, code, &mut scratch.changes)?;
-        return Ok(true);
-    }
     clear_all(state, code.deleted);
     set_all(state, code.added);
     Ok(true)
 }
 
-/// Changes what a code with a program changes, all at once.
+/// Takes a step by a code with a program, as [`take_by_code`].
 #[inline(never)]
+fn take_with_program(
+    state: &mut NumberedState<'_>,
+    code: StepCode<'_>,
+    scratch: &mut Scratch,
+) -> Result<bool, AllocError>
+    requires { (bits : ℕ → Bool) → All (λ number. number < length state.old.atoms) (numbers_by bits true (code_shown code)) }
+    ensures taken { IfOk result (λ taken. IsTrue taken → (parts : TaskParts) (step : StepText) → KeepsStatics parts (state_of state.old) → IsCode parts state.old.atoms step (code_shown code.entry)
+        → (hindrance parts (state_of state.old) step ≡ None) × (state_of state.new ≡ after parts (state_of state.old) step)) }
+    ensures not { IfOk result (λ taken. taken ≡ false → state_of state.new ≡ state_of state.old) }
+    ensures failed { OnErr result (state.new ≡ state.old) }
+    ensures atoms { state.new.atoms ≡ state.old.atoms }
+    ensures initial { state.new.initial ≡ state.old.initial }
+{
+    if all_are(state, code.needed, true) && all_are(state, code.forbidden, false) {
+        change_by_program(state, code, &mut scratch.changes)?;
+        return Ok(true);
+    }
+    Ok(false)
+}
+
+/// Changes what a code with a program changes, all at once.
 fn change_by_program(
     state: &mut NumberedState<'_>,
     code: StepCode<'_>,
@@ -164,6 +186,7 @@ fn change_by_program(
     ensures state { OnOk result ((deletes adds : List Atom) → AreNumbers state.old.atoms deletes (numbers_by (row_has state.old.bits) false (code_shown code.entry))
         → AreNumbers state.old.atoms adds (numbers_by (row_has state.old.bits) true (code_shown code.entry))
         → state_of state.new ≡ after_effects (state_of state.old) deletes adds) }
+    ensures failed { OnErr result (state.new ≡ state.old) }
     ensures atoms { state.new.atoms ≡ state.old.atoms }
     ensures initial { state.new.initial ≡ state.old.initial }
 {
@@ -216,7 +239,7 @@ pub(crate) fn set_all(state: &mut NumberedState<'_>, numbers: &[u32])
 /// Puts the code of an action with these objects into a buffer, if it has one.
 pub(crate) fn code_of_action(
     alloc: Global,
-    arguments: Arguments<'_>,
+    arguments: Arguments<'_, '_>,
     action: &Action,
     state: &mut NumberedState<'_>,
     room: &mut Room,
@@ -226,16 +249,16 @@ pub(crate) fn code_of_action(
     requires del { All (IsPatternWithin (length arguments.objects.now) 0) action.now.del }
     requires add { All (IsPatternWithin (length arguments.objects.now) 0) action.now.add }
     requires effects { All (IsEffectWithin (length arguments.objects.now) 0) action.now.effects }
-    ensures asks { IfOk result (λ found. IsTrue found → (parts : TaskParts) → AsksFor parts state.new.atoms (map (with_objects arguments.entry.objects.now []) action.now.pre) code.new) }
-    ensures deleted { IfOk result (λ found. IsTrue found → (before : State) (bits : ℕ → Bool) → AreBitsOf state.new.atoms before bits
+    ensures asks { IfOk result (λ found. IsTrue found → AsksFor arguments.entry.task.now state.new.atoms (map (with_objects arguments.entry.objects.now []) action.now.pre) code.new) }
+    ensures deleted { IfOk result (λ found. IsTrue found → (before : State) (bits : ℕ → Bool) → KeepsStatics arguments.entry.task.now before → AreBitsOf state.new.atoms before bits
         → AreNumbers state.new.atoms (deletes_by arguments.entry.task.now arguments.entry.objects.now before (Some action.now)) (numbers_by bits false code.new)) }
-    ensures added { IfOk result (λ found. IsTrue found → (before : State) (bits : ℕ → Bool) → AreBitsOf state.new.atoms before bits
+    ensures added { IfOk result (λ found. IsTrue found → (before : State) (bits : ℕ → Bool) → KeepsStatics arguments.entry.task.now before → AreBitsOf state.new.atoms before bits
         → AreNumbers state.new.atoms (adds_by arguments.entry.task.now arguments.entry.objects.now before (Some action.now)) (numbers_by bits true code.new)) }
+    ensures within { IfOk result (λ found. IsTrue found → (bits : ℕ → Bool) → All (IsNumber state.new.atoms) (numbers_by bits true code.new)) }
     ensures state { state_of state.new ≡ state_of state.old }
     ensures grows { Grows state.old state.new }
 {
-    let objects = arguments.objects;
-    if !plain_code(alloc, action, objects, state, &mut room.atom, code)? {
+    if !plain_code(alloc, arguments, action, state, &mut room.atom, code)? {
         return Ok(false);
     }
     room.bound.clear();
@@ -247,24 +270,25 @@ pub(crate) fn code_of_action(
 /// Puts what an action with these objects asks for, and what it always deletes and adds, into a buffer, if it asks for literals alone.
 fn plain_code(
     alloc: Global,
+    arguments: Arguments<'_, '_>,
     action: &Action,
-    objects: &[u16],
     state: &mut NumberedState<'_>,
     atom: &mut Atom,
     code: &mut CodeBuffer,
 ) -> Result<bool, AllocError>
-    requires pre { All (IsWithin (length objects.now) 0) action.now.pre }
-    requires del { All (IsPatternWithin (length objects.now) 0) action.now.del }
-    requires add { All (IsPatternWithin (length objects.now) 0) action.now.add }
-    ensures asks { IfOk result (λ found. IsTrue found → (parts : TaskParts) → AsksFor parts state.new.atoms (map (with_objects objects.now []) action.now.pre) code.new) }
-    ensures deleted { IfOk result (λ found. IsTrue found → AreNumbers state.new.atoms (map (ground objects.now) action.now.del) code.new.deleted) }
-    ensures added { IfOk result (λ found. IsTrue found → AreNumbers state.new.atoms (map (ground objects.now) action.now.add) code.new.added) }
+    requires pre { All (IsWithin (length arguments.objects.now) 0) action.now.pre }
+    requires del { All (IsPatternWithin (length arguments.objects.now) 0) action.now.del }
+    requires add { All (IsPatternWithin (length arguments.objects.now) 0) action.now.add }
+    ensures asks { IfOk result (λ found. IsTrue found → AsksFor arguments.entry.task.now state.new.atoms (map (with_objects arguments.entry.objects.now []) action.now.pre) code.new) }
+    ensures deleted { IfOk result (λ found. IsTrue found → AreNumbers state.new.atoms (map (ground arguments.entry.objects.now) action.now.del) code.new.deleted) }
+    ensures added { IfOk result (λ found. IsTrue found → AreNumbers state.new.atoms (map (ground arguments.entry.objects.now) action.now.add) code.new.added) }
     ensures state { state_of state.new ≡ state_of state.old }
     ensures grows { Grows state.old state.new }
 {
-    if !ask_all(alloc, action.pre.as_slice(), objects, state, atom, code)? {
+    if !ask_all(alloc, arguments, action.pre.as_slice(), state, atom, code)? {
         return Ok(false);
     }
+    let objects = arguments.objects;
     let deletes = action.del.as_slice();
     if !number_all(alloc, deletes, objects, state, atom, &mut code.deleted)? {
         return Ok(false);
@@ -274,57 +298,56 @@ fn plain_code(
     Ok(found)
 }
 
-/// Makes a code ask for the conditions of an action with these objects, if all are literals and equalities among them hold.
+/// Makes a code ask for the conditions of an action with these objects, if all are literals and those that do not depend on the state hold.
 fn ask_all(
     alloc: Global,
+    arguments: Arguments<'_, '_>,
     conditions: &[Formula],
-    objects: &[u16],
     state: &mut NumberedState<'_>,
     atom: &mut Atom,
     code: &mut CodeBuffer,
 ) -> Result<bool, AllocError>
-    requires { All (IsWithin (length objects.now) 0) conditions.now }
-    ensures asks { IfOk result (λ found. IsTrue found → (parts : TaskParts) → AsksFor parts state.new.atoms (map (with_objects objects.now []) conditions.now) code.new) }
+    requires { All (IsWithin (length arguments.objects.now) 0) conditions.now }
+    ensures asks { IfOk result (λ found. IsTrue found → AsksFor arguments.entry.task.now state.new.atoms (map (with_objects arguments.entry.objects.now []) conditions.now) code.new) }
     ensures state { state_of state.new ≡ state_of state.old }
     ensures grows { Grows state.old state.new }
 {
     code.ask_nothing();
     for condition in conditions {
-        if !ask_one(alloc, condition, objects, state, atom, code)? {
+        if !ask_one(alloc, arguments, condition, state, atom, code)? {
             return Ok(false);
         }
     }
     Ok(true)
 }
 
-/// Makes a code ask for one condition more, unless that is no literal, or an equality that does not hold.
+/// Makes a code ask for one condition more, if that depends on the state. Returns whether the condition is a literal that may hold.
 fn ask_one(
     alloc: Global,
+    arguments: Arguments<'_, '_>,
     condition: &Formula,
-    objects: &[u16],
     state: &mut NumberedState<'_>,
     atom: &mut Atom,
     code: &mut CodeBuffer,
 ) -> Result<bool, AllocError>
-    requires { IsWithin (length objects.now) 0 condition.now }
-    ensures asks { IfOk result (λ found. IsTrue found → (parts : TaskParts) (before : List Tree) → AsksFor parts state.old.atoms before code.old
-        → AsksFor parts state.new.atoms (before ++ with_objects objects.now [] condition.now ∷ []) code.new) }
+    requires { IsWithin (length arguments.objects.now) 0 condition.now }
+    ensures asks { IfOk result (λ found. IsTrue found → (before : List Tree) → AsksFor arguments.entry.task.now state.old.atoms before code.old
+        → AsksFor arguments.entry.task.now state.new.atoms (before ++ with_objects arguments.entry.objects.now [] condition.now ∷ []) code.new) }
     ensures state { state_of state.new ≡ state_of state.old }
     ensures grows { Grows state.old state.new }
 {
-    match condition.node() {
-        Node::Atom(positive, pattern) => {
-            let Some(number) = short_number(alloc, pattern, objects, &[], state, atom)? else {
-                return Ok(false);
-            };
-            code.ask(*positive, number)?;
-            Ok(true)
-        }
-        Node::Equal(positive, left, right) => {
-            Ok(equality_holds(*positive, *left, *right, objects, &[]))
-        }
-        _ => Ok(false),
+    if let Some(holds) = lasting_truth(arguments, condition, &[], atom)? {
+        return Ok(holds);
     }
+    let Node::Atom(positive, pattern) = condition.node() else {
+        return Ok(false);
+    };
+    let objects = arguments.objects;
+    let Some(number) = short_number(alloc, pattern, objects, &[], state, atom)? else {
+        return Ok(false);
+    };
+    code.ask(*positive, number)?;
+    Ok(true)
 }
 
 /// Gathers the numbers of the atoms that patterns stand for, if each fits in 32 bits.

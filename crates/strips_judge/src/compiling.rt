@@ -1,5 +1,5 @@
 //! Effects under `when` and `forall` compiled to programs: each choice of objects for the variables of a `forall` by itself, if the conditions are
-//! literals, or conjunctions of literals. Equalities are decided here.
+//! literals, or conjunctions of literals. Equalities and literals of static predicates are decided here.
 ghost use Rattle.std.specs.Prelude.{◌≡◌, ◌+◌, ◌≤◌, ℕ, List, length, drop, All, IsTrue, IfOk, OnOk, false};
 ghost use Rattle.std.specs.List.{list_all};
 ghost use Rattle.formulas.specs.Meaning.{atom_of};
@@ -12,11 +12,12 @@ ghost use Rattle.strips_judge.specs.Compiling.{FindsMore, FoundIn, where_it_hold
 ghost use Rattle.strips_judge.specs.Gathered.{changed_alone, choices_found, effect_found, effects_found};
 ghost use Rattle.strips_judge.specs.NumberedState.{Grows, state_of};
 ghost use Rattle.strips_judge.specs.State.{State};
+ghost use Rattle.strips_judge.specs.Statics.{KeepsStatics};
 
-use crate::arguments::object_fits;
 use crate::codes::short_number;
 use crate::effects::{Arguments, Quantified};
-use crate::evaluation::{equality_holds, have_objects, types_of};
+use crate::evaluation::{have_objects, types_of};
+use crate::lasting::lasting_truth;
 use crate::programs::Instruction;
 use crate::scratch::Room;
 use crate::state::NumberedState;
@@ -31,7 +32,7 @@ const MOST_INSTRUCTIONS: usize = 512;
 #[cycle(compile)]
 pub(crate) fn compile_all(
     alloc: Global,
-    arguments: Arguments<'_>,
+    arguments: Arguments<'_, '_>,
     state: &mut NumberedState<'_>,
     effects: &[Effect],
     room: &mut Room,
@@ -41,7 +42,7 @@ pub(crate) fn compile_all(
     ensures state { state_of state.new ≡ state_of state.old }
     ensures grows { Grows state.old state.new }
     ensures bound { OnOk result (room.new.bound.items ≡ room.old.bound.items) }
-    ensures compiled { IfOk result (λ compiled. IsTrue compiled → FindsMore state.new.atoms program.old.items program.new.items
+    ensures compiled { IfOk result (λ compiled. IsTrue compiled → FindsMore arguments.entry.task.now state.new.atoms program.old.items program.new.items
         (λ before. effects_found arguments.entry.task.now before arguments.entry.objects.now room.old.bound.items effects.now)) }
 {
     for effect in effects {
@@ -56,7 +57,7 @@ pub(crate) fn compile_all(
 #[cycle(compile)]
 fn compile(
     alloc: Global,
-    arguments: Arguments<'_>,
+    arguments: Arguments<'_, '_>,
     state: &mut NumberedState<'_>,
     effect: &Effect,
     room: &mut Room,
@@ -66,39 +67,19 @@ fn compile(
     ensures state { state_of state.new ≡ state_of state.old }
     ensures grows { Grows state.old state.new }
     ensures bound { OnOk result (room.new.bound.items ≡ room.old.bound.items) }
-    ensures compiled { IfOk result (λ compiled. IsTrue compiled → FindsMore state.new.atoms program.old.items program.new.items
+    ensures compiled { IfOk result (λ compiled. IsTrue compiled → FindsMore arguments.entry.task.now state.new.atoms program.old.items program.new.items
         (λ before. effect_found arguments.entry.task.now before arguments.entry.objects.now room.old.bound.items effect.now)) }
 {
     match effect.node() {
         EffectNode::Atom(truth, pattern) => {
-            compile_change(
-                alloc,
-                arguments.objects,
-                state,
-                *truth,
-                pattern,
-                room,
-                program,
-            )
+            compile_change(alloc, arguments, state, *truth, pattern, room, program)
         }
         EffectNode::And(parts) => compile_all(alloc, arguments, state, parts, room, program),
         EffectNode::When(condition, body) => {
-            if is_never_true(condition, arguments.objects, room.bound.as_slice()) {
+            if is_never_true(arguments, condition, room)? {
                 return Ok(true);
             }
-            let start = program.len();
-            if !compile(alloc, arguments, state, body, room, program)? {
-                return Ok(false);
-            }
-            put_tests(
-                alloc,
-                arguments.objects,
-                state,
-                condition,
-                start,
-                room,
-                program,
-            )
+            compile_when(alloc, arguments, state, condition, body, room, program)
         }
         EffectNode::ForAll(groups, body) => {
             if !have_objects(arguments.task, groups.as_slice()) {
@@ -113,11 +94,38 @@ fn compile(
     }
 }
 
+/// Adds to a program what an effect changes, and that it happens only where a condition holds.
+#[cycle(compile)]
+fn compile_when(
+    alloc: Global,
+    arguments: Arguments<'_, '_>,
+    state: &mut NumberedState<'_>,
+    condition: &Formula,
+    body: &Effect,
+    room: &mut Room,
+    program: &mut Vec<Instruction>,
+) -> Result<bool, AllocError>
+    requires condition { IsWithin (length arguments.objects.now) (length room.old.bound.items) condition.now }
+    requires body { IsEffectWithin (length arguments.objects.now) (length room.old.bound.items) body.now }
+    ensures state { state_of state.new ≡ state_of state.old }
+    ensures grows { Grows state.old state.new }
+    ensures bound { OnOk result (room.new.bound.items ≡ room.old.bound.items) }
+    ensures compiled { IfOk result (λ compiled. IsTrue compiled → FindsMore arguments.entry.task.now state.new.atoms program.old.items program.new.items
+        (where_it_holds arguments.entry.task.now arguments.entry.objects.now room.old.bound.items condition.now
+        (λ before. effect_found arguments.entry.task.now before arguments.entry.objects.now room.old.bound.items body.now))) }
+{
+    let start = program.len();
+    if !compile(alloc, arguments, state, body, room, program)? {
+        return Ok(false);
+    }
+    put_tests(alloc, arguments, state, condition, start, room, program)
+}
+
 /// Adds to a program what an effect changes for every choice of objects for its variables from this one on.
 #[cycle(compile)]
 fn compile_choices(
     alloc: Global,
-    arguments: Arguments<'_>,
+    arguments: Arguments<'_, '_>,
     state: &mut NumberedState<'_>,
     quantified: Quantified<'_>,
     first: usize,
@@ -129,14 +137,16 @@ fn compile_choices(
     ensures state { state_of state.new ≡ state_of state.old }
     ensures grows { Grows state.old state.new }
     ensures bound { OnOk result (room.new.bound.items ≡ room.old.bound.items) }
-    ensures compiled { IfOk result (λ compiled. IsTrue compiled → FindsMore state.new.atoms program.old.items program.new.items
+    ensures compiled { IfOk result (λ compiled. IsTrue compiled → FindsMore arguments.entry.task.now state.new.atoms program.old.items program.new.items
         (λ before. choices_found arguments.entry.task.now before arguments.entry.objects.now quantified.entry.body.now (drop first (variable_types quantified.entry.groups.now)) room.old.bound.items)) }
 {
     let Some(types) = types_of(quantified.groups, first) else {
         return compile(alloc, arguments, state, quantified.body, room, program);
     };
-    for object in 0..arguments.task.object_count() as u16 {
-        if object_fits(arguments.task, types, object) {
+    let candidates = arguments.task.candidates(types);
+    for index in 0..candidates.len() {
+        let object = candidates.get(index);
+        if arguments.task.object_fits(types, object) {
             room.bound.push(object)?;
             let next = first + 1;
             let compiled = compile_choices(
@@ -154,25 +164,32 @@ fn compile_choices(
 /// Adds to a program that the atom of a pattern becomes true, or false.
 fn compile_change(
     alloc: Global,
-    objects: &[u16],
+    arguments: Arguments<'_, '_>,
     state: &mut NumberedState<'_>,
     truth: bool,
     pattern: &Pattern,
     room: &mut Room,
     program: &mut Vec<Instruction>,
 ) -> Result<bool, AllocError>
-    requires { IsPatternWithin (length objects.now) (length room.old.bound.items) pattern.now }
+    requires { IsPatternWithin (length arguments.objects.now) (length room.old.bound.items) pattern.now }
     ensures state { state_of state.new ≡ state_of state.old }
     ensures grows { Grows state.old state.new }
     ensures bound { room.new.bound ≡ room.old.bound }
-    ensures compiled { IfOk result (λ compiled. IsTrue compiled → FindsMore state.new.atoms program.old.items program.new.items
-        (λ before. changed_alone truth (atom_of objects.now room.old.bound.items pattern.now))) }
+    ensures compiled { IfOk result (λ compiled. IsTrue compiled → FindsMore arguments.entry.task.now state.new.atoms program.old.items program.new.items
+        (λ before. changed_alone truth (atom_of arguments.entry.objects.now room.old.bound.items pattern.now))) }
 {
     if program.len() >= MOST_INSTRUCTIONS {
         return Ok(false);
     }
     let bound = room.bound.as_slice();
-    match short_number(alloc, pattern, objects, bound, state, &mut room.atom)? {
+    match short_number(
+        alloc,
+        pattern,
+        arguments.objects,
+        bound,
+        state,
+        &mut room.atom,
+    )? {
         Some(number) => program.push(Instruction::Change { truth, number })?,
         None => return Ok(false),
     }
@@ -191,42 +208,48 @@ fn conjuncts(formula: &Formula) -> &[Formula]
     }
 }
 
-/// Whether a condition can be seen to hold in no state: it is, or it joins, an equality that does not hold.
-fn is_never_true(condition: &Formula, objects: &[u16], bound: &[u16]) -> bool
-    requires { IsWithin (length objects.now) (length bound.now) condition.now }
-    ensures { IsTrue result → (parts : TaskParts) (state : State) → holds_bound parts state objects.now bound.now condition.now ≡ false }
+/// Whether a condition can be seen to hold in no state of the task: it is, or it joins, an equality or a literal that holds in none.
+fn is_never_true(
+    arguments: Arguments<'_, '_>,
+    condition: &Formula,
+    room: &mut Room,
+) -> Result<bool, AllocError>
+    requires { IsWithin (length arguments.objects.now) (length room.old.bound.items) condition.now }
+    ensures never { IfOk result (λ never. IsTrue never → (state : State) → KeepsStatics arguments.entry.task.now state
+        → holds_bound arguments.entry.task.now state arguments.entry.objects.now room.old.bound.items condition.now ≡ false) }
+    ensures bound { room.new.bound ≡ room.old.bound }
 {
     for conjunct in conjuncts(condition) {
-        if let Node::Equal(positive, left, right) = conjunct.node() {
-            if !equality_holds(*positive, *left, *right, objects, bound) {
-                return true;
-            }
+        let bound = room.bound.as_slice();
+        let truth = lasting_truth(arguments, conjunct, bound, &mut room.atom)?;
+        if truth == Some(false) {
+            return Ok(true);
         }
     }
-    false
+    Ok(false)
 }
 
 /// Puts tests of a condition before the instructions from `start` on, if it is a literal or joins literals. Returns whether it did.
 fn put_tests(
     alloc: Global,
-    objects: &[u16],
+    arguments: Arguments<'_, '_>,
     state: &mut NumberedState<'_>,
     condition: &Formula,
     start: usize,
     room: &mut Room,
     program: &mut Vec<Instruction>,
 ) -> Result<bool, AllocError>
-    requires within { IsWithin (length objects.now) (length room.old.bound.items) condition.now }
+    requires within { IsWithin (length arguments.objects.now) (length room.old.bound.items) condition.now }
     requires start { start ≤ length program.old.items }
     ensures state { state_of state.new ≡ state_of state.old }
     ensures grows { Grows state.old state.new }
     ensures bound { room.new.bound ≡ room.old.bound }
-    ensures tested { IfOk result (λ done. IsTrue done → (parts : TaskParts) (before : List Instruction) (found : FoundIn) → length before ≡ start
-        → FindsMore state.old.atoms before program.old.items found
-        → FindsMore state.new.atoms before program.new.items (where_it_holds parts objects.now room.old.bound.items condition.now found)) }
+    ensures tested { IfOk result (λ done. IsTrue done → (before : List Instruction) (found : FoundIn) → length before ≡ start
+        → FindsMore arguments.entry.task.now state.old.atoms before program.old.items found
+        → FindsMore arguments.entry.task.now state.new.atoms before program.new.items (where_it_holds arguments.entry.task.now arguments.entry.objects.now room.old.bound.items condition.now found)) }
 {
     for conjunct in conjuncts(condition) {
-        if !put_test(alloc, objects, state, conjunct, start, room, program)? {
+        if !put_test(alloc, arguments, state, conjunct, start, room, program)? {
             return Ok(false);
         }
     }
@@ -236,44 +259,43 @@ fn put_tests(
 /// Puts a test of a literal before the instructions from `start` on. Returns whether it did.
 fn put_test(
     alloc: Global,
-    objects: &[u16],
+    arguments: Arguments<'_, '_>,
     state: &mut NumberedState<'_>,
     literal: &Formula,
     start: usize,
     room: &mut Room,
     program: &mut Vec<Instruction>,
 ) -> Result<bool, AllocError>
-    requires within { IsWithin (length objects.now) (length room.old.bound.items) literal.now }
+    requires within { IsWithin (length arguments.objects.now) (length room.old.bound.items) literal.now }
     requires start { start ≤ length program.old.items }
     ensures state { state_of state.new ≡ state_of state.old }
     ensures grows { Grows state.old state.new }
     ensures bound { room.new.bound ≡ room.old.bound }
     ensures length { length program.old.items ≤ length program.new.items }
-    ensures tested { IfOk result (λ done. IsTrue done → (parts : TaskParts) (before : List Instruction) (found : FoundIn) → length before ≡ start
-        → FindsMore state.old.atoms before program.old.items found
-        → FindsMore state.new.atoms before program.new.items (where_it_holds parts objects.now room.old.bound.items literal.now found)) }
+    ensures tested { IfOk result (λ done. IsTrue done → (before : List Instruction) (found : FoundIn) → length before ≡ start
+        → FindsMore arguments.entry.task.now state.old.atoms before program.old.items found
+        → FindsMore arguments.entry.task.now state.new.atoms before program.new.items (where_it_holds arguments.entry.task.now arguments.entry.objects.now room.old.bound.items literal.now found)) }
 {
     let bound = room.bound.as_slice();
-    match literal.node() {
-        Node::Atom(truth, pattern) => {
-            if program.len() >= MOST_INSTRUCTIONS {
-                return Ok(false);
-            }
-            let found = short_number(alloc, pattern, objects, bound, state, &mut room.atom)?;
-            let Some(number) = found else {
-                return Ok(false);
-            };
-            let test = Instruction::Test {
-                truth: *truth,
-                number,
-                skip: (program.len() - start) as u32,
-            };
-            program.insert(start, test)?;
-            Ok(true)
-        }
-        Node::Equal(positive, left, right) => {
-            Ok(equality_holds(*positive, *left, *right, objects, bound))
-        }
-        _ => Ok(false),
+    if let Some(holds) = lasting_truth(arguments, literal, bound, &mut room.atom)? {
+        return Ok(holds);
     }
+    let Node::Atom(truth, pattern) = literal.node() else {
+        return Ok(false);
+    };
+    if program.len() >= MOST_INSTRUCTIONS {
+        return Ok(false);
+    }
+    let objects = arguments.objects;
+    let found = short_number(alloc, pattern, objects, bound, state, &mut room.atom)?;
+    let Some(number) = found else {
+        return Ok(false);
+    };
+    let test = Instruction::Test {
+        truth: *truth,
+        number,
+        skip: (program.len() - start) as u32,
+    };
+    program.insert(start, test)?;
+    Ok(true)
 }

@@ -12,15 +12,16 @@ ghost use Rattle.strips_judge.specs.Step.{missing};
 use crate::evaluation::holds;
 use crate::scratch::Room;
 use crate::state::NumberedState;
+use crate::task_index::TaskIndex;
 use formulas::ground;
 use indexmap::IndexSet;
 use std::alloc::{AllocError, Global};
-use strips_task::{Formula, Seed, Seq, Task};
+use strips_task::{Formula, Seed, Seq};
 
 /// The conditions that do not hold when the parameters are bound to these objects, in order, each only once. They name the objects.
 pub(crate) fn missing(
     alloc: Global,
-    task: &Task,
+    task: &TaskIndex<'_>,
     state: &mut NumberedState<'_>,
     conditions: &[Formula],
     objects: &[u16],

@@ -11,18 +11,18 @@ ghost use Rattle.strips_judge.specs.NumberedState.{Grows, state_of};
 ghost use Rattle.strips_judge.specs.State.{without, with_all};
 ghost use Rattle.strips_judge.specs.Step.{after_by};
 
-use crate::arguments::object_fits;
 use crate::codes::{clear_all, set_all};
 use crate::evaluation::{evaluate, have_objects, types_of};
 use crate::scratch::{Changes, Room};
 use crate::state::NumberedState;
+use crate::task_index::TaskIndex;
 use std::alloc::{AllocError, Global};
-use strips_task::{Action, Atom, Effect, EffectNode, Pattern, Task, VariableGroup};
+use strips_task::{Action, Atom, Effect, EffectNode, Pattern, VariableGroup};
 
 /// What the parameters of an action stand for in a task.
 #[derive(Clone, Copy)]
-pub(crate) struct Arguments<'a> {
-    pub(crate) task: &'a Task,
+pub(crate) struct Arguments<'a, 't> {
+    pub(crate) task: &'a TaskIndex<'t>,
     pub(crate) objects: &'a [u16],
 }
 
@@ -37,7 +37,7 @@ pub(crate) struct Quantified<'e> {
 #[inline(always)]
 pub(crate) fn apply(
     alloc: Global,
-    arguments: Arguments<'_>,
+    arguments: Arguments<'_, '_>,
     state: &mut NumberedState<'_>,
     action: &Action,
     room: &mut Room,
@@ -62,7 +62,7 @@ pub(crate) fn apply(
 #[inline(never)]
 fn apply_gathered(
     alloc: Global,
-    arguments: Arguments<'_>,
+    arguments: Arguments<'_, '_>,
     state: &mut NumberedState<'_>,
     action: &Action,
     room: &mut Room,
@@ -132,7 +132,7 @@ fn insert_all(
 #[cycle(gather)]
 fn gather_all(
     alloc: Global,
-    arguments: Arguments<'_>,
+    arguments: Arguments<'_, '_>,
     state: &mut NumberedState<'_>,
     effects: &[Effect],
     room: &mut Room,
@@ -155,7 +155,7 @@ fn gather_all(
 #[cycle(gather)]
 fn gather(
     alloc: Global,
-    arguments: Arguments<'_>,
+    arguments: Arguments<'_, '_>,
     state: &mut NumberedState<'_>,
     effect: &Effect,
     room: &mut Room,
@@ -199,7 +199,7 @@ fn gather(
 #[cycle(gather)]
 fn gather_choices(
     alloc: Global,
-    arguments: Arguments<'_>,
+    arguments: Arguments<'_, '_>,
     state: &mut NumberedState<'_>,
     quantified: Quantified<'_>,
     first: usize,
@@ -217,8 +217,10 @@ fn gather_choices(
     let Some(types) = types_of(quantified.groups, first) else {
         return gather(alloc, arguments, state, quantified.body, room, changes);
     };
-    for object in 0..arguments.task.object_count() as u16 {
-        if object_fits(arguments.task, types, object) {
+    let candidates = arguments.task.candidates(types);
+    for index in 0..candidates.len() {
+        let object = candidates.get(index);
+        if arguments.task.object_fits(types, object) {
             room.bound.push(object)?;
             gather_choices(
                 alloc,

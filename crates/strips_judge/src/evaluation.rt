@@ -11,12 +11,12 @@ ghost use Rattle.strips_judge.specs.Choices.{holds_bound, some_is, some_choice_g
 ghost use Rattle.strips_judge.specs.NumberedState.{state_of};
 ghost use Rattle.strips_judge.specs.State.{holds, objects_of};
 
-use crate::arguments::object_fits;
 use crate::grounding::object_of;
 use crate::scratch::Room;
 use crate::state::NumberedState;
+use crate::task_index::TaskIndex;
 use std::alloc::AllocError;
-use strips_task::{Atom, Formula, Node, Pattern, Task, Term, VariableGroup};
+use strips_task::{Atom, Formula, Node, Pattern, Term, VariableGroup};
 
 /// A formula under a quantifier, with the variables that are bound there, and whether it is asked where the formula is true or where it is false.
 #[derive(Clone, Copy)]
@@ -29,7 +29,7 @@ struct Quantified<'f> {
 /// Whether a formula holds when the parameters are bound to these objects. Takes no memory for a literal.
 #[inline(always)]
 pub(crate) fn holds(
-    task: &Task,
+    task: &TaskIndex<'_>,
     state: &mut NumberedState<'_>,
     formula: &Formula,
     objects: &[u16],
@@ -90,7 +90,7 @@ pub(crate) fn equality_holds(
 #[cycle(evaluate)]
 #[inline(never)]
 pub(crate) fn evaluate(
-    task: &Task,
+    task: &TaskIndex<'_>,
     state: &mut NumberedState<'_>,
     formula: &Formula,
     objects: &[u16],
@@ -140,7 +140,7 @@ pub(crate) fn evaluate(
 /// Whether one of these formulas is true, or is false.
 #[cycle(evaluate)]
 fn some_is(
-    task: &Task,
+    task: &TaskIndex<'_>,
     state: &mut NumberedState<'_>,
     formulas: &[Formula],
     truth: bool,
@@ -163,7 +163,7 @@ fn some_is(
 /// Whether a formula is true, or is false, for some choice of objects for its variables. If one of them has no object, nothing is evaluated.
 #[cycle(evaluate)]
 fn some_choice(
-    task: &Task,
+    task: &TaskIndex<'_>,
     state: &mut NumberedState<'_>,
     quantified: &Quantified<'_>,
     objects: &[u16],
@@ -184,7 +184,7 @@ fn some_choice(
 /// Whether a formula is true, or is false, for some choice of objects for its variables from this one on.
 #[cycle(evaluate)]
 fn some_choice_gives(
-    task: &Task,
+    task: &TaskIndex<'_>,
     state: &mut NumberedState<'_>,
     quantified: &Quantified<'_>,
     first: usize,
@@ -209,7 +209,7 @@ fn some_choice_gives(
 /// Whether a formula is true, or is false, for some object of one of these types and some choice of objects for its variables from this one on.
 #[cycle(evaluate)]
 fn some_object_gives(
-    task: &Task,
+    task: &TaskIndex<'_>,
     state: &mut NumberedState<'_>,
     quantified: &Quantified<'_>,
     types: &[u16],
@@ -224,8 +224,10 @@ fn some_object_gives(
     ensures same { state.new ≡ state.old }
     ensures bound { OnOk result (room.new.bound.items ≡ room.old.bound.items) }
 {
-    for object in 0..task.object_count() as u16 {
-        if object_fits(task, types, object)
+    let candidates = task.candidates(types);
+    for index in 0..candidates.len() {
+        let object = candidates.get(index);
+        if task.object_fits(types, object)
             && object_gives(task, state, quantified, object, next, objects, room)?
         {
             return Ok(true);
@@ -237,7 +239,7 @@ fn some_object_gives(
 /// Whether a formula is true, or is false, for this object and some choice of objects for its variables from this one on.
 #[cycle(evaluate)]
 fn object_gives(
-    task: &Task,
+    task: &TaskIndex<'_>,
     state: &mut NumberedState<'_>,
     quantified: &Quantified<'_>,
     object: u16,
@@ -258,8 +260,8 @@ fn object_gives(
     Ok(answer)
 }
 
-/// Whether there is an object for each variable of these groups. Takes one pass over the objects for each group at most.
-pub(crate) fn have_objects(task: &Task, groups: &[VariableGroup]) -> bool
+/// Whether there is an object for each variable of these groups. Takes one pass over the objects of its types for each group at most.
+pub(crate) fn have_objects(task: &TaskIndex<'_>, groups: &[VariableGroup]) -> bool
     ensures { result ≡ false → (bound : List ℕ) → extensions (objects_of task.now) (variable_types groups.now) bound ≡ [] }
 {
     for group in groups {
@@ -271,11 +273,12 @@ pub(crate) fn have_objects(task: &Task, groups: &[VariableGroup]) -> bool
 }
 
 /// Whether there is an object of one of these types, or of one below them.
-fn has_object(task: &Task, types: &[u16]) -> bool
+fn has_object(task: &TaskIndex<'_>, types: &[u16]) -> bool
     ensures { result ≡ false → objects_of task.now types.now ≡ [] }
 {
-    for candidate in 0..task.object_count() as u16 {
-        if object_fits(task, types, candidate) {
+    let candidates = task.candidates(types);
+    for index in 0..candidates.len() {
+        if task.object_fits(types, candidates.get(index)) {
             return true;
         }
     }

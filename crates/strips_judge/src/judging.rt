@@ -16,6 +16,7 @@ use crate::conditions::missing;
 use crate::effects::{Arguments, apply};
 use crate::scratch::Scratch;
 use crate::state::NumberedState;
+use crate::task_index::TaskIndex;
 use crate::unmet::Unmet;
 use crate::verdict::{Verdict, Why};
 use std::alloc::{AllocError, Global};
@@ -31,20 +32,17 @@ pub fn judge(alloc: Global, task: &Task, plan: &Plan) -> Result<Verdict, AllocEr
     ensures { IfOk result (λ answer. answer ≡ verdict task.now plan.now) }
 {
     match plan {
-        Plan::Steps(steps) => judge_steps(alloc, task, steps),
+        Plan::Steps(steps) => judge_steps(alloc, &TaskIndex::new(alloc, task)?, steps),
         Plan::Unreadable { line } => Ok(Verdict::Unreadable { line: *line }),
     }
 }
 
-fn judge_steps(alloc: Global, task: &Task, steps: &StepList) -> Result<Verdict, AllocError>
+fn judge_steps(alloc: Global, task: &TaskIndex<'_>, steps: &StepList) -> Result<Verdict, AllocError>
     ensures { IfOk result (λ answer. answer ≡ verdict_from task.now 0 (is_in task.now.init) steps.now) }
 {
-    let mut state = NumberedState::new(
-        alloc,
-        task.initial_atoms(),
-        task.object_count(),
-        MOST_CELLS,
-    )?;
+    let objects = task.task().object_count();
+    let initial = task.task().initial_atoms();
+    let mut state = NumberedState::new(alloc, initial, objects, MOST_CELLS)?;
     let mut scratch = Scratch::new(alloc);
     for index in 0..steps.len() {
         if let Some(why) = take_step(alloc, task, steps.get(index), &mut state, &mut scratch)? {
@@ -61,7 +59,7 @@ fn judge_steps(alloc: Global, task: &Task, steps: &StepList) -> Result<Verdict, 
 #[tactic(auto, using(crate::proofs::StepLaws::none_put_in))]
 pub fn judge_goal(
     alloc: Global,
-    task: &Task,
+    task: &TaskIndex<'_>,
     state: &mut NumberedState<'_>,
     scratch: &mut Scratch,
     steps: u32,
@@ -69,7 +67,7 @@ pub fn judge_goal(
     ensures verdict { IfOk result (λ answer. answer ≡ goal_verdict steps (missing task.now (state_of state.old) task.now.goal)) }
     ensures same { state.new ≡ state.old }
 {
-    let goal = task.goal().as_slice();
+    let goal = task.task().goal().as_slice();
     let missing = missing(alloc, task, state, goal, &[], &mut scratch.room)?;
     if missing.is_empty() {
         Ok(Verdict::Valid { steps })
@@ -85,7 +83,7 @@ pub fn judge_goal(
 /// Takes one hash for each of its words and for each of its atoms, and memory for atoms that have no number yet.
 pub fn take_step(
     alloc: Global,
-    task: &Task,
+    task: &TaskIndex<'_>,
     step: StepView<'_>,
     state: &mut NumberedState<'_>,
     scratch: &mut Scratch,
@@ -94,8 +92,11 @@ pub fn take_step(
     ensures why { IfOk result (λ why. why ≡ hindrance task.now (state_of state.old) (step_shown step.entry)) }
     ensures next { IfOk result (λ why. IfNone why (state_of state.new ≡ after task.now (state_of state.old) (step_shown step.entry))) }
 {
-    match task.action_named(step.action()) {
-        Some(number) => take_action(alloc, task, task.action(number), step, state, scratch),
+    match task.task().action_named(step.action()) {
+        Some(number) => {
+            let action = task.task().action(number);
+            take_action(alloc, task, action, step, state, scratch)
+        }
         None => Ok(Some(Why::UnknownAction)),
     }
 }
@@ -103,7 +104,7 @@ pub fn take_step(
 /// Takes a step of an action if it is applicable, and otherwise returns why it is not.
 fn take_action(
     alloc: Global,
-    task: &Task,
+    task: &TaskIndex<'_>,
     action: &Action,
     step: StepView<'_>,
     state: &mut NumberedState<'_>,
@@ -115,7 +116,7 @@ fn take_action(
     ensures next { IfOk result (λ why. IfNone why (state_of state.new
         ≡ after_by task.now (objects_named task.now (step_shown step.entry).args) (state_of state.old) (Some action.now))) }
 {
-    if let Some(why) = bind(task, action, step, &mut scratch.objects)? {
+    if let Some(why) = bind(task.task(), action, step, &mut scratch.objects)? {
         return Ok(Some(why));
     }
     let objects = scratch.objects.as_slice();

@@ -20,6 +20,7 @@
 
 mod arguments;
 mod atom_keys;
+mod candidates;
 mod codes;
 mod compiling;
 mod conditions;
@@ -27,6 +28,7 @@ mod effects;
 mod evaluation;
 mod grounding;
 mod judging;
+mod lasting;
 pub mod laws;
 mod numbered_steps;
 mod programs;
@@ -34,6 +36,7 @@ pub mod reasons;
 mod scratch;
 mod single_cells;
 mod state;
+mod task_index;
 mod unmet;
 mod verdict;
 
@@ -48,5 +51,6 @@ pub use strips_task::{
     NameTable, Node, OpenSteps, Pattern, Plan, Seed, Seq, ShortSeq, StepList, StepRange, StepText,
     StepView, Task, TaskParts, Term, TypeList, VariableGroup, WordList,
 };
+pub use task_index::TaskIndex;
 pub use unmet::Unmet;
 pub use verdict::{Verdict, Why};

@@ -18,8 +18,9 @@ use crate::effects::{Arguments, apply};
 use crate::evaluation::holds;
 use crate::scratch::{Room, Scratch};
 use crate::state::NumberedState;
+use crate::task_index::TaskIndex;
 use std::alloc::{AllocError, Global};
-use strips_task::{Action, Formula, Task};
+use strips_task::{Action, Formula};
 
 /// Takes the step with these numbers if it is applicable, and otherwise leaves the state as it is. Returns whether it did. If memory runs out, some
 /// of its effects may have happened.
@@ -28,7 +29,7 @@ use strips_task::{Action, Formula, Task};
 #[inline(always)]
 pub fn take_numbered(
     alloc: Global,
-    task: &Task,
+    task: &TaskIndex<'_>,
     numbers: &[u16],
     state: &mut NumberedState<'_>,
     scratch: &mut Scratch,
@@ -64,7 +65,7 @@ pub fn take_numbered(
 /// If there is no code, or memory runs out, the buffer may hold part of one.
 pub fn code_of_numbered(
     alloc: Global,
-    task: &Task,
+    task: &TaskIndex<'_>,
     numbers: &[u16],
     state: &mut NumberedState<'_>,
     scratch: &mut Scratch,
@@ -86,7 +87,7 @@ pub fn code_of_numbered(
 
 /// The action and the objects with these numbers, if the objects fit its parameters.
 #[inline(always)]
-fn bound<'t, 'n>(task: &'t Task, numbers: &'n [u16]) -> Option<(&'t Action, &'n [u16])>
+fn bound<'t, 'n>(task: &TaskIndex<'t>, numbers: &'n [u16]) -> Option<(&'t Action, &'n [u16])>
     requires { AreWithin task.now numbers.now }
     ensures named { IfSome result (λ found. (step : StepText) → IsNumbered task.now step numbers.now
         → action_named task.now step.action ≡ Some found.0.now) }
@@ -99,6 +100,7 @@ fn bound<'t, 'n>(task: &'t Task, numbers: &'n [u16]) -> Option<(&'t Action, &'n 
     let [number, objects @ ..] = numbers else {
         return None;
     };
+    let task = task.task();
     let action = task.action(*number);
     if objects.len() != action.params.len() {
         return None;
@@ -112,7 +114,7 @@ fn bound<'t, 'n>(task: &'t Task, numbers: &'n [u16]) -> Option<(&'t Action, &'n 
 /// Whether all conditions of an action with these objects hold.
 #[inline(always)]
 fn all_hold(
-    task: &Task,
+    task: &TaskIndex<'_>,
     state: &mut NumberedState<'_>,
     conditions: &[Formula],
     objects: &[u16],

@@ -18,3 +18,4 @@ pub mod WellFormed
 pub mod Within
 pub mod ShortNames
 pub mod Spelled
+pub mod Values

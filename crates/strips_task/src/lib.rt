@@ -14,11 +14,16 @@
 //! ([`InitialAtoms`]) and the goal. [`Task::make`] turns well-formed parts into a [`Task`]. Every [`Task`] is well formed, by its type, so no
 //! function that takes one has to test it again. A [`Plan`] holds its steps as text in lower case ([`StepList`]). The names in it are looked up
 //! when it is judged, since a plan may use names that the task doesn't have.
+//!
+//! A task may count costs: a [`CostedTask`] is a [`Task`] and its [`Costs`], the amounts by which each action increases the total cost
+//! ([`Increases`]) and the values that the problem gives to functions ([`FunctionValues`]).
 #![tactic(auto)]
 
 mod actions;
+mod amounts;
 mod atom_keys;
 mod atom_table;
+mod costs;
 mod equality;
 mod initial;
 mod known_atoms;
@@ -31,12 +36,15 @@ mod steps;
 mod table;
 mod tasks;
 mod types;
+mod values;
 mod well_formed;
 mod words;
 
 pub use actions::Action;
+pub use amounts::{Amount, Increases, MOST_INCREASES};
 pub use atom_keys::AtomKey;
 pub use atom_table::{AtomTable, KeptAtom};
+pub use costs::{CostedTask, Costs};
 pub use formulas::{
     Alternatives, Atom, AtomList, Effect, EffectNode, Formula, Name, NameKey, Node, Pattern, Seq,
     ShortSeq, Term, VariableGroup,
@@ -49,6 +57,7 @@ pub use steps::{MOST_STEPS, OpenSteps, StepList, StepRange, StepText};
 pub use table::NameTable;
 pub use tasks::{Task, TaskParts};
 pub use types::TypeList;
+pub use values::{FunctionValues, Given};
 pub use well_formed::{
     MOST_ACTIONS, MOST_ALTERNATIVES, MOST_OBJECTS, MOST_PREDICATES, MOST_TYPES, MOST_VARIABLES,
     object_fits, term_fits,

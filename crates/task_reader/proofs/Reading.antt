@@ -5,7 +5,7 @@ use Rattle.std.specs.Option.{option_and_then}
 use Rattle.pddl_reader.specs.Domain.{DomainValue}
 use Rattle.pddl_reader.specs.Texts.{domain_in_text, problem_in_text, task_in as read_in}
 use Rattle.pddl_syntax.specs.declared.dialect.Dialect.{Dialect}
-use Rattle.plan_cost.specs.declared.costs.CostedTask.{CostedTask}
+use Rattle.strips_task.specs.declared.costs.CostedTask.{CostedTask}
 use Rattle.task_reader.specs.declared.excess.Excess.{Excess}
 use Rattle.task_reader.specs.Bindings.{excess}
 use Rattle.task_reader.specs.Texts.{task_in, unless_excess, within_limit}

@@ -9,8 +9,8 @@ ghost use Rattle.task_reader.specs.declared.readers.TaskFault.TheVariants.{Domai
 use crate::excess::{Excess, Whose, first_excess};
 use crate::spans::{action_fault, goal_fault};
 use pddl_reader::{Dialect, FaultKind, ReadFault, Seed, read_domain_in, read_problem_in};
-use plan_cost::CostedTask;
 use std::alloc::{AllocError, Global};
+use strips_task::CostedTask;
 
 /// Which of the two texts is refused, and why. If memory runs out, the kind of the fault is [`FaultKind::OutOfMemory`], with either text.
 #[derive(Clone, Copy, Debug, PartialEq, Eq)]

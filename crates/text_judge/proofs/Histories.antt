@@ -21,7 +21,7 @@ use Rattle.strips_judge.specs.Verdict.{goal_verdict, verdict}
 use Rattle.strips_judge.specs.Validity.{LeadTo}
 use Rattle.strips_judge.proofs.Runs.{lead_none_same, lead_first}
 use Rattle.plan_cost.specs.declared.assessments.Assessment.{Assessment}
-use Rattle.plan_cost.specs.declared.costs.CostedTask.{CostedTask}
+use Rattle.strips_task.specs.declared.costs.CostedTask.{CostedTask}
 use Rattle.plan_text.specs.PlanReading.{plan_of}
 use Rattle.plan_text.specs.Walks.{Walk}
 use Rattle.text_judge.specs.Judging.{Judging, HasTaken, cost_by}

@@ -16,20 +16,23 @@ use Rattle.strips_judge.specs.declared.verdict.Why.{Why}
 use Rattle.strips_judge.specs.Codes.{Code, IsCode}
 use Rattle.strips_judge.specs.NumberedState.{Numbered, Grows, state_of}
 use Rattle.strips_judge.specs.State.{State, is_in}
+use Rattle.strips_judge.specs.Statics.{KeepsStatics}
 use Rattle.strips_judge.specs.Step.{hindrance, after, missing}
 use Rattle.strips_judge.specs.Validity.{IsApplicable, LeadTo}
 use Rattle.strips_judge.specs.Verdict.{goal_verdict, step_verdict, verdict_from, verdict}
+use Rattle.strips_judge.proofs.StaticLaws.{run_keeps}
 use Rattle.strips_judge.proofs.Applicable.{applicable_from_hindrance, hindrance_from_applicable}
 use Rattle.strips_judge.proofs.CodeLaws.{code_kept}
 use Rattle.strips_judge.proofs.Growth.{grows_same}
 use Rattle.strips_judge.proofs.Runs.{lead_none, lead_none_same, lead_more, lead_first}
 use Rattle.plan_cost.specs.declared.costs.Cost.{Cost}
 use Rattle.plan_cost.specs.declared.costs.Cost.TheVariants.{NotCounted}
-use Rattle.plan_cost.specs.declared.costs.CostedTask.{CostedTask}
-use Rattle.plan_cost.specs.declared.costs.Costs.{Costs}
+use Rattle.strips_task.specs.declared.costs.CostedTask.{CostedTask}
+use Rattle.strips_task.specs.declared.costs.Costs.{Costs}
 use Rattle.plan_cost.specs.declared.assessments.Assessment.{Assessment}
 use Rattle.plan_cost.specs.Assessments.{assessment, cost_beside}
-use Rattle.plan_cost.specs.Costs.{added, sum_of, step_amounts, steps_cost, initial_cost, cost_answer}
+use Rattle.plan_cost.specs.Costs.{added, sum_of, step_amounts, steps_cost, cost_answer}
+use Rattle.strips_task.specs.Values.{initial_cost}
 use Rattle.plan_cost.proofs.Sums.{sum_of-append}
 use Rattle.text_judge.specs.Judging.{IsCostSoFar, HasTaken, cost_by}
 use Rattle.text_judge.specs.Known.{Known}
@@ -144,10 +147,11 @@ module _ (task : CostedTask) (state : Numbered) where
 
   module _ (cost : Option ℕ) (count : ℕ) where
     -- one step more
-    pub has_taken_more : (new : Numbered) (more amount : Option ℕ) (step : StepText) → Takes task (state_of state) (state_of new) step amount → more ≡ added cost amount
+    pub has_taken_more : (new : Numbered) (more amount : Option ℕ) (step : StepText) → (KeepsStatics task.task (state_of state) → Takes task (state_of state) (state_of new) step amount) → more ≡ added cost amount
         → (steps : List StepText) → HasTaken (record { task = task; state = state; cost = cost; count = count }) steps
         → HasTaken (record { task = task; state = new; cost = more; count = count + 1 }) (steps ++ step ∷ [])
-    has_taken_more new more amount step takes is steps h =
+    has_taken_more new more amount step so is steps h =
+        let takes = so (run_keeps task.task steps (state_of state) h.run) in
         let one : length (steps ++ step ∷ []) ≡ length steps + 1 = length-append steps (step ∷ []) in
         record {
           run = lead_on task.task (is_in task.task.init) (state_of state) (state_of new) steps step h.run

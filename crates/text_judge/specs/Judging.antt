@@ -10,8 +10,8 @@ use Rattle.strips_judge.specs.declared.verdict.Verdict.{Verdict}
 use Rattle.strips_judge.specs.declared.verdict.Verdict.TheVariants.{Valid, Fails, Goal, Unreadable}
 use Rattle.plan_cost.specs.declared.costs.Cost.{Cost}
 use Rattle.plan_cost.specs.declared.costs.Cost.TheVariants.{NotCounted}
-use Rattle.plan_cost.specs.declared.costs.CostedTask.{CostedTask}
-use Rattle.plan_cost.specs.declared.costs.Costs.{Costs}
+use Rattle.strips_task.specs.declared.costs.CostedTask.{CostedTask}
+use Rattle.strips_task.specs.declared.costs.Costs.{Costs}
 use Rattle.plan_cost.specs.Costs.{steps_cost, cost_answer}
 
 -- what a judge keeps of the plan that it is judging: the task, the state, the cost so far, if it is defined, and how many steps were taken

@@ -10,8 +10,8 @@ use Rattle.strips_judge.specs.Codes.{IsCode}
 use Rattle.strips_judge.specs.NumberedState.{Numbered}
 use Rattle.strips_judge.specs.State.{State}
 use Rattle.strips_judge.specs.Step.{hindrance, after}
-use Rattle.plan_cost.specs.declared.costs.CostedTask.{CostedTask}
-use Rattle.plan_cost.specs.declared.costs.Costs.{Costs}
+use Rattle.strips_task.specs.declared.costs.CostedTask.{CostedTask}
+use Rattle.strips_task.specs.declared.costs.Costs.{Costs}
 use Rattle.plan_cost.specs.Costs.{sum_of, step_amounts}
 use Rattle.text_judge.specs.Known.{Known}
 

@@ -42,7 +42,7 @@ impl Drop for TextJudge<'_> {
 
 impl<'t> Model for TextJudge<'t> {
     ghost use Rattle.std.specs.Prelude.{◌≡◌};
-    ghost use Rattle.plan_cost.specs.declared.costs.CostedTask.{CostedTask};
+    ghost use Rattle.strips_task.specs.declared.costs.CostedTask.{CostedTask};
 
     ghost Value = { CostedTask };
 

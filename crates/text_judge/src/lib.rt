@@ -20,6 +20,7 @@
 
 mod amounts;
 mod history;
+mod indexed_task;
 mod judge;
 pub mod laws;
 mod memo;

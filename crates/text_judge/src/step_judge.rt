@@ -13,6 +13,7 @@ ghost use Rattle.text_judge.specs.Judging.{HasTaken};
 ghost use Rattle.text_judge.specs.Passes.{FailsNext};
 
 use crate::amounts::{added, amount_of, cost_beside, initial_of, numbered_amount};
+use crate::indexed_task::IndexedTask;
 use crate::memo::Memo;
 use crate::memo_limits::MemoLimits;
 use crate::memo_policy::MemoPolicy;
@@ -36,7 +37,7 @@ const LATER_TO_LEARN: usize = 32_768;
 /// [`begin`](Judge::begin) a plan, take its steps one by one, and [`finish`](Judge::finish) it. If a step is not applicable, or memory
 /// runs out, the plan is over, and another can begin.
 pub(crate) struct Judge<'t> {
-    task: &'t CostedTask,
+    task: IndexedTask<'t>,
     limits: MemoLimits,
     state: NumberedState<'t>,
     memo: Memo,
@@ -84,9 +85,9 @@ impl<'t> Model for Judge<'t> {
 
     ghost coded = { Prim.hlevel (codes, formula.the_row.coded, effect.the_row.coded) };
 
-    ghost view = { λ j. record { task = j.task.now; state = j.state; cost = j.cost; count = j.count } };
+    ghost view = { λ j. record { task = j.task; state = j.state; cost = j.cost; count = j.count } };
 
-    ghost invariant = { λ j. IsJudge j.task.now j.state j.memo j.cost j.count };
+    ghost invariant = { λ j. IsJudge j.task j.state j.memo j.cost j.count };
 }
 
 impl<'t> Judge<'t> {
@@ -105,7 +106,7 @@ impl<'t> Judge<'t> {
         let objects = task.task.object_count();
         let state = NumberedState::new(alloc, initial, objects, limits.cells)?;
         Ok(Judge {
-            task,
+            task: IndexedTask::new(alloc, task)?,
             limits,
             state,
             memo: Memo::new(alloc, initial.seed(), limits),
@@ -130,7 +131,7 @@ impl<'t> Judge<'t> {
     {
         self.start_over(alloc)?;
         self.policy.begin();
-        self.cost = Some(u128::from(initial_of(alloc, self.task)));
+        self.cost = Some(u128::from(initial_of(alloc, self.task.costed())));
         self.count = 0;
         Ok(())
     }
@@ -152,8 +153,9 @@ impl<'t> Judge<'t> {
         ensures task { self.new.task ≡ self.old.task }
         ensures state { OnOk result (state_of self.new.state ≡ is_in self.new.task.task.init) }
     {
-        let initial = self.task.task.initial_atoms();
-        let objects = self.task.task.object_count();
+        let task = &self.task.costed().task;
+        let initial = task.initial_atoms();
+        let objects = task.object_count();
         let state = NumberedState::new(alloc, initial, objects, self.limits.cells)?;
         self.memo.clear();
         self.state = state;
@@ -201,7 +203,7 @@ impl<'t> Judge<'t> {
             return Ok(false);
         }
         let scratch = &mut self.scratch;
-        let found = take_remembered(self.task, &self.memo, &mut self.state, key, scratch)?;
+        let found = take_remembered(&self.task, &self.memo, &mut self.state, key, scratch)?;
         self.policy.note(found.is_some());
         let Some(amount) = found else {
             return Ok(false);
@@ -224,12 +226,13 @@ impl<'t> Judge<'t> {
             → HasTaken self.new (steps ++ step_spelled row.now ∷ [])) }
         ensures not { IfOk result (λ taken. taken ≡ false → (steps : List StepText) → HasTaken self.old steps → HasTaken self.new steps) }
     {
-        if !number_names(&self.task.task, row, &mut self.name, &mut self.numbers)? {
+        let task = self.task.costed();
+        if !number_names(&task.task, row, &mut self.name, &mut self.numbers)? {
             return Ok(false);
         }
         let may_learn = self.may_learn();
         let numbers = self.numbers.as_slice();
-        let amount = numbered_amount(self.task, numbers, &mut self.cost_scratch)?;
+        let amount = numbered_amount(task, numbers, &mut self.cost_scratch)?;
         let step = NewStep {
             key: row,
             numbers,
@@ -238,7 +241,7 @@ impl<'t> Judge<'t> {
         };
         let is_taken = take_new(
             alloc,
-            self.task,
+            &self.task,
             step,
             &mut self.state,
             &mut self.memo,
@@ -273,11 +276,11 @@ impl<'t> Judge<'t> {
         ensures fails { IfOk result (λ why. IfSome why (λ why. (steps : List StepText) → HasTaken self.old steps
             → FailsNext self.old.task steps (step_shown step.entry) why)) }
     {
-        let task = &self.task.task;
-        if let Some(why) = take_step(alloc, task, step, &mut self.state, &mut self.scratch)? {
+        let index = self.task.index();
+        if let Some(why) = take_step(alloc, index, step, &mut self.state, &mut self.scratch)? {
             return Ok(Some(why));
         }
-        let amount = amount_of(self.task, step, &mut self.cost_scratch)?;
+        let amount = amount_of(self.task.costed(), step, &mut self.cost_scratch)?;
         self.cost = added(self.cost, amount);
         self.count += 1;
         Ok(None)
@@ -290,10 +293,10 @@ impl<'t> Judge<'t> {
         ensures compact { IfOk result (λ answer. IsCompact answer.cost) }
         ensures same { self.new ≡ self.old }
     {
-        let task = &self.task.task;
+        let index = self.task.index();
         let steps = self.count as u32;
-        let verdict = judge_goal(alloc, task, &mut self.state, &mut self.scratch, steps)?;
-        let cost = cost_beside(&self.task.costs, &verdict, self.cost);
+        let verdict = judge_goal(alloc, index, &mut self.state, &mut self.scratch, steps)?;
+        let cost = cost_beside(&self.task.costed().costs, &verdict, self.cost);
         Ok(Assessment { verdict, cost })
     }
 

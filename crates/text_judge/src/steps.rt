@@ -1,13 +1,14 @@
 //! Steps that are taken by what is known of them.
-ghost use Rattle.std.specs.Prelude.{◌≡◌, false, Some, None, All, IsTrue, IfOk, IfSome};
+ghost use Rattle.std.specs.Prelude.{◌≡◌, false, Some, None, All, IsTrue, IfOk, IfSome, OnErr};
 ghost use Rattle.strips_task.specs.Spelled.{IsSpelled, step_spelled};
 ghost use Rattle.strips_judge.specs.NumberedState.{state_of};
+ghost use Rattle.strips_judge.specs.Statics.{KeepsStatics};
 ghost use Rattle.strips_judge.specs.Step.{after, hindrance};
 ghost use Rattle.strips_judge.specs.StepNumbers.{AreWithin, IsNumbered};
 ghost use Rattle.text_judge.specs.Learned.{IsAmount, IsLearned, Takes};
 
+use crate::indexed_task::IndexedTask;
 use crate::memo::Memo;
-use plan_cost::CostedTask;
 use std::alloc::{AllocError, Global};
 use strips_judge::{
     CodeBuffer, NumberedState, Scratch, code_of_numbered, take_by_code, take_numbered,
@@ -17,7 +18,7 @@ use strips_judge::{
 /// is only there for the contract. If memory runs out, nothing is changed either.
 #[inline(always)]
 pub(crate) fn take_remembered(
-    _task: &CostedTask,
+    _task: &IndexedTask<'_>,
     memo: &Memo,
     state: &mut NumberedState<'_>,
     key: &[u8],
@@ -25,8 +26,10 @@ pub(crate) fn take_remembered(
 ) -> Result<Option<u64>, AllocError>
     requires { All (IsLearned _task.now state.old.atoms) memo.now }
     ensures spelled { IfOk result (λ amount. IfSome amount (λ amount. IsSpelled key.now)) }
-    ensures taken { IfOk result (λ amount. IfSome amount (λ amount. Takes _task.now (state_of state.old) (state_of state.new) (step_spelled key.now) (Some amount))) }
+    ensures taken { IfOk result (λ amount. IfSome amount (λ amount. KeepsStatics _task.now.task (state_of state.old)
+        → Takes _task.now (state_of state.old) (state_of state.new) (step_spelled key.now) (Some amount))) }
     ensures not { IfOk result (λ amount. amount ≡ None → state_of state.new ≡ state_of state.old) }
+    ensures failed { OnErr result (state.new ≡ state.old) }
     ensures atoms { state.new.atoms ≡ state.old.atoms }
     ensures initial { state.new.initial ≡ state.old.initial }
 {
@@ -58,7 +61,7 @@ pub(crate) struct NewStep<'s> {
 #[inline(always)]
 pub(crate) fn take_new(
     alloc: Global,
-    task: &CostedTask,
+    task: &IndexedTask<'_>,
     step: NewStep<'_>,
     state: &mut NumberedState<'_>,
     memo: &mut Memo,
@@ -72,16 +75,17 @@ pub(crate) fn take_new(
     requires learned { All (IsLearned task.now state.old.atoms) memo.old }
     ensures learned { All (IsLearned task.now state.new.atoms) memo.new }
     ensures initial { state.new.initial ≡ state.old.initial }
-    ensures taken { IfOk result (λ taken. IsTrue taken
+    ensures taken { IfOk result (λ taken. IsTrue taken → KeepsStatics task.now.task (state_of state.old)
         → (hindrance task.now.task (state_of state.old) (step_spelled step.entry.key.now) ≡ None)
         × (state_of state.new ≡ after task.now.task (state_of state.old) (step_spelled step.entry.key.now))) }
     ensures not { IfOk result (λ taken. taken ≡ false → state_of state.new ≡ state_of state.old) }
 {
+    let index = task.index();
     let Some(amount) = amount_to_learn(memo, step) else {
-        return take_numbered(alloc, &task.task, step.numbers, state, scratch);
+        return take_numbered(alloc, index, step.numbers, state, scratch);
     };
-    if !code_of_numbered(alloc, &task.task, step.numbers, state, scratch, code)? {
-        return take_numbered(alloc, &task.task, step.numbers, state, scratch);
+    if !code_of_numbered(alloc, index, step.numbers, state, scratch, code)? {
+        return take_numbered(alloc, index, step.numbers, state, scratch);
     }
     memo.add(step.key, code.code(), amount)?;
     take_by_code(state, code.code(), scratch)

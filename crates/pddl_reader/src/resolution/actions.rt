@@ -16,9 +16,8 @@ use crate::resolution::scope::Scope;
 use crate::resolution::variables::{DeclaredVariables, declared_variables};
 use crate::resolution::vocabulary::Vocabulary;
 use pddl_syntax::{ActionSyntax, ReadFault};
-use plan_cost::Increases;
 use std::alloc::Global;
-use strips_task::{Action, Alternatives, NameTable, Seq};
+use strips_task::{Action, Alternatives, Increases, NameTable, Seq};
 
 /// The table of the declared predicates, with the types that each argument may have.
 pub(crate) type Predicates = NameTable<Seq<Alternatives>>;

@@ -24,9 +24,8 @@ use crate::resolution::vocabulary::Vocabulary;
 use pddl_syntax::{
     AtomSyntax, EffectNode as SyntaxNode, EffectSyntax, FaultKind, ReadFault, VariableGroup,
 };
-use plan_cost::Increases;
 use std::alloc::{AllocError, Global};
-use strips_task::{Effect, EffectNode, NameTable, Pattern, Seq};
+use strips_task::{Effect, EffectNode, Increases, NameTable, Pattern, Seq};
 
 /// What an action does.
 #[derive(Drop)]

@@ -19,9 +19,10 @@ use crate::resolution::vocabulary::Vocabulary;
 use pddl_syntax::{
     AmountSyntax, FaultKind, IncreaseSyntax, NameWord, PredicateSyntax, ReadFault, VariableGroup,
 };
-use plan_cost::{Amount, Costs, FunctionValues, Increases, MOST_INCREASES};
 use std::alloc::Global;
-use strips_task::{Name, NameTable, Pattern, Seq};
+use strips_task::{
+    Amount, Costs, FunctionValues, Increases, MOST_INCREASES, Name, NameTable, Pattern, Seq,
+};
 
 /// The number of the function `total-cost`, if it is declared.
 #[tactic(auto, unfolding(crate::specs::Functions::total_cost_number))]

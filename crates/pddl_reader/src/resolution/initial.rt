@@ -14,9 +14,8 @@ use crate::resolution::rows::{next_atom, next_keys, put_keys};
 use crate::resolution::tables::Declared;
 use crate::resolution::vocabulary::Vocabulary;
 use pddl_syntax::{AtomSyntax, FaultKind, InitialItems, InitialSyntax, ReadFault, ValueSyntax};
-use plan_cost::{FunctionValues, Given};
 use std::alloc::{AllocError, Global};
-use strips_task::InitialAtoms;
+use strips_task::{FunctionValues, Given, InitialAtoms};
 
 /// One initial atom is expected for this many bytes of a problem. Many problems have one for every 20 to 40 bytes.
 const BYTES_FOR_AN_ATOM: usize = 32;

@@ -16,9 +16,8 @@ use crate::resolution::names::name;
 use crate::resolution::parts::{part_initial, part_items};
 use crate::resolution::scope::Scope;
 use pddl_syntax::{ProblemSyntax, ReadFault};
-use plan_cost::CostedTask;
 use std::alloc::Global;
-use strips_task::{Formula, Name, Seq, Task, TaskParts};
+use strips_task::{CostedTask, Formula, Name, Seq, Task, TaskParts};
 
 /// What a problem gives besides its objects: its name, the initial state and the goal.
 #[derive(Drop)]

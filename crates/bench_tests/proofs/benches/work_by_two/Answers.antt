@@ -9,7 +9,7 @@ use Rattle.std.proofs.Common.{List, [], ◌∷◌, ℕ}
 use Rattle.std.proofs.Crossing.{crosses}
 use Rattle.std.proofs.alloc.Global.TheSendSync as global
 use Rattle.std.specs.contracts.alloc.Global as Global
-use Rattle.plan_cost.specs.contracts.costs.CostedTask as costed
+use Rattle.strips_task.specs.contracts.costs.CostedTask as costed
 use Rattle.judge_bench.specs.contracts.bench.Bench as bench
 use Rattle.judge_bench.specs.contracts.worker.WorkerSeat as worker
 use Rattle.judge_bench.proofs.Crossing.{Bench-sync, CostedTask-sync, WorkerSeat-send}

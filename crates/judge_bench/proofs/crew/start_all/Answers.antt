@@ -17,7 +17,7 @@ use Rattle.std.proofs.Common.{List, [], ◌∷◌, ℕ}
 use Rattle.std.specs.contracts.alloc.Global as Global
 use Rattle.judge_bench.specs.contracts.bench.Bench as bench
 use Rattle.judge_bench.specs.contracts.worker.WorkerSeat as worker
-use Rattle.plan_cost.specs.contracts.costs.CostedTask as costed
+use Rattle.strips_task.specs.contracts.costs.CostedTask as costed
 use Rattle.std.proofs.alloc.Global.TheSendSync as global
 use Rattle.judge_bench.specs.contracts.crew.start_all as start
 use Rattle.judge_bench.proofs.crew.start_all.Given as given

@@ -1,5 +1,5 @@
 use Rattle.std.proofs.Common.{◌≡◌, ◌++◌, [], IfOk, subst}
-use Rattle.plan_cost.specs.declared.costs.CostedTask.{CostedTask}
+use Rattle.strips_task.specs.declared.costs.CostedTask.{CostedTask}
 use Rattle.judge_engine.specs.Plans.{plans_of_cuts}
 use Rattle.judge_engine.specs.ReportPosition.{rest_text, start_of}
 use Rattle.judge_engine.proofs.alone.push_one_by_one.Goals as goal

@@ -3,7 +3,7 @@ use Rattle.std.proofs.lemmas.Slice.{first_rest}
 use Rattle.strips_task.specs.Names.{number_named}
 use Rattle.strips_judge.specs.StepNumbers.{IsNumbered}
 use Rattle.strips_judge.proofs.NumberedSteps.{bound_objects}
-use Rattle.plan_cost.specs.declared.amounts.Amount.{Amount}
+use Rattle.strips_task.specs.declared.amounts.Amount.{Amount}
 use Rattle.plan_cost.specs.Costs.{amount_of, increases_of, sum_of}
 use Rattle.plan_cost.proofs.counting.numbered_cost.Goals as goal
 

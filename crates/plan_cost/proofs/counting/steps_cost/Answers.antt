@@ -1,7 +1,8 @@
 use Rattle.std.proofs.Common.{ℕ, ◌<◌, ◌≤◌, ◌*◌, ◌^◌, Option, IfSome, length, subst, sym, ◌∙◌, arith}
 use Rattle.std.proofs.lemmas.Option.{get_or_from_slice_get}
 use Rattle.strips_task.specs.StepView.{step_shown}
-use Rattle.plan_cost.specs.Costs.{initial_cost, step_amounts, sum_of, steps_cost}
+use Rattle.plan_cost.specs.Costs.{step_amounts, sum_of, steps_cost}
+use Rattle.strips_task.specs.Values.{initial_cost}
 use Rattle.plan_cost.proofs.Sums.{summed_first, undefined_here, summed_more}
 use Rattle.plan_cost.proofs.counting.steps_cost.Goals as goal
 

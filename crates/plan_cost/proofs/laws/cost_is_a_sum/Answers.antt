@@ -1,5 +1,6 @@
 use Rattle.std.proofs.Common.{Some, ap, ◌∙◌}
-use Rattle.plan_cost.specs.Costs.{added, sum_of, initial_cost}
+use Rattle.plan_cost.specs.Costs.{added, sum_of}
+use Rattle.strips_task.specs.Values.{initial_cost}
 use Rattle.plan_cost.proofs.Sums.{sum_of-defined}
 use Rattle.plan_cost.proofs.laws.cost_is_a_sum.Goals as goal
 

@@ -1,7 +1,8 @@
 use Rattle.std.proofs.Common.{◌∷◌, Some, ap, ◌∙◌}
 use Rattle.std.specs.List.{flat_map}
 use Rattle.std.proofs.lemmas.List.Concat.{flat_map-append}
-use Rattle.plan_cost.specs.Costs.{sum_of, step_amounts, initial_cost}
+use Rattle.plan_cost.specs.Costs.{sum_of, step_amounts}
+use Rattle.strips_task.specs.Values.{initial_cost}
 use Rattle.plan_cost.proofs.Sums.{sum_of-append}
 use Rattle.plan_cost.proofs.laws.costs_add_up.Goals as goal
 

@@ -1,5 +1,6 @@
 use Rattle.std.proofs.Common.{Some, ap}
-use Rattle.plan_cost.specs.Costs.{added, sum_of, initial_cost, step_amounts}
+use Rattle.plan_cost.specs.Costs.{added, sum_of, step_amounts}
+use Rattle.strips_task.specs.Values.{initial_cost}
 use Rattle.std.specs.List.{flat_map}
 use Rattle.plan_cost.proofs.Sums.{undefined_by_one, one_is_undefined, undefined_rest}
 use Rattle.plan_cost.proofs.laws.one_amount_makes_it_undefined.Goals as goal

@@ -16,22 +16,22 @@ returns-then-not-branch-clause-grows c = grows_twice c.args.state.now c.loop-con
 
 pub loop-condition-preserved : goal.loop-condition-preserved
 loop-condition-preserved c = (
-  λ parts. subst (λ (l : List Tree). AsksFor parts c.ask_one.new.state.atoms l c.ask_one.new.code)
-      (sym (mapped_more (with_objects c.args.objects.now []) c.args.conditions.now c.loop-condition.condition-index c.condition-item.result c.loop-condition-test.true c.condition-item.is))
-      (c.in_ok-ask_one.ensures.asks c.if-not-branch.false parts (map (with_objects c.args.objects.now []) (take c.loop-condition.condition-index c.args.conditions.now)) (c.loop-condition.invariant.0 parts)),
+  subst (λ (l : List Tree). AsksFor c.args.arguments.task.now c.ask_one.new.state.atoms l c.ask_one.new.code)
+      (sym (mapped_more (with_objects c.args.arguments.objects.now []) c.args.conditions.now c.loop-condition.condition-index c.condition-item.result c.loop-condition-test.true c.condition-item.is))
+      (c.in_ok-ask_one.ensures.asks c.if-not-branch.false (map (with_objects c.args.arguments.objects.now []) (take c.loop-condition.condition-index c.args.conditions.now)) c.loop-condition.invariant.0),
   c.ask_one.ensures.state ∙ c.loop-condition.invariant.1,
   grows_twice c.args.state.now c.loop-condition.state c.ask_one.new.state c.loop-condition.invariant.2 c.ask_one.ensures.grows,
 )
 
 pub loop-condition-init : goal.loop-condition-init
 loop-condition-init c = (
-  λ parts. asks_nothing parts c.args.state.now.atoms c.ask_nothing.new.self c.ask_nothing.ensures.0 c.ask_nothing.ensures.1,
+  asks_nothing c.args.arguments.task.now c.args.state.now.atoms c.ask_nothing.new.self c.ask_nothing.ensures.0 c.ask_nothing.ensures.1,
   refl,
   grows_same c.args.state.now c.args.state.now refl refl,
 )
 
 pub returns-clause-asks : goal.returns-clause-asks
-returns-clause-asks c = λ t parts.
-    subst (λ (l : List Tree). AsksFor parts c.loop-condition.state.atoms (map (with_objects c.args.objects.now []) l) c.loop-condition.code)
+returns-clause-asks c = λ t.
+    subst (λ (l : List Tree). AsksFor c.args.arguments.task.now c.loop-condition.state.atoms (map (with_objects c.args.arguments.objects.now []) l) c.loop-condition.code)
     (take_all c.loop-condition.condition-index c.args.conditions.now c.loop-condition-test.false)
-    (c.loop-condition.invariant.0 parts)
+    c.loop-condition.invariant.0

@@ -1,11 +1,10 @@
 use Rattle.std.proofs.Common.{◌≡◌, [], take, map}
 use Rattle.formulas.specs.Grounding.{with_objects}
-use Rattle.strips_task.specs.declared.tasks.TaskParts.{TaskParts}
 use Rattle.strips_judge.specs.Codes.{AsksFor}
 use Rattle.strips_judge.specs.NumberedState.{state_of, Grows}
 use Rattle.strips_judge.proofs.codes.ask_all.Given as goal
 
 abbrev pub invariant-loop-condition : goal.invariant-loop-condition
 invariant-loop-condition l =
-    ((parts : TaskParts) → AsksFor parts l.state.atoms (map (with_objects l.objects []) (take l.condition-index l.conditions)) l.code)
+    AsksFor l.arguments.task.now l.state.atoms (map (with_objects l.arguments.objects.now []) (take l.condition-index l.conditions)) l.code
     × (state_of l.state ≡ state_of l.initial.state) × Grows l.initial.state l.state

@@ -1,8 +1,5 @@
-use Rattle.std.proofs.Common.{◌≡◌, ◌≤◌, List, length, take, cond}
-use Rattle.std.specs.List.{list_all}
-use Rattle.strips_task.specs.declared.tasks.TaskParts.{TaskParts}
+use Rattle.std.proofs.Common.{◌≡◌, ◌≤◌, List, length, take}
 use Rattle.strips_judge.specs.declared.programs.Instruction.{Instruction}
-use Rattle.strips_judge.specs.Choices.{holds_bound}
 use Rattle.strips_judge.specs.Compiling.{FindsMore, FoundIn}
 use Rattle.strips_judge.specs.NumberedState.{Grows, state_of}
 use Rattle.strips_judge.proofs.CompiledEffects.{where_all_hold}
@@ -14,6 +11,6 @@ invariant-loop-conjunct l = record {
   grows : Grows l.fn.state l.state;
   bound : l.room.bound ≡ l.fn.room.bound;
   start : l.start ≤ length l.program.items;
-  tested : (parts : TaskParts) (before : List Instruction) (found : FoundIn) → length before ≡ l.start → FindsMore l.fn.state.atoms before l.fn.program.items found
-      → FindsMore l.state.atoms before l.program.items (where_all_hold parts l.objects l.fn.room.bound.items (take l.conjunct-index l.conjunct-items) found);
+  tested : (before : List Instruction) (found : FoundIn) → length before ≡ l.start → FindsMore l.arguments.task.now l.fn.state.atoms before l.fn.program.items found
+      → FindsMore l.arguments.task.now l.state.atoms before l.program.items (where_all_hold l.arguments.task.now l.arguments.objects.now l.fn.room.bound.items (take l.conjunct-index l.conjunct-items) found);
 }

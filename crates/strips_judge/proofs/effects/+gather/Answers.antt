@@ -1,13 +1,14 @@
-use Rattle.std.proofs.Common.{rules, ◌≡◌, ◌<◌, ◌≤◌, ◌+◌, ◌*◌, ℕ, List, [], ◌∷◌, ◌++◌, drop, length, sym, ap, ◌∙◌, refl, subst, arith}
+use Rattle.std.proofs.Common.{rules, ◌≡◌, ◌<◌, ◌≤◌, ◌+◌, ◌*◌, ℕ, List, [], ◌∷◌, ◌++◌, drop, length, take, sym, ap, ◌∙◌, subst, arith}
 use Rattle.formulas.specs.EffectNodes.{effect_of}
 use Rattle.formulas.specs.EffectTree.{effect_parts_of}
 use Rattle.formulas.specs.Tree.{conjunction, no_parts}
 use Rattle.formulas.specs.Variables.{variable_types}
 use Rattle.strips_judge.specs.Gathered.{Found, GathersMore, kept, effect_found, effects_found, choices_found}
+use Rattle.strips_judge.specs.Listing.{candidates_of}
 use Rattle.strips_judge.specs.NumberedState.{Grows, state_of}
 use Rattle.strips_judge.proofs.EffectWeights.{effect_weight, most_effect_weight, weighs_less, joint_heavier}
 use Rattle.strips_judge.proofs.Evaluations.{one_less_left}
-use Rattle.strips_judge.proofs.Gathering.{ok_as, gathers_as, gathers_at, gathers_both, joint_is, universal_is, joint_within, item_within, one_effect_more, no_choice, below, one_fits, one_unfit, all_objects, effect_next_within, effect_all_within, pushed_length, popped}
+use Rattle.strips_judge.proofs.Gathering.{ok_as, gathers_as, gathers_at, gathers_both, joint_is, universal_is, joint_within, item_within, one_effect_more, no_choice, of_some, one_fits, one_unfit, all_objects, effect_next_within, effect_all_within, pushed_length, popped}
 use Rattle.strips_judge.proofs.Growth.{grows_twice}
 use Rattle.strips_judge.proofs.effects.+gather.Goals as goal
 use Rattle.strips_judge.proofs.effects.+gather.Goals.{gather_choices-then-object_fits+in_ok-push+in_ok-gather_choices, gather_choices-else-object_fits}
@@ -108,7 +109,7 @@ gather_choices-gather_choices-requires t c =
     let variables = variable_types c.args.quantified.groups.now in
     let body = c.args.quantified.body.now in
     let bound = c.args.room.now.bound.items in
-    let more : length c.push.new.self.items ≡ length bound + 1 = pushed_length bound c.loop-object.room.bound.items c.push.new.self.items c.loop-object.object c.loop-object.invariant.bound c.in_ok-push.ensures.items in (
+    let more : length c.push.new.self.items ≡ length bound + 1 = pushed_length bound c.loop-index.room.bound.items c.push.new.self.items c.get-object.result c.loop-index.invariant.bound c.in_ok-push.ensures.items in (
       (let lighter : effect_weight body + 2 * length (drop (c.args.first + 1) variables) + 1 < effect_weight body + 2 * length (drop c.args.first variables) + 1 =
           omega (arith, one_less_left (length objects) (length bound) variables c.args.first (conjunction no_parts) c.in-Some.types.now c.in-Some.ensures.some) in
           search rules),
@@ -119,10 +120,10 @@ gather_choices-gather_choices-requires t c =
     )
 
 pub gather_choices-returns-in_err-gather_choices-clause-grows : goal.gather_choices-returns-in_err-gather_choices-clause-grows
-gather_choices-returns-in_err-gather_choices-clause-grows t c = grows_twice c.args.state.now c.loop-object.state c.gather_choices.new.state c.loop-object.invariant.grows c.gather_choices.ensures.grows
+gather_choices-returns-in_err-gather_choices-clause-grows t c = grows_twice c.args.state.now c.loop-index.state c.gather_choices.new.state c.loop-index.invariant.grows c.gather_choices.ensures.grows
 
-pub gather_choices-loop-object-preserved : goal.gather_choices-loop-object-preserved
-gather_choices-loop-object-preserved t c =
+pub gather_choices-loop-index-preserved : goal.gather_choices-loop-index-preserved
+gather_choices-loop-index-preserved t c =
     let task = c.args.arguments.task.now in
     let state = state_of c.args.state.now in
     let objects = c.args.arguments.objects.now in
@@ -130,39 +131,43 @@ gather_choices-loop-object-preserved t c =
     let body = c.args.quantified.body.now in
     let bound = c.args.room.now.bound.items in
     let types = c.in-Some.types.now in
-    let i = c.loop-object.object in
-    let after : ℕ → Found = below task state objects body variables c.args.first types bound in
+    let i = c.loop-index.index in
+    let object = c.get-object.result in
+    let candidates = candidates_of c.candidates-candidates.result in
+    let lt : i < length candidates = omega (arith, c.loop-index-test.true, c.len-index-end.ensures) in
+    let after : ℕ → Found = λ k. of_some task state objects body variables c.args.first types bound (take k candidates) in
     elim c.if-object_fits.branch [
       | gather_choices-then-object_fits+in_ok-push+in_ok-gather_choices w ↦ record {
-        state = ap state_of w.state-is ∙ w.gather_choices.ensures.state ∙ c.loop-object.invariant.state;
-        grows = subst (Grows c.args.state.now) (sym w.state-is) (grows_twice c.args.state.now c.loop-object.state w.gather_choices.new.state c.loop-object.invariant.grows w.gather_choices.ensures.grows);
+        state = ap state_of w.state-is ∙ w.gather_choices.ensures.state ∙ c.loop-index.invariant.state;
+        grows = subst (Grows c.args.state.now) (sym w.state-is) (grows_twice c.args.state.now c.loop-index.state w.gather_choices.new.state c.loop-index.invariant.grows w.gather_choices.ensures.grows);
         bound = ◌∙◌ {A = List ℕ} (ap (λ room. room.bound.items) w.room-is) (let count : w.gather_choices.new.room.bound.len ≡ length w.gather_choices.new.room.bound.items = search (rules, w.gather_choices.new.room.bound.ok) in
-            popped bound w.gather_choices.new.room.bound.items w.pop.new.self.items i w.gather_choices.new.room.bound.len count
-            (◌∙◌ {A = List ℕ} w.in_ok-gather_choices.ensures.bound (◌∙◌ {A = List ℕ} w.in_ok-push.ensures.items (ap (λ l. l ++ i ∷ []) c.loop-object.invariant.bound))) w.pop.ensures.rest);
+            popped bound w.gather_choices.new.room.bound.items w.pop.new.self.items object w.gather_choices.new.room.bound.len count
+            (◌∙◌ {A = List ℕ} w.in_ok-gather_choices.ensures.bound (◌∙◌ {A = List ℕ} w.in_ok-push.ensures.items (ap (λ l. l ++ object ∷ []) c.loop-index.invariant.bound))) w.pop.ensures.rest);
         gathered = subst (λ s. GathersMore state c.args.state.now.atoms s.atoms (kept c.args.changes.now) (kept c.if-object_fits.changes) (after (i + 1))) (sym w.state-is)
             (subst (λ k. GathersMore state c.args.state.now.atoms w.gather_choices.new.state.atoms (kept c.args.changes.now) (kept k) (after (i + 1))) (sym w.changes-is)
             (gathers_as state c.args.state.now.atoms w.gather_choices.new.state.atoms (kept c.args.changes.now) (kept w.gather_choices.new.changes) _ (after (i + 1))
-            (one_fits task state objects body variables c.args.first types bound i (sym c.object_fits.ensures ∙ w.if-object_fits.true))
-            (gathers_both state c.args.state.now.atoms c.loop-object.state.atoms w.gather_choices.new.state.atoms (kept c.args.changes.now) (kept c.loop-object.changes) (kept w.gather_choices.new.changes)
-            (after i) _ c.loop-object.invariant.gathered
-            (gathers_at (λ s l. choices_found task s objects body (drop (c.args.first + 1) variables) l) (state_of c.loop-object.state) state w.push.new.self.items (bound ++ i ∷ [])
-            c.loop-object.state.atoms w.gather_choices.new.state.atoms (kept c.loop-object.changes) (kept w.gather_choices.new.changes) c.loop-object.invariant.state
-            (◌∙◌ {A = List ℕ} w.in_ok-push.ensures.items (ap (λ l. l ++ i ∷ []) c.loop-object.invariant.bound)) w.in_ok-gather_choices.ensures.gathered))));
+            (one_fits task state objects body variables c.args.first types bound candidates i object lt c.get-object.ensures (sym c.object_fits.ensures ∙ w.if-object_fits.true))
+            (gathers_both state c.args.state.now.atoms c.loop-index.state.atoms w.gather_choices.new.state.atoms (kept c.args.changes.now) (kept c.loop-index.changes) (kept w.gather_choices.new.changes)
+            (after i) _ c.loop-index.invariant.gathered
+            (gathers_at (λ s l. choices_found task s objects body (drop (c.args.first + 1) variables) l) (state_of c.loop-index.state) state w.push.new.self.items (bound ++ object ∷ [])
+            c.loop-index.state.atoms w.gather_choices.new.state.atoms (kept c.loop-index.changes) (kept w.gather_choices.new.changes) c.loop-index.invariant.state
+            (◌∙◌ {A = List ℕ} w.in_ok-push.ensures.items (ap (λ l. l ++ object ∷ []) c.loop-index.invariant.bound)) w.in_ok-gather_choices.ensures.gathered))));
       }
       | gather_choices-else-object_fits w ↦ record {
-        state = ap state_of w.state-is ∙ c.loop-object.invariant.state;
-        grows = subst (Grows c.args.state.now) (sym w.state-is) c.loop-object.invariant.grows;
-        bound = ◌∙◌ {A = List ℕ} (ap (λ room. room.bound.items) w.room-is) c.loop-object.invariant.bound;
+        state = ap state_of w.state-is ∙ c.loop-index.invariant.state;
+        grows = subst (Grows c.args.state.now) (sym w.state-is) c.loop-index.invariant.grows;
+        bound = ◌∙◌ {A = List ℕ} (ap (λ room. room.bound.items) w.room-is) c.loop-index.invariant.bound;
         gathered = subst (λ s. GathersMore state c.args.state.now.atoms s.atoms (kept c.args.changes.now) (kept c.if-object_fits.changes) (after (i + 1))) (sym w.state-is)
-            (subst (λ k. GathersMore state c.args.state.now.atoms c.loop-object.state.atoms (kept c.args.changes.now) (kept k) (after (i + 1))) (sym w.changes-is)
-            (gathers_as state c.args.state.now.atoms c.loop-object.state.atoms (kept c.args.changes.now) (kept c.loop-object.changes) (after i) (after (i + 1))
-            (one_unfit task state objects body variables c.args.first types bound i (sym c.object_fits.ensures ∙ w.if-object_fits.false)) c.loop-object.invariant.gathered));
+            (subst (λ k. GathersMore state c.args.state.now.atoms c.loop-index.state.atoms (kept c.args.changes.now) (kept k) (after (i + 1))) (sym w.changes-is)
+            (gathers_as state c.args.state.now.atoms c.loop-index.state.atoms (kept c.args.changes.now) (kept c.loop-index.changes) (after i) (after (i + 1))
+            (one_unfit task state objects body variables c.args.first types bound candidates i object lt c.get-object.ensures (sym c.object_fits.ensures ∙ w.if-object_fits.false)) c.loop-index.invariant.gathered));
       }
     ]
 
 pub gather_choices-returns-clause-gathered : goal.gather_choices-returns-clause-gathered
 gather_choices-returns-clause-gathered t c =
-    let all : c.loop-object.object ≡ length c.args.arguments.task.now.objects = omega (arith, c.loop-object-test.false, c.loop-object.auto.object-end, c.object_count-object-end.ensures.count, c.object_count-object-end.ensures.few) in
-    gathers_as (state_of c.args.state.now) c.args.state.now.atoms c.loop-object.state.atoms (kept c.args.changes.now) (kept c.loop-object.changes) _ _
+    let candidates = candidates_of c.candidates-candidates.result in
+    let past : length candidates ≤ c.loop-index.index = omega (arith, c.loop-index-test.false, c.len-index-end.ensures) in
+    gathers_as (state_of c.args.state.now) c.args.state.now.atoms c.loop-index.state.atoms (kept c.args.changes.now) (kept c.loop-index.changes) _ _
     (all_objects c.args.arguments.task.now (state_of c.args.state.now) c.args.arguments.objects.now c.args.quantified.body.now (variable_types c.args.quantified.groups.now) c.args.first c.in-Some.types.now
-    c.args.room.now.bound.items c.in-Some.ensures.some c.loop-object.object all) c.loop-object.invariant.gathered
+    c.args.room.now.bound.items candidates c.in-Some.ensures.some c.candidates-candidates.ensures.all c.loop-index.index past) c.loop-index.invariant.gathered

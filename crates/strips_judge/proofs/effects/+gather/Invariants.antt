@@ -1,12 +1,11 @@
-use Rattle.std.proofs.Common.{◌≡◌, ◌+◌, ◌*◌, ◌∷◌, ◌++◌, [], cond, ℕ, Bool, List, length, drop, take}
-use Rattle.std.specs.List.{flat_map, range_with_len}
-use Rattle.formulas.specs.declared.atoms.Atom.{Atom}
+use Rattle.std.proofs.Common.{◌≡◌, ◌+◌, ◌*◌, length, drop, take}
 use Rattle.formulas.specs.EffectTree.{effect_parts_of}
 use Rattle.formulas.specs.Variables.{variable_types}
-use Rattle.strips_judge.specs.Fitting.{object_fits}
-use Rattle.strips_judge.specs.Gathered.{Found, GathersMore, choices_found, effects_found, kept}
+use Rattle.strips_judge.specs.Gathered.{GathersMore, effects_found, kept}
+use Rattle.strips_judge.specs.Listing.{candidates_of}
 use Rattle.strips_judge.specs.NumberedState.{Grows, state_of}
 use Rattle.strips_judge.proofs.EffectWeights.{effect_weight, most_effect_weight}
+use Rattle.strips_judge.proofs.Gathering.{of_some}
 use Rattle.strips_judge.proofs.effects.+gather.Given as goal
 
 abbrev pub decreases-gather_all : goal.decreases-gather_all
@@ -27,14 +26,12 @@ invariant-gather_all-loop-effect l = record {
       (effects_found l.arguments.task.now (state_of l.fn.state) l.arguments.objects.now l.fn.room.bound.items (take l.effect-index l.effects));
 }
 
-abbrev pub invariant-gather_choices-loop-object : goal.invariant-gather_choices-loop-object
-invariant-gather_choices-loop-object l =
-    let of_object : Bool → ℕ → List Atom = λ truth object. choices_found l.arguments.task.now (state_of l.fn.state) l.arguments.objects.now l.quantified.body.now
-    (drop (l.first + 1) (variable_types l.quantified.groups.now)) (l.fn.room.bound.items ++ object ∷ []) truth in
-    let found : Found = λ truth. flat_map (λ object. cond (object_fits l.arguments.task.now l.types object) (of_object truth object) []) (range_with_len 0 l.object) in
-    record {
-      state : state_of l.state ≡ state_of l.fn.state;
-      grows : Grows l.fn.state l.state;
-      bound : l.room.bound.items ≡ l.fn.room.bound.items;
-      gathered : GathersMore (state_of l.fn.state) l.fn.state.atoms l.state.atoms (kept l.fn.changes) (kept l.changes) found;
-    }
+abbrev pub invariant-gather_choices-loop-index : goal.invariant-gather_choices-loop-index
+invariant-gather_choices-loop-index l = record {
+  state : state_of l.state ≡ state_of l.fn.state;
+  grows : Grows l.fn.state l.state;
+  bound : l.room.bound.items ≡ l.fn.room.bound.items;
+  gathered : GathersMore (state_of l.fn.state) l.fn.state.atoms l.state.atoms (kept l.fn.changes) (kept l.changes)
+      (of_some l.arguments.task.now (state_of l.fn.state) l.arguments.objects.now l.quantified.body.now (variable_types l.quantified.groups.now) l.first l.types l.fn.room.bound.items
+      (take l.index (candidates_of l.candidates)));
+}

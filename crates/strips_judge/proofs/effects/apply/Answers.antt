@@ -1,8 +1,7 @@
-use Rattle.std.proofs.Common.{◌≡◌, ap, ◌∙◌, map, arith, tests, IsTrue, [], List}
+use Rattle.std.proofs.Common.{◌≡◌, ap, ◌∙◌, map, arith, tests, IsTrue, []}
 use Rattle.strips_judge.specs.Grounding.{ground}
 use Rattle.strips_judge.specs.NumberedState.{state_of}
 use Rattle.strips_judge.specs.State.{with_all, without}
-use Rattle.formulas.specs.EffectTree.{EffectTree}
 use Rattle.strips_judge.proofs.ActionEffects.{after_plain}
 use Rattle.strips_judge.proofs.Gathering.{ok_as}
 use Rattle.strips_judge.proofs.Growth.{grows_twice}

@@ -1,9 +1,8 @@
-use Rattle.std.proofs.Common.{◌≡◌, ℕ, List, true, false, ap, sym, ◌∙◌, subst, map, filter}
-use Rattle.formulas.specs.declared.atoms.Atom.{Atom}
+use Rattle.std.proofs.Common.{true, false, ap, sym, ◌∙◌, subst, map, filter}
 use Rattle.strips_judge.specs.Codes.{AreNumbers}
 use Rattle.strips_judge.specs.Gathered.{AreGathered, kept}
 use Rattle.strips_judge.specs.Grounding.{ground}
-use Rattle.strips_judge.specs.NumberedState.{Grows, state_of}
+use Rattle.strips_judge.specs.NumberedState.{state_of}
 use Rattle.strips_judge.specs.State.{with_all, without}
 use Rattle.strips_judge.specs.Step.{changed_by}
 use Rattle.strips_judge.proofs.ActionEffects.{after_gathered}

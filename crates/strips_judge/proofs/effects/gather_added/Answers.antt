@@ -1,4 +1,4 @@
-use Rattle.std.proofs.Common.{◌≡◌, ℕ, List, [], ◌∷◌, ◌++◌, Some, refl, ap, sym, ◌∙◌}
+use Rattle.std.proofs.Common.{◌≡◌, Some, refl, ap, sym, ◌∙◌}
 use Rattle.formulas.specs.Meaning.{atom_of}
 use Rattle.strips_task.specs.AtomNumbers.{number_in}
 use Rattle.strips_judge.specs.NumberedState.{state_of}

@@ -1,4 +1,4 @@
-use Rattle.std.proofs.Common.{◌≡◌, List, ℕ, ◌∙◌, ap, sym, subst, false, None, Option, IfNone}
+use Rattle.std.proofs.Common.{◌≡◌, ◌∙◌, ap, sym, false}
 use Rattle.formulas.specs.Meaning.{atom_of}
 use Rattle.strips_judge.specs.Gathered.{kept}
 use Rattle.strips_judge.specs.NumberedState.{state_of}

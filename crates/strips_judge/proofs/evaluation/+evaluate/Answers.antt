@@ -4,6 +4,7 @@ use Rattle.formulas.specs.Nodes.{tree_of}
 use Rattle.formulas.specs.Tree.{parts_of}
 use Rattle.formulas.specs.Variables.{variable_types}
 use Rattle.strips_judge.specs.Choices.{some_choice_gives}
+use Rattle.strips_judge.specs.Listing.{candidates_of}
 use Rattle.strips_judge.specs.NumberedState.{state_of}
 use Rattle.strips_judge.proofs.Weights.{weight, most_weight, weighs_less, conjunction_heavier, disjunction_heavier}
 use Rattle.strips_judge.proofs.Evaluations.{conjunction_is, disjunction_is, all_is, no_variables, first_variable, drop_at, drop_past, conjunction_within, disjunction_within, part_within, one_less_left, next_within, all_within, gives_now, object_found, object_unfit, object_otherwise, no_object}
@@ -115,38 +116,44 @@ some_object_gives-returns-then-branch-clause-answer t c =
     let truth = c.args.quantified.now.truth in
     let body = c.args.quantified.now.body.now in
     let variables = drop c.args.next (variable_types c.args.quantified.now.groups.now) in
-    let i = c.loop-object.object in
-    let lt : i < length task.objects = omega arith in
-    sym (object_found task (state_of c.args.state.now) objects truth body variables c.args.room.now.bound.items c.args.types.now i c.loop-object.invariant.left lt (sym c.if-object_fits.ensures)
-    (gives_now task objects truth body variables i c.args.state.now c.loop-object.state c.args.room.now.bound.items c.loop-object.room.bound.items c.loop-object.invariant.same c.loop-object.invariant.bound
+    let candidates = candidates_of c.candidates-candidates.result in
+    let object = c.get-object.result in
+    let lt : c.loop-index.index < length candidates = omega (arith, c.loop-index-test.true, c.len-index-end.ensures) in
+    sym (object_found task (state_of c.args.state.now) objects truth body variables c.args.room.now.bound.items c.args.types.now candidates c.candidates-candidates.ensures.all c.loop-index.index c.loop-index.invariant.left
+    object lt c.get-object.ensures (sym c.if-object_fits.ensures)
+    (gives_now task objects truth body variables object c.args.state.now c.loop-index.state c.args.room.now.bound.items c.loop-index.room.bound.items c.loop-index.invariant.same c.loop-index.invariant.bound
     c.in_ok-object_gives.ensures.answer c.if-branch.true))
 
-pub some_object_gives-loop-object-preserved : goal.some_object_gives-loop-object-preserved
-some_object_gives-loop-object-preserved t c =
+pub some_object_gives-loop-index-preserved : goal.some_object_gives-loop-index-preserved
+some_object_gives-loop-index-preserved t c =
     let task = c.args.task.now in
     let objects = c.args.objects.now in
     let truth = c.args.quantified.now.truth in
     let body = c.args.quantified.now.body.now in
     let variables = drop c.args.next (variable_types c.args.quantified.now.groups.now) in
-    let i = c.loop-object.object in
-    let lt : i < length task.objects = omega arith in
+    let candidates = candidates_of c.candidates-candidates.result in
+    let object = c.get-object.result in
+    let lt : c.loop-index.index < length candidates = omega (arith, c.loop-index-test.true, c.len-index-end.ensures) in
     elim c.else-object_fits.branch [
       | some_object_gives-else-object_fits-via-then-object_fits+in_ok-object_gives+else-branch w ↦ record {
-        left = object_otherwise task (state_of c.args.state.now) objects truth body variables c.args.room.now.bound.items c.args.types.now i c.loop-object.invariant.left lt
-            (gives_now task objects truth body variables i c.args.state.now c.loop-object.state c.args.room.now.bound.items c.loop-object.room.bound.items c.loop-object.invariant.same c.loop-object.invariant.bound
+        left = object_otherwise task (state_of c.args.state.now) objects truth body variables c.args.room.now.bound.items c.args.types.now candidates c.candidates-candidates.ensures.all c.loop-index.index c.loop-index.invariant.left
+            object lt c.get-object.ensures
+            (gives_now task objects truth body variables object c.args.state.now c.loop-index.state c.args.room.now.bound.items c.loop-index.room.bound.items c.loop-index.invariant.same c.loop-index.invariant.bound
             w.in_ok-object_gives.ensures.answer w.if-branch.false);
-        same = w.state-is ∙ w.object_gives.ensures.same ∙ c.loop-object.invariant.same;
-        bound = ◌∙◌ {A = List ℕ} (ap (λ room. room.bound.items) w.room-is) (◌∙◌ {A = List ℕ} w.in_ok-object_gives.ensures.bound c.loop-object.invariant.bound);
+        same = w.state-is ∙ w.object_gives.ensures.same ∙ c.loop-index.invariant.same;
+        bound = ◌∙◌ {A = List ℕ} (ap (λ room. room.bound.items) w.room-is) (◌∙◌ {A = List ℕ} w.in_ok-object_gives.ensures.bound c.loop-index.invariant.bound);
       }
       | some_object_gives-else-object_fits-via-else-object_fits w ↦ record {
-        left = object_unfit task (state_of c.args.state.now) objects truth body variables c.args.room.now.bound.items c.args.types.now i c.loop-object.invariant.left lt (sym w.if-object_fits.ensures);
-        same = w.state-is ∙ c.loop-object.invariant.same;
-        bound = ◌∙◌ {A = List ℕ} (ap (λ room. room.bound.items) w.room-is) c.loop-object.invariant.bound;
+        left = object_unfit task (state_of c.args.state.now) objects truth body variables c.args.room.now.bound.items c.args.types.now candidates c.candidates-candidates.ensures.all c.loop-index.index c.loop-index.invariant.left
+            object lt c.get-object.ensures (sym w.if-object_fits.ensures);
+        same = w.state-is ∙ c.loop-index.invariant.same;
+        bound = ◌∙◌ {A = List ℕ} (ap (λ room. room.bound.items) w.room-is) c.loop-index.invariant.bound;
       }
     ]
 
 pub some_object_gives-returns-clause-answer : goal.some_object_gives-returns-clause-answer
 some_object_gives-returns-clause-answer t c =
-    let past : length c.args.task.now.objects ≤ c.loop-object.object = omega arith in
+    let candidates = candidates_of c.candidates-candidates.result in
+    let past : length candidates ≤ c.loop-index.index = omega (arith, c.loop-index-test.false, c.len-index-end.ensures) in
     sym (no_object c.args.task.now (state_of c.args.state.now) c.args.objects.now c.args.quantified.now.truth c.args.quantified.now.body.now (drop c.args.next (variable_types c.args.quantified.now.groups.now))
-    c.args.room.now.bound.items c.args.types.now c.loop-object.object c.loop-object.invariant.left past)
+    c.args.room.now.bound.items c.args.types.now candidates c.candidates-candidates.ensures.all c.loop-index.index c.loop-index.invariant.left past)

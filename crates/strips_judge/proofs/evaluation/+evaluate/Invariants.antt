@@ -1,9 +1,10 @@
-use Rattle.std.proofs.Common.{◌≡◌, ◌+◌, ◌-◌, ◌*◌, ◌&&◌, ◌++◌, ◌∷◌, [], false, ℕ, Bool, length, drop, take}
-use Rattle.std.specs.List.{list_any, range_with_len}
+use Rattle.std.proofs.Common.{◌≡◌, ◌+◌, ◌*◌, ◌&&◌, ◌++◌, ◌∷◌, [], false, ℕ, Bool, length, drop, take}
+use Rattle.std.specs.List.{list_any}
 use Rattle.formulas.specs.Tree.{parts_of}
 use Rattle.formulas.specs.Variables.{variable_types}
 use Rattle.strips_judge.specs.Choices.{some_is, some_choice_gives}
 use Rattle.strips_judge.specs.Fitting.{object_fits}
+use Rattle.strips_judge.specs.Listing.{candidates_of}
 use Rattle.strips_judge.specs.NumberedState.{state_of}
 use Rattle.strips_judge.proofs.Weights.{weight, most_weight}
 use Rattle.strips_judge.proofs.evaluation.+evaluate.Given as goal
@@ -33,12 +34,12 @@ invariant-some_is-loop-formula l = record {
   bound : l.room.bound.items ≡ l.fn.room.bound.items;
 }
 
-abbrev pub invariant-some_object_gives-loop-object : goal.invariant-some_object_gives-loop-object
-invariant-some_object_gives-loop-object l =
+abbrev pub invariant-some_object_gives-loop-index : goal.invariant-some_object_gives-loop-index
+invariant-some_object_gives-loop-index l =
     let gives : ℕ → Bool = λ object. object_fits l.task l.types object
     && some_choice_gives l.task (state_of l.fn.state) l.objects l.quantified.truth l.quantified.body.now (drop l.next (variable_types l.quantified.groups.now)) (l.fn.room.bound.items ++ object ∷ []) in
     record {
-      left : list_any gives (range_with_len 0 (length l.task.objects)) ≡ list_any gives (range_with_len l.object (length l.task.objects - l.object));
+      left : list_any gives (candidates_of l.candidates) ≡ list_any gives (drop l.index (candidates_of l.candidates));
       same : l.state ≡ l.fn.state;
       bound : l.room.bound.items ≡ l.fn.room.bound.items;
     }

@@ -1,4 +1,4 @@
-use Rattle.std.proofs.Common.{◌≡◌, [], IsTrue, sym, ap, ◌∙◌}
+use Rattle.std.proofs.Common.{IsTrue, sym, ap, ◌∙◌}
 use Rattle.strips_judge.specs.State.{objects_of}
 use Rattle.strips_judge.proofs.NoChoices.{no_choice_at_all}
 use Rattle.strips_judge.proofs.evaluation.have_objects.Goals as goal

@@ -1,4 +1,4 @@
-use Rattle.std.proofs.Common.{rules, ◌≡◌, ℕ, List, Some, None, ap, sym, ◌∙◌}
+use Rattle.std.proofs.Common.{rules, ◌≡◌, Some, None, ap, sym, ◌∙◌}
 use Rattle.strips_judge.specs.NumberedState.{state_of}
 use Rattle.strips_judge.specs.Step.{after_by, hindrance, objects_named}
 use Rattle.strips_judge.proofs.numbered_steps.take_numbered.Goals as goal

@@ -1,4 +1,4 @@
-use Rattle.std.proofs.Common.{◌≡◌, ◌∙◌, ◌++◌, Bool, List, ℕ, true, false, sym, ap}
+use Rattle.std.proofs.Common.{◌∙◌, ◌++◌, Bool, true, false, sym, ap}
 use Rattle.bit_rows.specs.Rows.{row_has}
 use Rattle.strips_judge.proofs.Instructions.{failed}
 use Rattle.strips_judge.proofs.programs.run.Goals as goal

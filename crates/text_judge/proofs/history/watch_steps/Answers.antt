@@ -1,5 +1,5 @@
 use Rattle.std.proofs.Common.{Option, subst, sym}
-use Rattle.plan_cost.specs.declared.costs.CostedTask.{CostedTask}
+use Rattle.strips_task.specs.declared.costs.CostedTask.{CostedTask}
 use Rattle.text_judge.specs.declared.pass.Passed.{Passed}
 use Rattle.text_judge.specs.Passes.{GoOnOrEnd}
 use Rattle.text_judge.specs.Watches.{AreWatched, IsWatched}

@@ -1,8 +1,14 @@
-use Rattle.std.proofs.Common.{List, All, refl, subst, sym}
+use Rattle.std.proofs.Common.{List, All, refl, subst, sym, ap, ◌∙◌}
 use Rattle.strips_task.specs.Spelled.{step_spelled}
 use Rattle.formulas.specs.declared.atoms.Atom.{Atom}
+use Rattle.strips_task.specs.declared.tasks.TaskParts.{TaskParts}
+use Rattle.strips_judge.specs.StepNumbers.{IsNumbered}
 use Rattle.strips_judge.specs.Codes.{Code, IsCode, code_shown}
 use Rattle.strips_judge.proofs.CodeLaws.{added_within}
+use Rattle.strips_judge.specs.State.{State}
+use Rattle.strips_judge.specs.Statics.{KeepsStatics}
+use Rattle.strips_judge.specs.Step.{after, hindrance}
+use Rattle.strips_judge.proofs.VerdictLaws.{success_as}
 use Rattle.strips_judge.proofs.Growth.{grows_twice}
 use Rattle.text_judge.specs.Known.{Known}
 use Rattle.text_judge.specs.Learned.{IsLearned}
@@ -14,7 +20,9 @@ take_by_code-requires c =
     let step = step_spelled c.args.step.key.now in
     let atoms = c.code_of_numbered.new.state.atoms in
     added_within c.args.task.now.task atoms step (code_shown c.code-2.result)
-    (subst (λ (code : Code). IsCode c.args.task.now.task atoms step code) (sym c.code-2.ensures) (c.in_ok-code_of_numbered.ensures.code c.if-not-branch.false step c.requires.numbered))
+    (subst (λ (code : Code). IsCode c.args.task.now.task atoms step code) (sym c.code-2.ensures)
+    (subst (λ (parts : TaskParts). IsCode parts atoms step c.code_of_numbered.new.code) c.index-index.ensures
+    (c.in_ok-code_of_numbered.ensures.code c.if-not-branch.false step (subst (λ (parts : TaskParts). IsNumbered parts step c.args.step.numbers.now) (sym c.index-index.ensures) c.requires.numbered))))
 
 pub returns-in_default-clause-learned : goal.returns-in_default-clause-learned
 returns-in_default-clause-learned c = learned_grown c.args.task.now c.args.state.now c.take_numbered.new.state c.args.memo.now c.take_numbered.ensures.grows c.requires.learned
@@ -39,9 +47,27 @@ returns-clause-learned c =
     let task = c.args.task.now in
     let key = c.args.step.key.now in
     let atoms = c.code_of_numbered.new.state.atoms in
-    let is = subst (λ (code : Code). IsCode task.task atoms (step_spelled key) code) (sym c.code.ensures) (c.in_ok-code_of_numbered.ensures.code c.if-not-branch.false (step_spelled key) c.requires.numbered) in
+    let step = step_spelled key in
+    let is = subst (λ (code : Code). IsCode task.task atoms step code) (sym c.code.ensures)
+    (subst (λ (parts : TaskParts). IsCode parts atoms step c.code_of_numbered.new.code) c.index-index.ensures
+    (c.in_ok-code_of_numbered.ensures.code c.if-not-branch.false step (subst (λ (parts : TaskParts). IsNumbered parts step c.args.step.numbers.now) (sym c.index-index.ensures) c.requires.numbered))) in
     let one = learned_as task atoms key (step_spelled key) (code_shown c.code.result) c.args.step.amount c.in-Some.amount c.in-Some.amount c.requires.spelled refl is c.requires.amount c.in-Some.ensures refl in
     subst (λ (l : List Atom). All (IsLearned task l) c.add.new.self) (sym c.take_by_code.ensures.atoms)
     (learned_more task atoms c.args.memo.now c.add.new.self (record { key = key; code = code_shown c.code.result; amount = c.in-Some.amount }) c.in_ok-add.field-0
     c.in_ok-add.ensures.added c.in_ok-add.ensures.not
     (learned_grown task c.args.state.now c.code_of_numbered.new.state c.args.memo.now c.code_of_numbered.ensures.grows c.requires.learned) one)
+
+pub returns-clause-taken : goal.returns-clause-taken
+returns-clause-taken c =
+    let parts = c.args.task.now.task in
+    let step = step_spelled c.args.step.key.now in
+    let atoms = c.code_of_numbered.new.state.atoms in
+    let same = c.code_of_numbered.ensures.state in
+    let is = subst (λ (code : Code). IsCode parts atoms step code) (sym c.code-2.ensures)
+    (subst (λ (parts : TaskParts). IsCode parts atoms step c.code_of_numbered.new.code) c.index-index.ensures
+    (c.in_ok-code_of_numbered.ensures.code c.if-not-branch.false step (subst (λ (parts : TaskParts). IsNumbered parts step c.args.step.numbers.now) (sym c.index-index.ensures) c.requires.numbered))) in
+    success_as _ _ c.take_by_code.result
+    (λ taken h t stays.
+    let found = h t parts step (subst (KeepsStatics parts) (sym same) stays) is in
+    (ap (λ (state : State). hindrance parts state step) (sym same) ∙ found.0, found.1 ∙ ap (λ (state : State). after parts state step) same))
+    c.take_by_code.ensures.taken

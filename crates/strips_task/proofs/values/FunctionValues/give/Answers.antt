@@ -1,8 +1,8 @@
 use Rattle.std.proofs.Common.{◌++◌, ◌∷◌, [], ap, sym, ◌∙◌}
 use Rattle.indexmap.proofs.CallerLemmas.{insert_entry-new}
 use Rattle.formulas.specs.Atom.{atom_eq}
-use Rattle.plan_cost.specs.Values.{value_of, with_value_over}
-use Rattle.plan_cost.proofs.values.FunctionValues.give.Goals as goal
+use Rattle.strips_task.specs.Values.{value_of, with_value_over}
+use Rattle.strips_task.proofs.values.FunctionValues.give.Goals as goal
 
 pub returns-in-None-clause-ok : goal.returns-in-None-clause-ok
 returns-in-None-clause-ok c =

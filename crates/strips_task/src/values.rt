@@ -3,12 +3,12 @@
 //! A ground function, such as `(road-length a b)`, is a function applied to objects, all by number. It is kept as an [`Atom`],
 //! with the number of the function in place of the number of a predicate.
 ghost use Rattle.std.specs.Prelude.{◌≡◌, [], IfOk, OnOk, OnErr};
-ghost use Rattle.plan_cost.specs.Values.{value_of, with_value, given_over};
+ghost use Rattle.strips_task.specs.Values.{value_of, with_value, given_over};
 
+use crate::{Atom, Seed};
 use indexmap::IndexMap;
 use std::alloc::{AllocError, Global};
 use std::marker::Model;
-use strips_task::{Atom, Seed};
 
 /// What a function had before [`FunctionValues::give`].
 #[derive(Clone, Copy, PartialEq, Eq)]

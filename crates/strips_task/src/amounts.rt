@@ -1,9 +1,9 @@
 //! The amounts by which actions increase the total cost.
 ghost use Rattle.std.specs.Prelude.{◌≡◌, ◌<◌, ◌≤◌, [], ◌∷◌, ◌++◌, length, OnOk, OnErr, IfErr};
 
+use crate::{Seq, ShortSeq, Term};
 use std::alloc::{AllocFailed, Global};
 use std::marker::Model;
-use strips_task::{Seq, ShortSeq, Term};
 
 /// How many increases an action may have.
 pub const MOST_INCREASES: usize = 32;
@@ -36,8 +36,8 @@ impl Drop for Increases {
 
 impl Model for Increases {
     ghost use Rattle.std.specs.Prelude.{List, ◌≤◌, length};
-    ghost use Rattle.plan_cost.specs.declared.amounts.Amount.{Amount};
-    ghost use Rattle.plan_cost.specs.declared.amounts.TheConstants.{MOST_INCREASES};
+    ghost use Rattle.strips_task.specs.declared.amounts.Amount.{Amount};
+    ghost use Rattle.strips_task.specs.declared.amounts.TheConstants.{MOST_INCREASES};
 
     ghost Value = { List Amount };
 
