@@ -1,21 +1,45 @@
 """The programs of a clone: release/ has the one that comes with it, built/ the one that was made here. bin/program says which is run.
 
-Each folder has the program, stripped; plan_judge.sha256, its checksum; and made_of, the lines that bin/made_of printed of what it was made of.
+Each folder has the program, stripped; plan_judge.sha256, its checksum; and made_of, the lines that bin/made_of printed of what it was made of. The library
+for C is kept in the same way, as libplan_judge.so, libplan_judge.so.sha256 and libplan_judge.made_of. A folder may lack it.
 """
+import dataclasses
 import hashlib
 import os
+import re
 import shutil
 import subprocess
 import sys
 
-from rooms import TOP
+from rooms import TOP, below, listed
 
 NAME = "plan_judge"
+CRATE = "plan_judge_c"  # of the library for C
+VERSION_AT = os.path.join(TOP, "crates", "commands", "src", "command.rt")
+NO_LIBRARY = "there is no library of these sources, which bin/prove makes"
 BUILT, RELEASE = os.path.join(TOP, "built"), os.path.join(TOP, "release")
 
 
+@dataclasses.dataclass(frozen=True)
+class Kind:
+    """The program or the library: the name of its file, of the list of what it was made of, its mode, and the words with which bin/made_of tells that."""
+
+    name: str
+    parts: str
+    mode: int
+    words: tuple = ()
+
+
+PROGRAM = Kind(NAME, "made_of", 0o755)
+LIBRARY = Kind("libplan_judge.so", "libplan_judge.made_of", 0o644, ("--library",))
+
+
 class Stale(Exception):
-    """Why the program of a folder is not the one of the sources, in words."""
+    """Why the program or the library of a folder is not the one of the sources, in words."""
+
+
+class Missing(Stale):
+    """There is no library in a folder."""
 
 
 def chosen():
@@ -31,6 +55,18 @@ def chosen():
         print(f"{script}: there is no program {named}, which PLAN_JUDGE names", file=sys.stderr)
         sys.exit(2)
     return os.path.abspath(found)
+
+
+def library():
+    """The path of the library to test: the one that PLAN_JUDGE_LIBRARY names, none if that is empty, else the one of bin/library. None if there is none."""
+    named = os.environ.get("PLAN_JUDGE_LIBRARY")
+    if named is None:
+        answer = subprocess.run([os.path.join(TOP, "bin", "library")], stdout=subprocess.PIPE, stderr=subprocess.DEVNULL, text=True)
+        return answer.stdout.strip() or None
+    if named and not os.path.isfile(named):
+        print(f"{os.path.basename(sys.argv[0])}: there is no library {named}, which PLAN_JUDGE_LIBRARY names", file=sys.stderr)
+        sys.exit(2)
+    return os.path.abspath(named) if named else None
 
 
 def made_of(*words):
@@ -59,13 +95,17 @@ def read(folder, name):
         return b""
 
 
-def stripped(program):
-    """The bytes of a program without symbols, by the toolchain's own command, so that they are the same on each machine."""
-    kit = os.path.dirname(subprocess.run(["rt", "doc"], check=True, stdout=subprocess.PIPE, start_new_session=True, text=True).stdout.strip())
-    to = f"{program}.{os.getpid()}"
+def kit(*parts):
+    """A path in the toolchain."""
+    page = subprocess.run(["rt", "doc"], check=True, stdout=subprocess.PIPE, start_new_session=True, text=True).stdout.strip()
+    return os.path.join(os.path.dirname(page), *parts)
+
+
+def made_by_kit(tool, words, to):
+    """The bytes that a tool of the toolchain writes to a file, which is then removed. They are the same on each machine."""
+    to = f"{to}.{os.getpid()}"
     try:
-        words = ["llvm-strip", "--strip-all", "-o", to, program]
-        subprocess.run(words, executable=os.path.join(kit, "toolchain", "bin", "clang"), check=True)
+        subprocess.run([tool, *words, "-o", to], executable=kit("toolchain", "bin", "clang"), check=True)
         with open(to, "rb") as file:
             return file.read()
     finally:
@@ -73,14 +113,59 @@ def stripped(program):
             os.remove(to)
 
 
-def put(folder, program, parts):
-    """Makes a program, given by its bytes, the one of a folder. The list of parts is last, since it says that the others are there."""
+def stripped(program):
+    """The bytes of a program without symbols."""
+    return made_by_kit("llvm-strip", ["--strip-all", program], program)
+
+
+def soname():
+    """The name by which programs ask for the library. It has the first number of the version."""
+    with open(VERSION_AT, encoding="utf-8") as file:
+        version = re.search(r'^const VERSION: &str = "(\d+)\.', file.read(), re.MULTILINE)
+    return f"{LIBRARY.name}.{version[1]}"
+
+
+def linked(archive):
+    """The bytes of the library for C: the archive that was proved, the toolchain's calls of malloc and free, and the C library. It shows what c/plan_judge.map
+    names, and has no other symbols."""
+    words = ["--shared", "--strip-all", "--gc-sections", "--no-undefined", "--build-id=none", "--hash-style=gnu", "-z", "now", "-z", "relro", "-z", "noexecstack"]
+    words += ["--soname", soname(), "--version-script", os.path.join(TOP, "c", "plan_judge.map"), "--undefined=plan_judge_judge", "--undefined=plan_judge_explain"]
+    words += [archive, kit("c", "liblibc_c.a"), *(kit("toolchain", "lib", it) for it in ("libgcc.a", "libc.so.6"))]
+    return made_by_kit("ld.lld", words, os.path.join(BUILT, LIBRARY.name))
+
+
+def archive():
+    """The path of the library's archive, which is made of the proofs that rt has left here. None if it is not made; rt has then said why.
+
+    If all libraries below are those that rt ci proved, the crate is proved over them. rt lib would prove them again, since it takes only those of rt lib.
+    """
+    crates, folder = listed(), os.path.join(TOP, "crates", CRATE)
+    under = below(crates, crates[CRATE])
+    rlib = lambda crate: os.path.join(crate.folder, "out", "rlib")
+    is_of_ci = all(os.path.isdir(rlib(it)) and not os.path.exists(os.path.join(rlib(it), "stamp")) for it in under)
+    words = ["rt", "lib"]
+    if is_of_ci:
+        words = [kit("bin", "rattle"), "build", "--crate-name", CRATE, "src/lib.rt", "--extern", f"std={kit('rlibs', 'std.rlib')}", "-L", f"dependency={kit('rlibs')}"]
+        for it in under:
+            words += ["--extern", f"{it.name}={rlib(it)}/{it.name}.rlib"] if it.name in crates[CRATE].libraries else []
+            words += ["-L", f"dependency={rlib(it)}"]
+        words += ["--antt-project", kit("rattle", "logic", "antt-project.json"), "--logic-built", kit("logic_built"), "--links", f"{CRATE}="]
+        words += ["--crate-type", "staticlib", "--jobs", "2", "--toolchain", kit("toolchain"), "--backend", "llvm", "-o", f"out/lib{CRATE}.a"]
+        os.makedirs(os.path.join(folder, "out"), exist_ok=True)
+    with open(os.path.join(BUILT, "library.log"), "wb") as log:
+        how = {"cwd": folder, "stdin": subprocess.DEVNULL, "stdout": log, "stderr": subprocess.STDOUT, "start_new_session": True}
+        status = subprocess.run(words, **how).returncode
+    return None if status else os.path.join(folder, "out", f"lib{CRATE}.a")
+
+
+def put(folder, content, parts, kind=PROGRAM):
+    """Makes a program or a library, given by its bytes, the one of a folder. The list of parts is last, since it says that the others are there."""
     os.makedirs(folder, exist_ok=True)
-    if read(folder, NAME) != program:
-        written(folder, "made_of", b"")
-        written(folder, NAME, program, 0o755)
-    written(folder, f"{NAME}.sha256", f"{hashlib.sha256(program).hexdigest()}  {NAME}\n".encode())
-    written(folder, "made_of", parts.encode())
+    if read(folder, kind.name) != content:
+        written(folder, kind.parts, b"")
+        written(folder, kind.name, content, kind.mode)
+    written(folder, f"{kind.name}.sha256", f"{hashlib.sha256(content).hexdigest()}  {kind.name}\n".encode())
+    written(folder, kind.parts, parts.encode())
 
 
 def keep(parts):
@@ -91,19 +176,29 @@ def keep(parts):
     put(BUILT, program, parts)
 
 
-def look(folder, parts):
-    """The program of a folder. Stale says why it is not the one made of these parts, or that it is damaged."""
-    program = f"{os.path.relpath(folder, TOP)}/{NAME}"
-    there = dict(line.split(" ", 1) for line in read(folder, "made_of").decode().splitlines())
-    for kind, wanted in (line.split(" ", 1) for line in parts.splitlines()):
-        found = there.get(kind)
+def keep_library(parts, proved):
+    """Links the archive that was proved and puts the library into built/, if the sources are still those of which `parts` was printed."""
+    content = linked(proved)
+    if made_of("--library") != parts:
+        raise Stale("the sources changed meanwhile")
+    put(BUILT, content, parts, LIBRARY)
+
+
+def look(folder, parts, kind=PROGRAM):
+    """The bytes of the program or the library of a folder. Stale says why it is not the one made of these parts, or that it is damaged."""
+    path = f"{os.path.relpath(folder, TOP)}/{kind.name}"
+    there = dict(line.split(" ", 1) for line in read(folder, kind.parts).decode().splitlines())
+    if kind is LIBRARY and not any(os.path.exists(os.path.join(folder, it)) for it in (kind.name, kind.parts)):
+        raise Missing(f"{path} is missing")
+    for part, wanted in (line.split(" ", 1) for line in parts.splitlines()):
+        found = there.get(part)
         if not found:
-            raise Stale(f"{program} is missing")
-        if found != wanted and kind == "toolchain":
-            raise Stale(f"{program} was made by another toolchain, {found}; this one is {wanted}")
+            raise Stale(f"{path} is missing")
+        if found != wanted and part == "toolchain":
+            raise Stale(f"{path} was made by another toolchain, {found}; this one is {wanted}")
         if found != wanted:
-            raise Stale(f"{program} was made of other sources than those here")
-    content = read(folder, NAME)
-    if read(folder, f"{NAME}.sha256").decode() != f"{hashlib.sha256(content).hexdigest()}  {NAME}\n":
-        raise Stale(f"{program} is damaged: its checksum is wrong")
+            raise Stale(f"{path} was made of other sources than those here")
+    content = read(folder, kind.name)
+    if read(folder, f"{kind.name}.sha256").decode() != f"{hashlib.sha256(content).hexdigest()}  {kind.name}\n":
+        raise Stale(f"{path} is damaged: its checksum is wrong")
     return content

@@ -1,4 +1,4 @@
-"""Checks whether plans solve a planning task in PDDL, by the program plan_judge.
+"""Checks whether plans solve a planning task in PDDL, by the library libplan_judge.so, or by the program plan_judge if there is no library.
 
     judge(domain, problem, plans)    the verdict on each plan, as a Report
     explain(domain, problem, plans)  why a text is refused or a plan fails, in English
@@ -22,6 +22,7 @@ A file or text may hold several plans, separated by lines of three dashes.
 from .calls import Dialect, Explanation, Stopper, explain, find_program, judge
 from .errors import CallFailed, Error, ProgramMissing, Refused, Stopped
 from .inputs import Named, Plans, Text
+from .library import find_library
 from .records import read_report, write_report
 from .verdicts import Action, Atom, Condition, Equality, Fails, Formula, MissesGoal, Planner, Reason, Report, Unreadable, Valid, Verdict
 
@@ -30,5 +31,5 @@ __version__ = "0.3.0"
 __all__ = [
     "Action", "Atom", "CallFailed", "Condition", "Dialect", "Equality", "Error", "Explanation", "Fails", "Formula", "MissesGoal", "Named", "Planner", "Plans",
     "ProgramMissing", "Reason", "Refused", "Report", "Stopped", "Stopper", "Text", "Unreadable", "Valid", "Verdict", "__version__", "explain",
-    "find_program", "judge", "read_report", "write_report",
+    "find_library", "find_program", "judge", "read_report", "write_report",
 ]

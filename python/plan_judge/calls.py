@@ -1,10 +1,11 @@
-"""Calls the program plan_judge."""
+"""Calls the library, or the program plan_judge."""
 from __future__ import annotations
 
 import dataclasses
 import errno
 import json
 import os
+import re
 import shutil
 import subprocess
 import threading
@@ -12,8 +13,9 @@ from typing import List, Literal, Optional, Set, Tuple, Union
 
 from . import inputs
 from .errors import CallFailed, ProgramMissing, Refused, Stopped
-from .inputs import Plans, Room, Share, Text, labelled
-from .records import read_report
+from .inputs import Piece, Plans, Room, Share, Text, labelled
+from .library import Library, Shelf, library
+from .records import read_parts
 from .verdicts import Planner, Report, Verdict
 
 Dialect = Literal["strips", "ipc", "adl"]
@@ -21,6 +23,7 @@ Program = Union[str, "os.PathLike[str]"]
 
 DOMAIN, PROBLEM = b"--domain=", b"--problem="
 TOO_MANY = {"TooManyPlanners": "more than 64 planners", "TooManyPlans": "more than 65536 plans"}
+LINE = re.compile(r"(domain|problem) line (\d+) bytes (\d+)-(\d+): (\w+)")
 INSTALL = "install plan_judge, or set the environment variable PLAN_JUDGE to the path of the program"
 
 
@@ -99,10 +102,65 @@ def _run(program: str, words: List[bytes], stopper: Optional[Stopper]) -> Tuple[
     return status, out.decode("utf-8", "surrogateescape"), said.decode("utf-8", "surrogateescape").removesuffix("\n")
 
 
-def _task(room: Room, domain: Text, problem: Text, dialect: Dialect) -> List[bytes]:
-    """The words of the command line for a domain and a problem. They end with `--`: a plan's path may begin with a dash."""
+def _check_dialect(dialect: Dialect) -> None:
     if dialect not in ("strips", "ipc", "adl"):
         raise ValueError("the dialect is strips, ipc or adl, not %r" % (dialect,))
+
+
+def _library(program: Optional[Program], stopper: Optional[Stopper]) -> Optional[Library]:
+    """The library, unless the caller names a program, or wants to end the call from another thread, which the library cannot do."""
+    return None if program is not None or stopper is not None else library()
+
+
+def _shelf(domain: Text, problem: Text) -> Tuple[Shelf, Tuple[bytes, bytes]]:
+    """A domain and a problem for a call of the library, and their names."""
+    shelf = Shelf()
+    (domain_label, domain_source), (problem_label, problem_source) = labelled(domain, "domain"), labelled(problem, "problem")
+    return shelf, (shelf.word(domain_source, domain_label), shelf.word(problem_source, problem_label))
+
+
+def _judged(by: Library, domain: Text, problem: Text, pieces: List[Piece], dialect: Dialect) -> Tuple[str, List[List[Share]]]:
+    """The report of the library in JSON, and the shares in each file."""
+    shelf, (domain_name, problem_name) = _shelf(domain, problem)
+    _, shares = inputs.files(shelf, pieces)
+    name, how, kind = shelf.unreadable, "cannot read %s", "cannot read"
+    if name is None:
+        name, how, kind = shelf.too_large, "%s is too large", "too large"
+    if name is not None:
+        file = "domain" if name == domain_name else "problem" if name == problem_name else "plan"
+        raise Refused(how % name.decode(), file, kind)
+    status, text = by.judge(shelf.files, dialect)
+    found = text.decode("utf-8", "surrogateescape")
+    if status != 0:
+        raise _refusal(found.removesuffix("\n"))
+    return found, shares
+
+
+def _refusal(line: str) -> Exception:
+    """The exception for the line of a refusal."""
+    fault = LINE.fullmatch(line)
+    if fault is None:
+        return ValueError("the plans are too many for one call: %s" % line)
+    file, number, start, end, kind = fault.groups()
+    return Refused(line, file, kind, int(number), (int(start), int(end)))
+
+
+def _explained(by: Library, domain: Text, problem: Text, pieces: List[Piece], dialect: Dialect, trace: bool) -> Optional[Explanation]:
+    """The explanation of the library. None if a file is none or cannot be read, for which the program has to say why."""
+    sources = [labelled(domain)[1], labelled(problem)[1], *(it.source for it in pieces)]
+    if not all(isinstance(it, bytes) or os.path.isfile(it) for it in sources):
+        return None
+    shelf, _ = _shelf(domain, problem)
+    for it in pieces:
+        shelf.word(it.source, it.label)
+    if shelf.unreadable is not None or shelf.too_large is not None:
+        return None
+    status, text = by.explain(shelf.files, dialect, trace)
+    return Explanation(text.decode("utf-8", "surrogateescape"), status == 0)
+
+
+def _task(room: Room, domain: Text, problem: Text, dialect: Dialect) -> List[bytes]:
+    """The words of the command line for a domain and a problem. They end with `--`: a plan's path may begin with a dash."""
     (domain_label, domain_source), (problem_label, problem_source) = labelled(domain, "domain"), labelled(problem, "problem")
     domain_word, problem_word = room.word(domain_source, domain_label), room.word(problem_source, problem_label)
     return [b"--dialect=" + dialect.encode(), DOMAIN + domain_word, PROBLEM + problem_word, b"--"]
@@ -132,10 +190,11 @@ def judge(
     domain: Text, problem: Text, plans: Plans, *, dialect: Dialect = "strips", workers: int = 4, program: Optional[Program] = None,
     stopper: Optional[Stopper] = None
 ) -> Report:
-    """Judges plans by one run of the program. The help of the package says which arguments are paths and which are texts.
+    """Judges plans by one call of the library, or by one run of the program if there is no library or if the call has a program or a stopper.
+    The help of the package says which arguments are paths and which are texts.
 
     dialect   "ipc" also reads action costs and equality, and "adl" besides disjunctions, quantifiers and conditional effects
-    workers   how many threads may judge, 1 to 32
+    workers   how many threads of the program may judge, 1 to 32; the library judges on the thread that calls
     program   the path of the program; by default the one that the environment variable PLAN_JUDGE names, or plan_judge on the PATH
     stopper   ends this call if another thread calls its `stop`
 
@@ -147,36 +206,44 @@ def judge(
     pieces = inputs.pieces(planners)
     if not pieces:
         raise ValueError("there are no plans")
-    path = find_program(program)
-    with Room() as room:
-        task = _task(room, domain, problem, dialect)
-        files, shares = inputs.files(room, pieces)
-        words = [b"judge", b"--format=json", b"--workers=%d" % workers, *task, *files]
-        status, out, message = _run(path, words, stopper)
-        if status != 0:
-            raise _error(status, message, task, room)
-    found = _found(out, shares)
-    verdicts: List[List[Verdict]] = [[] for _ in planners]
-    for own, parts in zip(found.planners, shares):
-        rest = iter(own.verdicts)
-        for part in parts:
-            verdicts[part.planner] += part.verdicts(rest)
-    listed = tuple(Planner(name, tuple(own)) for (name, _), own in zip(planners, verdicts))
+    by = _library(program, stopper)
+    if by is not None:
+        _check_dialect(dialect)
+        out, shares = _judged(by, domain, problem, pieces, dialect)
+    else:
+        path = find_program(program)
+        _check_dialect(dialect)
+        with Room() as room:
+            task = _task(room, domain, problem, dialect)
+            files, shares = inputs.files(room, pieces)
+            words = [b"judge", b"--format=json", b"--workers=%d" % workers, *task, *files]
+            status, out, message = _run(path, words, stopper)
+            if status != 0:
+                raise _error(status, message, task, room)
+    try:
+        found = read_parts(out)
+    except ValueError as error:
+        raise CallFailed(0, "it printed no report in JSON") from error
+    verdicts = _shared([own for _, own in found.planners], shares, len(planners))
+    listed = tuple([Planner(name, tuple(own)) for (name, _), own in zip(planners, verdicts)])
     return Report(found.domain, found.problem, listed, found.counts_costs)
 
 
-def _found(out: str, shares: List[List[Share]]) -> Report:
-    """The report in what the program printed, on its files. It has to be about the plans of the call."""
-    try:
-        found = read_report(out)
-    except ValueError as error:
-        raise CallFailed(0, "it printed no report in JSON") from error
-    # A file with one share has as many plans as the program counts.
-    plans = [len(it.verdicts) for it in found.planners]
-    counts = [own if len(parts) == 1 else sum(it.plans or 0 for it in parts) for own, parts in zip(plans, shares)]
-    if len(plans) != len(shares) or counts != plans:
+def _shared(files: List[List[Verdict]], shares: List[List[Share]], planners: int) -> List[List[Verdict]]:
+    """The verdicts of each planner, from those of each file. They have to be about the plans of the call."""
+    verdicts: List[List[Verdict]] = [[] for _ in range(planners)]
+    if len(files) != len(shares):
         raise CallFailed(0, "it printed a report on other plans")
-    return found
+    for own, parts in zip(files, shares):
+        if len(parts) == 1:  # A file with one share has as many plans as the program counts.
+            verdicts[parts[0].planner] += own
+        elif len(own) != sum(it.plans for it in parts):
+            raise CallFailed(0, "it printed a report on other plans")
+        else:
+            rest = iter(own)
+            for part in parts:
+                verdicts[part.planner] += part.verdicts(rest)
+    return verdicts
 
 
 def explain(
@@ -188,10 +255,18 @@ def explain(
     The arguments are those of `judge`, and with `trace` the explanation also lists what each step deletes and adds. A text is called by its
     name if it is Named, otherwise by that of its planner. Raises ProgramMissing, CallFailed and Stopped, but not Refused: a file that cannot be read is explained too.
     """
+    pieces = inputs.pieces(inputs.named(plans))
+    by = _library(program, stopper)
+    if by is not None:
+        _check_dialect(dialect)
+        found = _explained(by, domain, problem, pieces, dialect, trace)
+        if found is not None:
+            return found
     path = find_program(program)
+    _check_dialect(dialect)
     with Room() as room:
         task = _task(room, domain, problem, dialect)
-        files = [room.word(it.source, it.label) for it in inputs.pieces(inputs.named(plans))]
+        files = [room.word(it.source, it.label) for it in pieces]
         words = [b"explain", *([b"--trace"] if trace else []), *task, *files]
         status, out, message = _run(path, words, stopper)
         if status not in (0, 1) or not out:

@@ -1,4 +1,4 @@
-"""Makes the files for a call of the program from the paths and texts that a caller gives."""
+"""Makes the files for a call from the paths and texts that a caller gives."""
 from __future__ import annotations
 
 import contextlib
@@ -7,12 +7,12 @@ import itertools
 import os
 import re
 import tempfile
+from collections.abc import Iterable, Iterator, Mapping
 from types import TracebackType
-from typing import Iterable, Iterator, List, Mapping, Optional, Set, Tuple, Type, Union
+from typing import List, NamedTuple, Optional, Protocol, Set, Tuple, Type, Union
 
 from .errors import Refused
 from .verdicts import Unreadable, Verdict
-
 
 
 @dataclasses.dataclass(frozen=True)
@@ -32,11 +32,11 @@ Plans = Union[Text, Iterable[Text], Mapping[str, Union[Text, Iterable[Text]]]]
 MOST_FILES = 64  # of planners, in one call of the program
 LARGEST_FILE = 16_777_216
 LONGEST_NAME = 200  # of a file of a text
+UNSAFE = re.compile(r"[^A-Za-z0-9._~-]|^[.-]")  # in a name of a file
 SEPARATOR = re.compile(rb"^---[ \t\r]*$\n?", re.MULTILINE)
 
 
-@dataclasses.dataclass(frozen=True)
-class Piece:
+class Piece(NamedTuple):
     """A path or text with plans of a planner."""
 
     planner: int  # the index of the planner
@@ -70,12 +70,12 @@ def _name(given: Labelled, otherwise: str) -> str:
 
 def named(plans: Plans) -> List[Tuple[str, List[Labelled]]]:
     """The planners' names, each with its paths and texts."""
+    if isinstance(plans, (str, bytes, os.PathLike, Named)):
+        only = labelled(plans)
+        return [(_name(only, "plan"), [only])]
     if isinstance(plans, Mapping):
         return [(name, _all_labelled(given)) for name, given in plans.items()]
-    found = _all_labelled(plans)
-    if isinstance(plans, (str, bytes, os.PathLike, Named)):
-        return [(_name(found[0], "plan"), found)]
-    return [(_name(it, "plan-%d" % number), [it]) for number, it in enumerate(found, 1)]
+    return [(_name(it, "plan-%d" % number), [it]) for number, it in enumerate(_all_labelled(plans), 1)]
 
 
 def pieces(planners: List[Tuple[str, List[Labelled]]]) -> List[Piece]:
@@ -87,8 +87,18 @@ def pieces(planners: List[Tuple[str, List[Labelled]]]) -> List[Piece]:
     ]
 
 
+class Words(Protocol):
+    """Where the files of a call are kept."""
+
+    def word(self, given: Source, label: str) -> bytes:
+        """The name of a path or a text."""
+
+    def file(self, content: bytes, label: str) -> bytes:
+        """The name of a text."""
+
+
 class Room:
-    """The files of one call. A temporary folder holds the texts; it is made for the first text, and removed at the end."""
+    """The files of one call of the program. A temporary folder holds the texts; it is made for the first text, and removed at the end."""
 
     def __init__(self) -> None:
         self.stack = contextlib.ExitStack()
@@ -105,16 +115,10 @@ class Room:
         """The path of a new file, whose name is like the label."""
         if not self.folder:
             folder = os.fsencode(self.stack.enter_context(tempfile.TemporaryDirectory(prefix="plan_judge-")))
-            if not _is_utf8(folder):
+            if not is_utf8(folder):
                 raise ValueError("the folder of temporary files, %r, has a name that is not UTF-8" % folder)
             self.folder = folder + b"/"
-        safe = re.sub(r"[^A-Za-z0-9._~-]|^[.-]", "-", label)[:LONGEST_NAME]
-        name, number = safe, 1
-        while name in self.taken:
-            number += 1
-            name = "%s-%d" % (safe, number)
-        self.taken.add(name)
-        return self.folder + name.encode()
+        return self.folder + safe_name(label, self.taken)
 
     def word(self, given: Source, label: str) -> bytes:
         """The word of the command line for a path or a text."""
@@ -123,7 +127,7 @@ class Room:
         path = os.fsencode(given)
         if path == b"-":  # which is standard input for the program
             return b"./-"
-        if _is_utf8(path):
+        if is_utf8(path):
             return path
         # The program takes only words that are UTF-8.
         link = self._path(label)
@@ -142,7 +146,19 @@ class Room:
         return text.replace(self.folder.decode(), "") if self.folder else text
 
 
-def _is_utf8(path: bytes) -> bool:
+def safe_name(label: str, taken: Set[str]) -> bytes:
+    """A name of a file that is like the label and not yet taken."""
+    safe = UNSAFE.sub("-", label)[:LONGEST_NAME]
+    name, number = safe, 1
+    while name in taken:
+        number += 1
+        name = "%s-%d" % (safe, number)
+    taken.add(name)
+    return name.encode()
+
+
+def is_utf8(path: bytes) -> bool:
+    """Whether a path can be a word of the program, and a name of a file."""
     try:
         path.decode("utf-8")
     except UnicodeDecodeError:
@@ -169,7 +185,7 @@ class Share:
 
     def __init__(self, piece: Piece) -> None:
         self.planner = piece.planner
-        self.plans: Optional[int] = None  # all plans of the file
+        self.plans = 0  # not counted if the share is the whole file
         self.last_line = 0  # of the end of the last plan
 
     def count(self, content: bytes) -> None:
@@ -179,8 +195,6 @@ class Share:
 
     def verdicts(self, rest: Iterator[Verdict]) -> List[Verdict]:
         """The verdicts of this share, which are the next of the file."""
-        if self.plans is None:
-            return list(rest)
         found = list(itertools.islice(rest, self.plans))
         # A newline at the end, added for the separator, moves the line of a text that ends too early.
         if isinstance(found[-1], Unreadable) and found[-1].line > self.last_line:
@@ -215,9 +229,9 @@ def _joined(group: List[Piece]) -> Tuple[bytes, List[Share]]:
     return b"---\n".join(contents), shares
 
 
-def files(room: Room, given: List[Piece]) -> Tuple[List[bytes], List[List[Share]]]:
+def files(room: Words, given: List[Piece]) -> Tuple[List[bytes], List[List[Share]]]:
     """The words for the planners' files, and the shares in each. If there are too many paths, their files are read and joined too."""
-    groups = _groups(given) or _groups(dataclasses.replace(it, source=_content(it.source)) for it in given)
+    groups = _groups(given) or _groups(it._replace(source=_content(it.source)) for it in given)
     if groups is None:
         raise ValueError("the plans are too many for one call: they fill more than %d files of %d bytes" % (MOST_FILES, LARGEST_FILE))
     words: List[bytes] = []

@@ -3,13 +3,22 @@ from __future__ import annotations
 
 import json
 from fractions import Fraction
-from typing import Any, Dict, List, Optional, Tuple, Union
+from typing import Any, Dict, List, NamedTuple, Optional, Tuple, Union
 
 from .verdicts import Action, Atom, Condition, Equality, Fails, Formula, MissesGoal, Planner, Report, Unreadable, Valid, Verdict, decimal_text
 
 Record = Dict[str, Any]
 DECODER = json.JSONDecoder(parse_float=Fraction)  # a float would round a cost
 ENCODER = json.JSONEncoder(ensure_ascii=False, separators=(",", ":"))
+
+
+class Parts(NamedTuple):
+    """The members of a report, but with lists of names and verdicts instead of planners."""
+
+    domain: str
+    problem: str
+    planners: List[Tuple[str, List[Verdict]]]
+    counts_costs: bool
 
 
 def _tuple(part: Any) -> Any:
@@ -53,22 +62,39 @@ def _verdict(record: Record) -> Verdict:
     return Fails(record["step"], Action(name, tuple(arguments)), record["reason"], record.get("argument"), _conditions(record))
 
 
-def _report(text: str) -> Report:
+def _record(line: str) -> Any:
+    """As DECODER.decode, but spaces around the record are skipped without regular expressions, which takes less time."""
+    words = line.strip(" \t\r")
+    record, end = DECODER.raw_decode(words)
+    if end != len(words):
+        raise ValueError
+    return record
+
+
+def _parts(text: str) -> Parts:
     # Not splitlines, which also splits at letters that a name may have.
-    first, *others = map(DECODER.decode, text.split("\n")[:-1])
-    planners: List[Planner] = []
+    first, *others = map(_record, text.split("\n")[:-1])
+    planners: List[Tuple[str, List[Verdict]]] = []
     verdicts: List[Verdict] = []
     for record in others:
         if record["type"] == "plan":
             verdicts.append(_verdict(record))
         elif record["plans"] == len(verdicts):
-            planners.append(Planner(record["planner"], tuple(verdicts)))
+            planners.append((record["planner"], verdicts))
             verdicts = []
         else:
             raise ValueError
     if verdicts or first["type"] != "run" or not text.endswith("\n"):
         raise ValueError
-    return Report(first["domain"], first["problem"], tuple(planners), bool(others) and "cost" in others[-1])
+    return Parts(first["domain"], first["problem"], planners, bool(others) and "cost" in others[-1])
+
+
+def read_parts(text: Union[str, bytes]) -> Parts:
+    """The parts of the report in a text. ValueError if the text is anything else than one whole report."""
+    try:
+        return _parts(text if isinstance(text, str) else text.decode("utf-8", "surrogateescape"))
+    except (AttributeError, IndexError, KeyError, TypeError, ValueError) as error:
+        raise ValueError("the text is no report in JSON") from error
 
 
 def read_report(text: Union[str, bytes]) -> Report:
@@ -76,10 +102,8 @@ def read_report(text: Union[str, bytes]) -> Report:
 
     Raises ValueError if the text is anything else than one whole report.
     """
-    try:
-        return _report(text if isinstance(text, str) else text.decode("utf-8", "surrogateescape"))
-    except (AttributeError, IndexError, KeyError, TypeError, ValueError) as error:
-        raise ValueError("the text is no report in JSON") from error
+    found = read_parts(text)
+    return Report(found.domain, found.problem, tuple(Planner(name, tuple(own)) for name, own in found.planners), found.counts_costs)
 
 
 def _words(condition: Condition) -> List[Any]:

@@ -110,6 +110,7 @@ class Given(Folder):
         os.chdir(self.folder)
         self.assertEqual(judge(Path(domain.name), PROBLEM, Path(os.path.basename(os.fsdecode(bad)))).verdict, Valid(12))
 
+    @mock.patch.dict(os.environ, PLAN_JUDGE_LIBRARY="")
     def test_a_folder_of_temporary_files_that_the_program_cannot_be_told(self) -> None:
         odd = self.folder / os.fsdecode(b"\xff")
         odd.mkdir()
@@ -280,6 +281,7 @@ class Errors(Folder):
                 with self.assertRaisesRegex(ProgramMissing, re.escape(str(program)) + ".*set the environment variable PLAN_JUDGE"):
                     call(DOMAIN, PROBLEM, SHORT, program=program)
 
+    @mock.patch.dict(os.environ, PLAN_JUDGE_LIBRARY="")
     def test_where_the_program_is_found(self) -> None:
         """The argument comes before PLAN_JUDGE, and PLAN_JUDGE before the PATH."""
         names = ["argument", "variable", "plan_judge"]
