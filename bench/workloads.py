@@ -68,6 +68,22 @@ LAMPS = """(define (domain lamps)
     :effect (seen)))
 """
 
+TOWER = """(define (domain tower)
+  (:requirements :adl)
+  (:types lift floor)
+  (:predicates (at ?l - lift ?f - floor) (idle ?l - lift))
+  (:action ride :parameters (?l - lift ?from ?to - floor)
+    :precondition (and (at ?l ?from) (forall (?other - lift) (or (idle ?other) (= ?other ?l))))
+    :effect (and (not (at ?l ?from)) (at ?l ?to))))
+"""
+
+RING = """(define (domain ring)
+  (:requirements :adl)
+  (:predicates (wired ?a ?b) (lit ?a))
+  (:action press :parameters (?a)
+    :effect (forall (?b) (and (when (and (wired ?a ?b) (lit ?b)) (not (lit ?b))) (when (and (wired ?a ?b) (not (lit ?b))) (lit ?b))))))
+"""
+
 
 def problem(name, domain, objects, init, goal):
     return "(define (problem %s) (:domain %s)\n  (:objects %s)\n  (:init %s)\n  (:goal (and %s)))\n" % (
@@ -214,6 +230,22 @@ def looks(scale):
     yield "planner-0", plain("look %s" % names[at % 100] for at in range(int(20000 * scale)))
 
 
+def rides(scale):
+    lifts, floors = ["l%d" % number for number in range(5)], ["f%d" % number for number in range(10000)]
+    init = ["(at %s f0) (idle %s)" % (lift, lift) for lift in lifts]
+    yield "domain.pddl", TOWER
+    yield "problem.pddl", problem("tower-1", "tower", "%s - lift %s - floor" % (" ".join(lifts), " ".join(floors)), init, [])
+    yield "planner-0", plain("ride l0 f%d f%d" % (7 * at % 10000, 7 * (at + 1) % 10000) for at in range(int(20000 * scale)))
+
+
+def presses(scale):
+    names = ["a%d" % number for number in range(300)]
+    init = ["(wired %s %s) (wired %s %s)" % (name, names[(at + 1) % 300], name, names[(at + 2) % 300]) for at, name in enumerate(names)]
+    yield "domain.pddl", RING
+    yield "problem.pddl", problem("ring-1", "ring", " ".join(names), init, [])
+    yield "planner-0", plain("press %s" % names[7 * at % 300] for at in range(int(20000 * scale)))
+
+
 # The name of a workload, what it is, and its files. A domain with functions is read in the dialect ipc, and one with `forall` in adl.
 WORKLOADS = [
     ("many", "10,000 plans of 100 steps by 5 planners", on_a_grid(8, 5, 2000, 100, plain)),
@@ -229,4 +261,6 @@ WORKLOADS = [
     ("parse", "a problem of 62,500 objects and 310,000 initial atoms, and an empty plan", large_problem),
     ("cube", "100,000 steps of 24 conditional effects", turns),
     ("lamps", "20,000 steps with two quantifiers over 100 objects, one inside the other", looks),
+    ("tower", "20,000 steps with a quantifier over 5 of 10,005 objects", rides),
+    ("ring", "20,000 steps with effects on 300 objects, of which two are wired", presses),
 ]

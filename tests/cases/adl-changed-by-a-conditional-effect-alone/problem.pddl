@@ -1,0 +1,5 @@
+(define (problem doors-1)
+  (:domain doors)
+  (:objects a)
+  (:init)
+  (:goal (seen a)))

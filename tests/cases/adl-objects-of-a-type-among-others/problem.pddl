@@ -1,0 +1,5 @@
+(define (problem crates-1)
+  (:domain crates)
+  (:objects s1 - shelf b - box s2 - shelf c - can t - thing)
+  (:init (full t))
+  (:goal (and (ready) (exists (?x - can) (not (= ?x k))))))

@@ -1,0 +1,5 @@
+(define (problem rows-1)
+  (:domain rows)
+  (:objects a b c d e)
+  (:init (row a b c d e) (row e d c b a) (row b b c d e))
+  (:goal (and (done a) (done b) (not (done e)))))

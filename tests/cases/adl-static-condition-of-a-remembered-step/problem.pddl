@@ -1,0 +1,5 @@
+(define (problem lamps-1)
+  (:domain lamps)
+  (:objects a b c d)
+  (:init (wired a b) (wired a c) (wired d d) (lit c))
+  (:goal (and (lit b) (not (lit c)) (not (lit a)) (not (lit d)))))

@@ -1,0 +1,5 @@
+(define (problem roads-1)
+  (:domain roads)
+  (:objects a b c)
+  (:init (at a) (road a b) (road b a) (road b c) (wall c))
+  (:goal (at b)))
