@@ -9,6 +9,8 @@ use std::alloc::AllocError;
 use strips_task::{Atom, Pattern, Term};
 
 /// The number of the object that a term stands for: `objects` are those of the parameters, and `bound` those of the variables.
+///
+/// No level is past `bound`. It is compared all the same, so that where a caller binds no variable the compiler leaves out the case of one.
 #[inline(always)]
 pub(crate) fn object_of(term: Term, objects: &[u16], bound: &[u16]) -> u16
     requires { IsTermWithin (length objects.now) (length bound.now) term }
@@ -16,7 +18,10 @@ pub(crate) fn object_of(term: Term, objects: &[u16], bound: &[u16]) -> u16
 {
     match term {
         Term::Param(index) => objects[usize::from(index)],
-        Term::Bound(level) => bound[usize::from(level)],
+        Term::Bound(level) => match bound.get(usize::from(level)) {
+            Some(object) => *object,
+            None => level,
+        },
         Term::Object(object) => object,
     }
 }

@@ -11,6 +11,7 @@ use std::alloc::AllocError;
 use strips_task::{Atom, Formula, Node};
 
 /// Whether a formula holds in every state of the task, or in none, if that is seen at once: it is an equality, or a literal of a static predicate.
+#[inline(always)]
 pub(crate) fn lasting_truth(
     arguments: Arguments<'_, '_>,
     formula: &Formula,

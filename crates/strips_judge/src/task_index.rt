@@ -107,6 +107,7 @@ impl<'t> TaskIndex<'t> {
     }
 
     /// Whether a predicate is known to be static.
+    #[inline(always)]
     fn is_static(&self, pred: u16) -> bool
         ensures { IsTrue result → IsTrue (is_static self.now pred) }
     {
@@ -117,6 +118,7 @@ impl<'t> TaskIndex<'t> {
     }
 
     /// Whether the atom that a pattern stands for is true in every state of the task, or in none, if its predicate is static. Takes one hash.
+    #[inline(always)]
     pub(crate) fn lasting_truth(
         &self,
         pattern: &Pattern,

@@ -25,8 +25,8 @@ const EMPTY: u32 = u32::MAX;
 /// instructions.
 #[derive(Clone, Copy)]
 pub(crate) struct Entry {
-    pub hash: u64,
     pub amount: u64,
+    pub hash: u32,
     pub key_start: u32,
     pub key_end: u32,
     pub start: u32,
@@ -115,13 +115,18 @@ impl Memo {
         self.instructions.clear();
     }
 
-    /// The known step that a key spells, with one hash.
+    /// The hash of a key. It is passed on from one call to the next, so that a key is hashed once, and no answer depends on it.
     #[inline(always)]
-    pub(crate) fn find(&self, key: &[u8]) -> Option<KnownStep<'_>>
+    pub(crate) fn hash_of(&self, key: &[u8]) -> u32 {
+        (self.hash.of(key) & 0xFFFF_FFFF) as u32
+    }
+
+    /// The known step that a key with this hash spells.
+    #[inline(always)]
+    pub(crate) fn find(&self, hash: u32, key: &[u8]) -> Option<KnownStep<'_>>
         ensures { IfSome result (λ known. (number : ℕ)
             × (slice_get self.now number ≡ Some (record { key = key.now; code = code_shown known.code; amount = known.amount }))) }
     {
-        let hash = self.hash.of(key);
         match find_entry(hash, key, &self.slots, &self.entries, &self.bytes) {
             Some(number) => Some(known_step(
                 &self.entries[number],
@@ -132,9 +137,10 @@ impl Memo {
         }
     }
 
-    /// Adds a step, unless there is no room for it. Returns whether it did.
+    /// Adds a step whose key has this hash, unless there is no room for it. Returns whether it did.
     pub(crate) fn add(
         &mut self,
+        hash: u32,
         key: &[u8],
         code: StepCode<'_>,
         amount: u64,
@@ -144,7 +150,6 @@ impl Memo {
         ensures not { IfOk result (λ added. added ≡ false → self.new ≡ self.old) }
         ensures err { OnErr result (self.new ≡ self.old) }
     {
-        let hash = self.hash.of(key);
         let lengths = Lengths {
             bytes: self.bytes.len(),
             numbers: self.numbers.len(),
@@ -173,7 +178,7 @@ impl Memo {
 /// The number of the entry with a key.
 #[inline(always)]
 fn find_entry(
-    hash: u64,
+    hash: u32,
     key: &[u8],
     slots: &[u32],
     entries: &[Entry],
@@ -245,7 +250,7 @@ struct Lengths {
 
 /// The entry of a step that is to follow all that a table of these lengths has, unless it has no room there.
 fn entry_for(
-    hash: u64,
+    hash: u32,
     amount: u64,
     key: &[u8],
     code: StepCode<'_>,
@@ -305,7 +310,7 @@ fn make_slots(slots: &mut Vec<u32>, entries: &[Entry]) -> Result<(), AllocError>
 }
 
 /// Puts the number of an entry into the first empty slot from that of its hash on.
-fn put(slots: &mut [u32], hash: u64, number: u32) {
+fn put(slots: &mut [u32], hash: u32, number: u32) {
     let mask = slots.len().wrapping_sub(1);
     let mut slot = hash as usize;
     for _ in 0..slots.len() {

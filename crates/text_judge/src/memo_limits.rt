@@ -7,8 +7,8 @@ pub const MOST_JUDGES: u32 = 32;
 /// The room for what is learned of steps is divided as if there were at least this many judges, so that a single judge does not take all of it.
 const FEWEST_JUDGES: u32 = 4;
 
-/// How many steps all judges keep. Each takes 56 bytes besides its key and its code, and up to 16 for its slots: 18 MiB. With the rooms below, that
-/// is 54 MiB.
+/// How many steps all judges keep. Each takes 48 bytes besides its key and its code, and up to 16 for its slots: 16 MiB. With the rooms below, that
+/// is 52 MiB.
 pub(crate) const ALL_CODES: usize = 262_144;
 
 /// How many numbers the codes of all judges have, of four bytes each: 10 MiB.

@@ -1,21 +1,18 @@
 //! Whether it pays for a judge to look up known steps.
 
-/// After how many look-ups that is decided.
-const TRIAL: u32 = 16_384;
-
-/// One look-up in this many must find a step. To look up a step that is not found takes half as long as to take it by its names.
-const WORTH: u32 = 2;
+/// How many look-ups in vain there may be before it is decided. To look up a step that is not found takes half as long as to take it by its names.
+const TRIAL: u32 = 8_192;
 
 /// For how many plans no step is looked up if it does not pay: the first time, and at most. Each time there are twice as many as before.
 const FIRST_REST: u32 = 16;
 
 const LONGEST_REST: u32 = 4_096;
 
-/// How often a step was looked up and found.
+/// How often a step was looked up and found, or not found.
 #[derive(Clone, Copy)]
 pub(crate) struct MemoPolicy {
-    asked: u32,
     found: u32,
+    missed: u32,
     rested: u32,
     rest: u32,
 }
@@ -23,23 +20,24 @@ pub(crate) struct MemoPolicy {
 impl MemoPolicy {
     pub(crate) fn new() -> MemoPolicy {
         MemoPolicy {
-            asked: 0,
             found: 0,
+            missed: 0,
             rested: 0,
             rest: FIRST_REST,
         }
     }
 
-    /// Whether steps are to be looked up: not if hardly any was found so far.
+    /// Whether steps are to be looked up: not if most of them were not found so far.
     pub(crate) fn asks(&self) -> bool {
-        self.asked < TRIAL || self.found >= self.asked / WORTH
+        self.missed < TRIAL || self.found >= self.missed
     }
 
     /// Notes that a step was looked up, and whether it was found.
     pub(crate) fn note(&mut self, is_found: bool) {
-        self.asked = self.asked.saturating_add(1);
         if is_found {
             self.found = self.found.saturating_add(1);
+        } else {
+            self.missed = self.missed.saturating_add(1);
         }
     }
 

@@ -171,7 +171,7 @@ impl<'t> Judge<'t> {
     }
 
     /// Takes the step that a row spells, if it is known, or if its names are and it is applicable. Otherwise no atom is changed. Returns whether it did.
-    #[inline(always)]
+    #[inline(never)]
     pub(crate) fn take_spelled(&mut self, alloc: Global, row: &[u8]) -> Result<bool, AllocError>
         requires { self.old.count < MOST_STEPS }
         ensures task { self.new.task ≡ self.old.task }
@@ -180,17 +180,22 @@ impl<'t> Judge<'t> {
             → HasTaken self.new (steps ++ step_spelled row.now ∷ [])) }
         ensures not { IfOk result (λ taken. taken ≡ false → (steps : List StepText) → HasTaken self.old steps → HasTaken self.new steps) }
     {
-        if self.take_known(row)? {
+        if !self.policy.asks() {
+            return self.take_by_names(alloc, row, None);
+        }
+        let hash = self.memo.hash_of(row);
+        if self.take_known(hash, row)? {
             return Ok(true);
         }
-        self.take_by_names(alloc, row)
+        self.take_by_names(alloc, row, Some(hash))
     }
 
-    /// Takes the step that a key spells, if it is known and applicable, and otherwise changes nothing. Returns whether it did.
+    /// Takes the step that a key with this hash spells, if it is known and applicable, and otherwise changes nothing. Returns whether it did.
     ///
-    /// Takes one hash of the key, and memory only for the changes of conditional effects. The key may be any bytes: only a step that
+    /// Takes memory only for the changes of conditional effects. The key may be any bytes: only a step that
     /// [`take_by_names`](Judge::take_by_names) learned under the same bytes is known.
-    fn take_known(&mut self, key: &[u8]) -> Result<bool, AllocError>
+    #[inline(always)]
+    fn take_known(&mut self, hash: u32, key: &[u8]) -> Result<bool, AllocError>
         requires { self.old.count < MOST_STEPS }
         ensures task { self.new.task ≡ self.old.task }
         ensures spelled { IfOk result (λ taken. IsTrue taken → IsSpelled key.now) }
@@ -199,11 +204,9 @@ impl<'t> Judge<'t> {
         ensures not { IfOk result (λ taken. taken ≡ false → (steps : List StepText) → HasTaken self.old steps → HasTaken self.new steps) }
         ensures count { IfOk result (λ taken. taken ≡ false → self.new.count ≡ self.old.count) }
     {
-        if !self.policy.asks() {
-            return Ok(false);
-        }
         let scratch = &mut self.scratch;
-        let found = take_remembered(&self.task, &self.memo, &mut self.state, key, scratch)?;
+        let state = &mut self.state;
+        let found = take_remembered(&self.task, &self.memo, state, hash, key, scratch)?;
         self.policy.note(found.is_some());
         let Some(amount) = found else {
             return Ok(false);
@@ -214,11 +217,17 @@ impl<'t> Judge<'t> {
     }
 
     /// Takes the step that a row spells, if its names are known and it is applicable, and otherwise changes no atom. Returns whether it did.
-    /// Learns a step that has a code while there is room.
+    /// Learns a step that has a code while there is room, if its hash is given.
     ///
     /// Takes a few reads of memory for each name and for each atom, fewer for those that were looked up before, and memory for what is new. If memory runs
     /// out, the plan is over.
-    fn take_by_names(&mut self, alloc: Global, row: &[u8]) -> Result<bool, AllocError>
+    #[inline(never)]
+    fn take_by_names(
+        &mut self,
+        alloc: Global,
+        row: &[u8],
+        hash: Option<u32>,
+    ) -> Result<bool, AllocError>
         requires { self.old.count < MOST_STEPS }
         ensures task { self.new.task ≡ self.old.task }
         ensures spelled { IfOk result (λ taken. IsTrue taken → IsSpelled row.now) }
@@ -230,14 +239,14 @@ impl<'t> Judge<'t> {
         if !number_names(&task.task, row, &mut self.name, &mut self.numbers)? {
             return Ok(false);
         }
-        let may_learn = self.may_learn();
+        let hash = if self.may_learn() { hash } else { None };
         let numbers = self.numbers.as_slice();
         let amount = numbered_amount(task, numbers, &mut self.cost_scratch)?;
         let step = NewStep {
             key: row,
             numbers,
             amount,
-            may_learn,
+            hash,
         };
         let is_taken = take_new(
             alloc,
@@ -256,9 +265,9 @@ impl<'t> Judge<'t> {
         Ok(true)
     }
 
-    /// Whether steps may be learned: only if known steps are being found, and not too many atoms have numbers.
+    /// Whether steps may be learned: only if not too many atoms have numbers.
     fn may_learn(&self) -> bool {
-        self.policy.asks() && self.state.later_len() <= LATER_TO_LEARN
+        self.state.later_len() <= LATER_TO_LEARN
     }
 
     /// Takes a step if it is applicable, and otherwise returns why it is not.
