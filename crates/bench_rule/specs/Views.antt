@@ -1,7 +1,7 @@
 -- What seats know of a bench, and how steps change it.
 
 use Rattle.bench_rule.specs.declared.contents.Item.TheVariants.{Nothing}
-use Rattle.std.specs.Prelude.{◌≡◌, ◌⊎◌, ◌<◌, ℕ, zero, suc, ◌+◌, ◌-◌, Bool, true, false, nat_eq, cond, List, [], ◌∷◌, ◌++◌, length, map, replicate, slice_get, slice_index, slice_set, Option, Some, None}
+use Rattle.std.specs.Prelude.{◌≡◌, ◌⊎◌, ◌<◌, ℕ, zero, suc, ◌+◌, ◌-◌, Bool, true, false, nat_eq, cond, List, [], ◌∷◌, ◌++◌, length, map, replicate, slice_get, slice_index, slice_index_or, slice_set, Option, Some, None}
 use Rattle.atomic_table.specs.Table.{State, Me}
 use Rattle.intake_rules.specs.Jobs.{AcceptedPlan}
 use Rattle.bench_rule.specs.declared.contents.Item.{Item}
@@ -134,6 +134,10 @@ pub record IsNext (view : View) (slot : ℕ) (job : AcceptedPlan) : Type 0 where
   pub job_of_slot : slice_get view.jobs slot ≡ Some job
   pub next : rank view.jobs job.planner slot ≡ slice_index view.emitted job.planner
   pub planner_within : job.planner < length view.emitted
+
+-- the planner is one of the bench's, and the owner has not closed it
+abbrev pub IsOpen : View → ℕ → Type 0
+IsOpen view planner = (planner < length view.closed) × (slice_index_or view.closed planner false ≡ false)
 
 -- a job held in a slot
 abbrev pub held_with : ℕ → AcceptedPlan → Held

@@ -8,7 +8,7 @@ ghost use Rattle.intake_rules.specs.Findings.{IsRight};
 ghost use Rattle.intake_rules.specs.Jobs.{AcceptedPlan};
 ghost use Rattle.bench_rule.specs.declared.views.Role.TheVariants.{Worker};
 ghost use Rattle.bench_rule.specs.Plays.{IsSeatOf, Missed, TookOut, SeemsWaiting, IsRightFor};
-ghost use Rattle.bench_rule.specs.Views.{IsNext, HoldsJob, CarriesHeld, KeepsCarried, times, times_held, without_slot, worker_view, with_posted, with_finished, with_handed_back, with_emission, with_close, with_seat_out, with_joined, with_shut, with_note};
+ghost use Rattle.bench_rule.specs.Views.{IsNext, IsOpen, HoldsJob, CarriesHeld, KeepsCarried, times, times_held, without_slot, worker_view, with_posted, with_finished, with_handed_back, with_emission, with_close, with_seat_out, with_joined, with_shut, with_note};
 
 use crate::contents::{Item, finding_in, job_in};
 use crate::plays::{
@@ -34,9 +34,10 @@ pub const EMITTED: u64 = 4;
 /// The first word of a bench that is shut.
 pub const IS_SHUT: u64 = 1;
 
-/// The owner puts a job into the first unused slot, where it waits from then on.
+/// The owner puts a job of an open planner into the first unused slot, where it waits from then on.
 pub fn post(words: &BenchWords, seat: &mut BenchSeat, slot: u32, job: Job)
     requires owner { IsSeatOf words.now seat.old × (seat.old.id ≡ 0) × (seat.old.me.0.lifted ≡ false) }
+    requires open { IsOpen seat.old.me.0 job.planner }
     requires slot { (slot ≡ length seat.old.me.0.jobs) × (slot < words.now.table_id.slots) }
     requires number { job.number ≡ slot }
     ensures seat { (seat.new.table_id ≡ seat.old.table_id) × (seat.new.id ≡ seat.old.id) }

@@ -100,11 +100,11 @@ fn two_with_a_pause(alloc: Global, asked_of_0: &AtomicBool) -> Result<Late<'_>, 
 }
 
 /// What comes of the plans of such an intake, with two workers.
-fn run_late(
+fn run_late<G: Gate + Sync>(
     rt: &(impl AllocGlobal + Threads + Wait + Sync),
     task: &CostedTask,
     intake: &mut Late<'_>,
-    gate: &Watched,
+    gate: &G,
 ) -> Result<Findings, RunFault>
     requires { AreOfFirstPlanner 2 (option_to_list intake.old.first ++ option_to_list intake.old.second) }
 {
@@ -142,5 +142,64 @@ fn judges_while_the_intake_goes_on(rt: HostRuntime) -> Result<(), Fail> {
     let (found, was_asked) = judge_late_at_the_lamp(&rt)?;
     assert_eq!(rt; found, Some(BOTH_VALID));
     assert!(rt; was_asked, "job 0 was taken before the second plan came");
+    Ok(())
+}
+
+/// The gate that holds each of two jobs, job 0 only once job 1 was asked for or that takes too long.
+#[derive(Drop)]
+struct HoldsBoth {
+    asked_of_0: AtomicBool,
+    asked_of_1: AtomicBool,
+}
+
+impl Gate for HoldsBoth {
+    ghost use Rattle.std.specs.Prelude.{⊤};
+
+    ghost may_hold = { λ _ _. ⊤ };
+
+    fn hold(&self, job: u32) -> bool {
+        if job == 0 {
+            self.asked_of_0.store(true, Ordering::SeqCst);
+            let _ = is_raised_in_time(&self.asked_of_1);
+        } else {
+            self.asked_of_1.store(true, Ordering::SeqCst);
+        }
+        true
+    }
+}
+
+/// Why two workers find nothing if each ends for a held job, and whether job 0 was asked for before the second plan came. Then the worker with a
+/// thread of its own has job 0, and since it waits there, the calling thread has job 1.
+fn both_are_held(
+    rt: &(impl AllocGlobal + Threads + Wait + Sync),
+    task: &CostedTask,
+) -> Result<(Option<RunFault>, bool), AllocError> {
+    let gate = HoldsBoth {
+        asked_of_0: AtomicBool::new(false),
+        asked_of_1: AtomicBool::new(false),
+    };
+    let mut intake = two_with_a_pause(rt.alloc(), &gate.asked_of_0)?;
+    let fault = match run_late(rt, task, &mut intake, &gate) {
+        Ok(_) => None,
+        Err(fault) => Some(fault),
+    };
+    Ok((fault, intake.was_asked))
+}
+
+/// The same for plans that light the lamp.
+fn both_are_held_at_the_lamp(
+    rt: &(impl AllocGlobal + Threads + Wait + Sync),
+) -> Result<(Option<RunFault>, bool), ReadFault> {
+    let task = lamp_1(rt.alloc())?;
+    let seen = both_are_held(rt, &task);
+    discard(task);
+    Ok(seen?)
+}
+
+#[test]
+fn the_job_of_the_worker_that_was_started_first_is_told(rt: HostRuntime) -> Result<(), Fail> {
+    let (fault, was_asked) = both_are_held_at_the_lamp(&rt)?;
+    assert!(rt; was_asked, "job 0 was taken before the second plan came");
+    assert_eq!(rt; fault, Some(RunFault::Held(0)));
     Ok(())
 }

@@ -1,5 +1,5 @@
 //! The replay: a list of steps is run on a new desk.
-ghost use Rattle.std.specs.Prelude.{◌≡◌, ◌≤◌, IfOk, IfErr, take, length, map, OnOk, option_map, slice_get};
+ghost use Rattle.std.specs.Prelude.{◌≡◌, ◌≤◌, ◌+◌, IfOk, IfErr, take, length, map, OnOk, option_map, slice_get};
 ghost use Rattle.intake_rules.specs.Rules.{finish};
 ghost use Rattle.intake_core.specs.Asked.{asked};
 ghost use Rattle.intake_core.specs.Faults.{so_far};
@@ -86,22 +86,26 @@ pub fn replay(
         Err(AllocError) => Err(ReplayFault::OutOfMemory {
             replies: Seq::new(alloc),
         }),
-        Ok(desk) => answer_all(alloc, task, desk, steps),
+        Ok(desk) => {
+            let mut left = VecDeque::from_vec(steps.into_vec());
+            answer_all(alloc, task, desk, &mut left)
+        }
     }
 }
 
-/// Runs the steps on a desk.
+/// Takes the steps out, one after another, and runs them on a desk. If memory runs out, it does so for the step that was taken out last: all that
+/// were taken out before it have their replies.
 fn answer_all(
     alloc: Global,
     task: &CostedTask,
     mut desk: Desk,
-    steps: StepsToRun,
+    left: &mut VecDeque<Step>,
 ) -> Result<ReplyList, ReplayFault>
     requires { desk.task ≡ task.now }
-    ensures replies { IfOk result (λ replies. replies ≡ replies_of (replayed desk (map asked steps))) }
-    ensures fault { IfErr result (λ fault. so_far fault ≡ take (length (so_far fault)) (replies_of (replayed desk (map asked steps)))) }
+    ensures replies { IfOk result (λ replies. replies ≡ replies_of (replayed desk (map asked left.old.items))) }
+    ensures fault { IfErr result (λ fault. so_far fault ≡ take (length (so_far fault)) (replies_of (replayed desk (map asked left.old.items)))) }
+    ensures all { IfErr result (λ fault. length (so_far fault) + 1 + length left.new.items ≡ length left.old.items) }
 {
-    let mut left = VecDeque::from_vec(steps.into_vec());
     let mut replies = Seq::new(alloc);
     while let Some(step) = left.pop_front() {
         let Ok(reply) = answer(alloc, task, &mut desk, step) else {

@@ -12,3 +12,4 @@ pub mod Results
 pub mod Rounds
 pub mod Seated
 pub mod WorkDone
+pub mod Opening

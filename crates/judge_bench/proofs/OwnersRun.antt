@@ -2,16 +2,17 @@
 
 use Rattle.std.proofs.Common.{◌≡◌, ◌<◌, ◌≤◌, ℕ, ◌+◌, ◌-◌, zero, suc, Bool, true, false, List, [], ◌∷◌, ◌++◌, Option, Some, None, length, All, refl, ap, sym, ◌∙◌, subst, arith, append_assoc, append-nil, add-one}
 use Rattle.std.specs.Prelude.{replicate, slice_get, slice_index, slice_set}
-use Rattle.std.proofs.lemmas.List.{length_push}
+use Rattle.std.proofs.lemmas.List.{length_push, length-replicate}
 use Rattle.std.proofs.lemmas.List.Elements.{All-tail}
 use Rattle.std.proofs.lemmas.Option.{slice_get_within}
 use Rattle.intake_rules.specs.History.{numbered_from}
 use Rattle.intake_rules.specs.Intake.{jobs_of}
 use Rattle.intake_rules.specs.Jobs.{AcceptedPlan}
 use Rattle.bench_rule.specs.declared.views.View.{View}
-use Rattle.bench_rule.specs.Views.{with_close, with_joined, with_posted, with_seat_out, times, times_held}
-use Rattle.judge_bench.specs.Keeping.{AllKnown, KeptNext, NextIsUnknown, NoneWaits, OnlyAccepts, with_all_joined, with_all_out}
+use Rattle.bench_rule.specs.Views.{with_close, with_joined, with_posted, with_seat_out, with_shut, times, times_held}
+use Rattle.judge_bench.specs.Keeping.{AllKnown, KeptNext, NextIsUnknown, NoneWaits, OnlyAccepts, with_all_closed, with_all_joined, with_all_out, with_more_finished}
 use Rattle.judge_bench.specs.Bookkeeping.{Numbered}
+use Rattle.judge_bench.specs.Runs.{AllAccepted}
 use Rattle.judge_bench.specs.Submissions.{SubmissionParts, job_of, jobs_from}
 use Rattle.judge_bench.proofs.JobsOf.{its_slot}
 
@@ -127,3 +128,27 @@ pub one_out : (before view later : View) (count : ℕ) → view ≡ with_all_out
 one_out before view later count was is =
     let more : before.seats_out + count + 1 ≡ before.seats_out + (count + 1) = omega arith in
     is ∙ ap with_seat_out was ∙ (λ i. record before { seats_out = more i })
+
+-- what the owner finished itself, and then the seats that were handed in
+pub worked_and_joined : (before middle later : View) (count : ℕ) (own others : List ℕ) → middle ≡ with_more_finished before own → later ≡ with_all_joined middle count others
+    → later ≡ with_all_joined before count (own ++ others)
+worked_and_joined before middle later count own others one two =
+    two ∙ ap (λ (v : View). with_all_joined v count others) one
+    ∙ ap (λ l. record before { seats_out = before.seats_out - count; finished = l }) (append_assoc before.finished own others)
+
+-- where all planners were open, all are closed
+pub all_closed : (planners : ℕ) (before later : View) → before.closed ≡ replicate planners false → later ≡ with_all_closed before → later.closed ≡ replicate planners true
+all_closed planners before later were is =
+    ap (λ (v : View). v.closed) is ∙ ap (λ n. replicate n true) (ap length were ∙ length-replicate planners false)
+
+-- once the bench is shut and all seats were handed in, no seat is out
+pub all_in : (plans : List SubmissionParts) (view shut later : View) (count : ℕ) (more : List ℕ) → AllAccepted plans count view → shut ≡ with_shut view → later ≡ with_all_joined shut count more
+    → AllAccepted plans 0 later
+all_in plans view shut later count more accepted one two =
+    let is = two ∙ ap (λ (v : View). with_all_joined v count more) one in
+    let out = accepted.seats_out in
+    let none : view.seats_out - count ≡ 0 = omega arith in record {
+      jobs = ap (λ (v : View). v.jobs) is ∙ accepted.jobs;
+      seats_out = ap (λ (v : View). v.seats_out) is ∙ none;
+      held = ap (λ (v : View). v.held) is ∙ accepted.held;
+    }

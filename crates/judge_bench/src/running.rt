@@ -1,9 +1,7 @@
 //! A run: plans in, findings out.
-ghost use Rattle.std.specs.Prelude.{◌≡◌, ◌≢◌, ◌<◌, ◌≤◌, [], All, IfOk, IfErr, OnOk, ℕ, length, map, vec_len, vec_capacity};
-ghost use Rattle.judge_bench.specs.Findings.{by_planner, findings_of};
-ghost use Rattle.intake_rules.specs.Findings.{right_finding};
-ghost use Rattle.judge_bench.specs.Keeping.{KeptFindings};
-ghost use Rattle.judge_bench.specs.Bookkeeping.{Numbered};
+ghost use Rattle.std.specs.Prelude.{◌≡◌, ◌≢◌, ◌<◌, ◌≤◌, [], All, IfOk, IfErr, OnOk, ℕ, List, length, replicate, true, vec_len, vec_capacity};
+ghost use Rattle.judge_bench.specs.Findings.{findings_of};
+ghost use Rattle.judge_bench.specs.Keeping.{KeptFindings, with_all_joined};
 ghost use Rattle.judge_bench.specs.Runs.{AllAccepted, FoundOrHeld, IsReady, MayRun};
 ghost use Rattle.judge_bench.specs.Seats.{SitsAt};
 ghost use Rattle.judge_bench.specs.Workers.{AllWorkAt};
@@ -11,7 +9,7 @@ ghost use Rattle.judge_bench.specs.declared.running.RunFault.TheVariants.{Held};
 
 use crate::collector::Collector;
 use crate::crew::{Crew, NoThread, Shared, join_all, start_all, take_part};
-use crate::{Bench, Findings, Gate, Intake};
+use crate::{Bench, Findings, Gate, Intake, Owner};
 use plan_cost::CostedTask;
 use std::alloc::{AllocError, Global};
 use std::sync::Wait;
@@ -124,7 +122,7 @@ fn run_in_scope<'s, E, R: Threads, I: Intake, G: Gate + Sync>(
     rt: &R,
     shared: &Shared<'s, G>,
     mut collector: Collector,
-    mut crew: Crew<G>,
+    crew: Crew<G>,
     intake: &mut I,
 ) -> Result<Findings, RunFault>
     requires ready { IsReady shared.now.bench.now shared.now.task.now shared.now.planners collector.owner collector.findings }
@@ -132,39 +130,62 @@ fn run_in_scope<'s, E, R: Threads, I: Intake, G: Gate + Sync>(
     requires plans { MayRun shared.now.bench.now.setting.slots shared.now.planners (I.to_come intake.old) }
     ensures { FoundOrHeld shared.now.task.now shared.now.planners (I.to_come intake.old) (G.may_hold shared.now.gate.now) result }
 {
-    match start_and_submit(scope, shared, &mut collector, &mut crew, intake) {
-        Ok(()) => drain(rt, shared, collector, crew),
+    judge_with_crew(scope, rt, shared, &mut collector, crew, intake)?;
+    Ok(collector.finish(shared.alloc, shared.bench, shared.task, shared.planners)?)
+}
+
+/// Has all plans accepted and judged by all workers, and waits for those that are threads of their own. The bench is shut afterwards, whatever happens:
+/// as long as it is open, they would not end.
+fn judge_with_crew<'s, E, R: Threads, I: Intake, G: Gate + Sync>(
+    scope: &Scope<'s, E>,
+    rt: &R,
+    shared: &Shared<'s, G>,
+    collector: &mut Collector,
+    mut crew: Crew<G>,
+    intake: &mut I,
+) -> Result<(), RunFault>
+    requires ready { IsReady shared.now.bench.now shared.now.task.now shared.now.planners collector.old.owner collector.old.findings }
+    requires crew { (crew.items ≡ []) × (vec_len crew ≡ 0) × (shared.now.threads ≤ vec_capacity crew) × (shared.now.threads ≤ 32) }
+    requires plans { MayRun shared.now.bench.now.setting.slots shared.now.planners (I.to_come intake.old) }
+    ensures seat { SitsAt shared.now.bench.now collector.new.owner }
+    ensures shut { collector.new.owner.view.shut ≡ true }
+    ensures closed { OnOk result (collector.new.owner.view.closed ≡ replicate shared.now.planners true) }
+    ensures accepted { OnOk result (AllAccepted (I.to_come intake.old) 0 collector.new.owner.view) }
+    ensures kept { OnOk result (KeptFindings shared.now.task.now shared.now.planners collector.new.owner.view collector.new.findings) }
+    ensures held { IfErr result (λ fault. (job : ℕ) → fault ≡ Held job → G.may_hold shared.now.gate.now job) }
+{
+    let started = start_and_submit(scope, shared, collector, &mut crew, intake);
+    collector.owner.shut(shared.bench);
+    match started {
+        Ok(()) => drain(rt, shared, &mut collector.owner, crew),
         Err(fault) => {
-            collector.owner.shut(shared.bench);
             let _held = join_all(rt, shared, crew, &mut collector.owner);
             Err(fault)
         }
     }
 }
 
-/// The rest of a run once all plans are accepted: the owner's thread takes part, waits for the other threads, and judges what is left.
+/// The owner's thread works until no job waits at the bench, which is shut, and then waits for the other threads.
 fn drain<R: Threads, G: Gate + Sync>(
     rt: &R,
     shared: &Shared<'_, G>,
-    mut collector: Collector,
+    owner: &mut Owner,
     crew: Crew<G>,
-) -> Result<Findings, RunFault>
-    requires seat { SitsAt shared.now.bench.now collector.owner }
-    requires setting { (shared.now.bench.now.setting.task.value ≡ shared.now.task.now) × (shared.now.bench.now.setting.planners ≡ shared.now.planners) }
+) -> Result<(), RunFault>
+    requires seat { SitsAt shared.now.bench.now owner.old }
+    requires task { shared.now.bench.now.setting.task.value ≡ shared.now.task.now }
     requires crew { AllWorkAt shared.now.bench.now shared.now.gate.now crew.items × (length crew.items ≤ 32) }
-    requires out { (collector.owner.view.seats_out ≡ length crew.items) × (collector.owner.view.held ≡ []) }
-    requires jobs { Numbered collector.owner.view.jobs }
-    requires kept { KeptFindings shared.now.task.now shared.now.planners collector.owner.view collector.findings }
-    ensures findings { IfOk result (λ findings. findings ≡ by_planner shared.now.planners (map (right_finding shared.now.task.now) collector.owner.view.jobs)) }
+    requires out { owner.old.view.seats_out ≡ length crew.items }
+    ensures seat { SitsAt shared.now.bench.now owner.new }
+    ensures view { (more : List ℕ) × (owner.new.view ≡ with_all_joined owner.old.view (length crew.items) more) }
     ensures held { IfErr result (λ fault. (job : ℕ) → fault ≡ Held job → G.may_hold shared.now.gate.now job) }
 {
-    collector.owner.shut(shared.bench);
     let judges = crew.len() as u32 + 1;
-    let own = take_part(shared, &mut collector.owner, judges);
-    let others = join_all(rt, shared, crew, &mut collector.owner);
+    let own = take_part(shared, owner, judges);
+    let others = join_all(rt, shared, crew, owner);
     match others.or(own) {
         Some(job) => Err(RunFault::Held(job)),
-        None => Ok(collector.finish(shared.alloc, shared.bench, shared.task, shared.planners)?),
+        None => Ok(()),
     }
 }
 
@@ -183,6 +204,7 @@ fn start_and_submit<'s, E, I: Intake, G: Gate + Sync>(
     ensures crew { AllWorkAt shared.now.bench.now shared.now.gate.now crew.new.items }
     ensures count { OnOk result (length crew.new.items ≡ shared.now.threads) }
     ensures accepted { OnOk result (AllAccepted (I.to_come intake.old) (length crew.new.items) collector.new.owner.view) }
+    ensures closed { OnOk result (collector.new.owner.view.closed ≡ replicate shared.now.planners true) }
     ensures kept { OnOk result (KeptFindings shared.now.task.now shared.now.planners collector.new.owner.view collector.new.findings) }
     ensures held { IfErr result (λ fault. (job : ℕ) → fault ≢ Held job) }
 {

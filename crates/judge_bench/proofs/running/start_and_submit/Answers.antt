@@ -4,6 +4,7 @@ use Rattle.bench_rule.specs.Views.{first_view}
 use Rattle.judge_bench.specs.Findings.{nothing_kept}
 use Rattle.judge_bench.specs.Keeping.{KeptFindings, with_all_out}
 use Rattle.judge_bench.proofs.Emissions.{nothing_emitted, unmoved}
+use Rattle.judge_bench.proofs.OwnersRun.{all_closed}
 use Rattle.judge_bench.proofs.running.start_and_submit.Goals as goal
 
 pub accept_all-requires-clause-kept : goal.accept_all-requires-clause-kept

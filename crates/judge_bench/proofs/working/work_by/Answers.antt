@@ -1,6 +1,15 @@
-use Rattle.std.proofs.Common.{◌+◌, refl, sym, ◌∙◌, arith}
-use Rattle.judge_bench.proofs.WorkDone.{job_finished, looked, round_without_job, still_noted}
+use Rattle.std.proofs.Common.{◌+◌, [], refl, sym, ◌∙◌, arith}
+use Rattle.judge_bench.proofs.WorkDone.{ends_idle, ends_shut, ends_unjudged, job_finished, looked, nothing_done, round_without_job, still_noted}
 use Rattle.judge_bench.proofs.working.work_by.Goals as goal
+
+pub loop-rounds-init : goal.loop-rounds-init
+loop-rounds-init g c = record {
+  sits = c.requires.seat;
+  task = c.requires.task;
+  so_far = record { rounds = []; done = []; went = nothing_done c.args.bench.now.setting.slots c.args.seat.view; none = refl; all = refl };
+  within = omega arith;
+  shut = λ e. cc;
+}
 
 pub loop-rounds-preserved-in-Some : goal.loop-rounds-preserved-in-Some
 loop-rounds-preserved-in-Some g c =
@@ -32,3 +41,18 @@ loop-rounds-preserved g c =
       within = omega arith;
       shut = seen.1;
     }
+
+pub returns-in-Err-clause-worked : goal.returns-in-Err-clause-worked
+returns-in-Err-clause-worked g c =
+    ends_unjudged c.args.bench.now.setting.slots c.loop-rounds.rounds c.args.seat.view c.loop-rounds.seat.view c.loop-rounds.invariant.so_far (g.G.Gate.may_hold c.args.gate.now) c.args.idle
+    c.in-Some.ticket c.take.new.self.view c.judge_one.new.seat.view c.in-Err.fault c.in-Some.ensures.took c.in-Err.ensures.handed_back c.in-Err.ensures.reason (omega arith)
+
+pub returns-then-shut-clause-worked : goal.returns-then-shut-clause-worked
+returns-then-shut-clause-worked g c =
+    ends_shut c.args.bench.now.setting.slots c.loop-rounds.rounds c.args.seat.view c.loop-rounds.seat.view c.loop-rounds.invariant.so_far (g.G.Gate.may_hold c.args.gate.now) c.args.idle
+    c.take.new.self.view c.in_default.ensures.took (c.loop-rounds.invariant.shut c.if-shut.true)
+
+pub returns-clause-worked : goal.returns-clause-worked
+returns-clause-worked g c =
+    let within = c.loop-rounds.invariant.within in
+    ends_idle c.args.bench.now.setting.slots c.loop-rounds.rounds c.args.seat.view c.loop-rounds.seat.view c.loop-rounds.invariant.so_far (g.G.Gate.may_hold c.args.gate.now) c.args.idle (omega arith)

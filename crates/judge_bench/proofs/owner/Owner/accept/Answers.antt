@@ -1,8 +1,15 @@
-use Rattle.std.proofs.Common.{rules, ◌≡◌, ◌<◌, length, ap, sym, ◌∙◌, arith}
+use Rattle.std.proofs.Common.{rules, ◌≡◌, ◌<◌, length, None, ap, sym, ◌∙◌, subst, arith}
 use Rattle.atomic_table.specs.Seated.{TableId}
-use Rattle.judge_bench.specs.Seats.{SeatFacts}
+use Rattle.intake_rules.specs.Rules.{submit_refusal}
+use Rattle.judge_bench.specs.Seats.{SeatFacts, accepted_intake}
+use Rattle.judge_bench.proofs.Opening.{open_if_accepted}
 use Rattle.judge_bench.proofs.Owning.{kept_as, post_keeps}
 use Rattle.judge_bench.proofs.owner.Owner.accept.Goals as goal
+
+pub post-requires-clause-open : goal.post-requires-clause-open
+post-requires-clause-open c =
+    open_if_accepted c.args.bench.now.setting.slots c.self.inside.seat.me.0 c.args.planner
+    (subst (λ (s : SeatFacts). submit_refusal c.args.bench.now.setting.slots (accepted_intake s.view) c.args.planner ≡ None) (sym c.self.view_is) c.requires.open)
 
 pub invariant_of-self : goal.invariant_of-self
 invariant_of-self c =
