@@ -1,7 +1,7 @@
 -- What the words of a command line say.
 
 use Rattle.std.specs.Prelude.{ℕ, not, Bool, true, false, List, [], ◌∷◌, length, Option, Some, None, codes, bytes_eq, nat_eq, nat_lt, ◌&&◌, ◌||◌, if◌then◌else◌}
-use Rattle.std.specs.List.{before_first, after_first, position_or_len, list_any}
+use Rattle.std.specs.List.{before_first, after_first, position_or_len}
 use Rattle.std.specs.Option.{option_or}
 
 -- the command is this one
@@ -22,13 +22,23 @@ is_short_help [] = false
 is_short_help (dash ∷ []) = false
 is_short_help (dash ∷ letter ∷ letters) = nat_eq dash 45 && (nat_eq letter 104 || nat_eq letter 86)
 
--- the word asks for help or for the version: `help`, `--help`, `--version`, or a group of short options that begins with `-h` or `-V`
+-- the word is an option that asks for help or for the version: `--help`, `--version`, or a group of short options that begins with `-h` or `-V`
 abbrev pub is_help : List ℕ → Bool
-is_help word = bytes_eq word (codes "help") || (bytes_eq word (codes "--help") || (bytes_eq word (codes "--version") || is_short_help word))
+is_help word = bytes_eq word (codes "--help") || (bytes_eq word (codes "--version") || is_short_help word)
 
--- some word asks for help or for the version
+-- one of these words asks for help or for the version; after the word `--` there are no options
+unfoldable pub has_help : List (List ℕ) → Bool
+has_help [] = false
+has_help (word ∷ words) = (if bytes_eq word (codes "--") then false else if is_help word then true else has_help words)
+
+-- the words that follow the program's name
+abbrev pub behind_program : List (List ℕ) → List (List ℕ)
+behind_program [] = []
+behind_program (program ∷ words) = words
+
+-- the command line asks for help or for the version: the command is `help`, or an option asks for it
 abbrev pub asks_for_help : List (List ℕ) → Bool
-asks_for_help words = list_any is_help words
+asks_for_help words = has_command (codes "help") words || has_help (behind_program words)
 
 -- the value of an option in a word, if the word is the option, an equals sign and a value
 abbrev pub joined_value : List ℕ → List ℕ → Option (List ℕ)

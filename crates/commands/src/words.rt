@@ -14,7 +14,7 @@
 
 ghost use Rattle.std.specs.Prelude.{◌≡◌, false, true, map, option_map, ◌++◌, IfOk, OnOk};
 ghost use Rattle.std.specs.String.{string_bytes};
-ghost use Rattle.commands.specs.CommandLine.{arguments, asks_for_help, first_word, ends_at_first_t, has_command, is_help, is_option, is_short_help, is_tolerance, joined_value, operands, takes_a_value, value_of};
+ghost use Rattle.commands.specs.CommandLine.{arguments, asks_for_help, behind_program, first_word, ends_at_first_t, has_command, has_help, is_help, is_option, is_short_help, is_tolerance, joined_value, operands, takes_a_value, value_of};
 
 use std::alloc::{AllocError, Global};
 
@@ -38,14 +38,35 @@ pub(crate) fn arguments(words: &[String]) -> &[String]
     }
 }
 
-/// Whether some word asks for help or for the version.
-#[tactic(auto, using(crate::proofs::HelpLemmas::help_steps))]
+/// Whether a command line asks for help or for the version: by the command `help`, or by an option before the word `--`.
 pub(crate) fn asks_for_help(words: &[String]) -> bool
     ensures { result ≡ asks_for_help (map string_bytes words.now) }
 {
+    has_command(words, "help") || has_help(behind_program(words))
+}
+
+/// The words that follow the program's name.
+fn behind_program(words: &[String]) -> &[String]
+    ensures { map string_bytes result.now ≡ behind_program (map string_bytes words.now) }
+{
+    match words {
+        [_, behind @ ..] => behind,
+        _ => &[],
+    }
+}
+
+/// Whether an option before the word `--` asks for help or for the version.
+#[tactic(auto, using(crate::proofs::HelpLemmas::help_steps))]
+fn has_help(words: &[String]) -> bool
+    ensures { result ≡ has_help (map string_bytes words.now) }
+{
     let mut rest = words;
     'words: while let Some((word, behind)) = rest.split_first() {
-        if is_help(word.as_str()) {
+        let word = word.as_str();
+        if word == "--" {
+            return false;
+        }
+        if is_help(word) {
             return true;
         }
         rest = behind;
@@ -53,11 +74,11 @@ pub(crate) fn asks_for_help(words: &[String]) -> bool
     false
 }
 
-/// Whether a word asks for help or for the version.
+/// Whether a word is an option that asks for help or for the version.
 fn is_help(word: &str) -> bool
     ensures { result ≡ is_help word.now }
 {
-    word == "help" || word == "--help" || word == "--version" || is_short_help(word)
+    word == "--help" || word == "--version" || is_short_help(word)
 }
 
 /// Whether a word begins with `-h` or `-V`.

@@ -14,7 +14,7 @@ use Rattle.task_reader.specs.declared.readers.TaskFault.{TaskFault}
 use Rattle.task_reader.specs.declared.readers.TaskFault.TheVariants as reader
 use Rattle.task_reader.specs.Texts.{task_in}
 use Rattle.judge_engine.specs.Answer.{too_large, plan_count, most_planners, most_plans}
-use Rattle.judge_engine.specs.Refusal.{IsOfTexts, ReadingCallsFor, TextsCallForIn}
+use Rattle.judge_engine.specs.Refusal.{IsOfTexts, IsOfThreads, ReadingCallsFor, TextsCallForIn}
 use Rattle.judge_engine.proofs.TextFaults.{text_fault_kind}
 
 -- one error at most
@@ -87,6 +87,18 @@ module _ (dialect : Dialect) (domain problem : List ℕ) (bundles : List BundleV
   pub read_not_held : (fault : JudgeFault) → (fault ≢ OutOfMemory → ReadingCallsFor dialect domain problem fault) → (job : ℕ) → fault ≢ Held job
   read_not_held fault cause job is =
       subst (ReadingCallsFor dialect domain problem) is (cause (λ memory. let clash : Held job ≡ OutOfMemory = sym is ∙ memory in cc))
+
+  -- and nothing about threads
+  pub read_no_threads : (fault : JudgeFault) → (fault ≢ OutOfMemory → ReadingCallsFor dialect domain problem fault) → IsOfThreads fault → ⊥
+  read_no_threads NoThread cause of_threads = cause (λ memory. let clash : NoThread ≡ OutOfMemory = memory in cc)
+  read_no_threads (Held job) cause of_threads = cause (λ memory. let clash : Held job ≡ OutOfMemory = memory in cc)
+  read_no_threads (Domain fault) cause of_threads = of_threads
+  read_no_threads (Problem fault) cause of_threads = of_threads
+  read_no_threads (TooLarge large) cause of_threads = of_threads
+  read_no_threads TooManyPlanners cause of_threads = of_threads
+  read_no_threads TooManyPlans cause of_threads = of_threads
+  read_no_threads (Steps fault) cause of_threads = of_threads
+  read_no_threads OutOfMemory cause of_threads = of_threads
 
 -- all that readers report but want of memory lies in the texts
 pub read_of_texts : (dialect : Dialect) (domain problem : List ℕ) (fault : JudgeFault) → ReadingCallsFor dialect domain problem fault → IsOfTexts fault

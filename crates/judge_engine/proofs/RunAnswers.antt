@@ -1,6 +1,6 @@
 -- When the bytes of a run have an answer.
 
-use Rattle.std.proofs.Common.{◌≡◌, ℕ, ◌<◌, ◌≤◌, Bool, true, false, ◌&&◌, List, length, map, nat_le, Option, None, Some, is_none, ap, sym, ◌∙◌, refl, if◌then◌else◌}
+use Rattle.std.proofs.Common.{◌≡◌, ◌≢◌, ℕ, ◌<◌, ◌≤◌, Bool, true, false, ◌&&◌, List, length, map, nat_le, Option, None, Some, is_none, ap, sym, ◌∙◌, refl, if◌then◌else◌}
 use Rattle.std.proofs.lemmas.Bool.{le-leb, lt-leb}
 use Rattle.std.specs.Option.{option_map}
 use Rattle.strips_task.specs.declared.costs.CostedTask.{CostedTask}
@@ -64,3 +64,10 @@ module _ (dialect : Dialect) (format : Format) (domain problem : List ℕ) (bund
   some_of_task task text e few fitting f g =
       by true true true (ap is_none (sym e)) (le-leb (length bundles) most_planners few) (le-leb (plan_count bundles) most_plans fitting)
       ∙ ap of_task f ∙ ap Some (sym g)
+
+  -- so there is a report
+  pub answered : (task : CostedTask) → None ≡ too_large domain problem bundles → length bundles ≤ most_planners → plan_count bundles ≤ most_plans
+      → task_in dialect domain problem ≡ Some task → answer_as dialect format domain problem bundles ≢ None
+  answered task e few fitting f none =
+      let text = report format task (map (planner_of task) bundles) in
+      let clash : ◌≡◌ {A = Option (List ℕ)} (Some text) None = sym (some_of_task task text e few fitting f refl) ∙ none in cc

@@ -11,7 +11,6 @@ use Rattle.plan_text.specs.PlanReading.{plan_of}
 use Rattle.pddl_syntax.specs.declared.dialect.Dialect.{Dialect}
 use Rattle.pddl_syntax.specs.declared.dialect.Dialect.TheVariants.{Strips}
 use Rattle.task_reader.specs.Texts.{task_in}
-use Rattle.judge_engine.specs.declared.inlet.TheConstants.{FILE_LIMIT}
 use Rattle.judge_engine.specs.declared.fault.Input.{Input}
 use Rattle.judge_engine.specs.declared.fault.Input.TheVariants as input
 use Rattle.judge_engine.specs.Bundle.{BundleValue}
@@ -19,6 +18,10 @@ use Rattle.report_text.specs.declared.format.Format.{Format}
 use Rattle.report_text.specs.declared.format.Format.TheVariants.{Lines}
 use Rattle.report_text.specs.Format.{report}
 use Rattle.report_text.specs.Report.{Judged, Planner}
+
+-- how many bytes a file may have
+abbrev pub file_limit : ℕ
+file_limit = 16777216
 
 -- how many planners a run may have
 abbrev pub most_planners : ℕ
@@ -42,7 +45,7 @@ planner_of task bundle = record { name = bundle.name; plans = map (judged task) 
 
 -- whether a text is over the limit of a file
 abbrev pub is_over_limit : List ℕ → Bool
-is_over_limit text = nat_lt FILE_LIMIT (length text)
+is_over_limit text = nat_lt file_limit (length text)
 
 -- the first input that is over the limit of a file: the domain, the problem, then the planners' files
 unfoldable pub too_large : List ℕ → List ℕ → List BundleValue → Option Input

@@ -26,6 +26,18 @@ IsOfTexts OutOfMemory = ⊥
 IsOfTexts NoThread = ⊥
 IsOfTexts (Held job) = ⊥
 
+-- the fault lies in the threads of the run: one could not be started, or a job is held
+abbrev pub IsOfThreads : JudgeFault → Type 0
+IsOfThreads (TooLarge large) = ⊥
+IsOfThreads TooManyPlanners = ⊥
+IsOfThreads (Domain fault) = ⊥
+IsOfThreads (Problem fault) = ⊥
+IsOfThreads TooManyPlans = ⊥
+IsOfThreads (Steps fault) = ⊥
+IsOfThreads OutOfMemory = ⊥
+IsOfThreads NoThread = ⊤
+IsOfThreads (Held job) = ⊤
+
 -- the refusal for a fault of the run over the texts
 abbrev pub refusal_of_run : RunFault → JudgeFault
 refusal_of_run run.OutOfMemory = OutOfMemory

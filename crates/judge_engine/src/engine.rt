@@ -9,7 +9,7 @@ ghost use Rattle.task_reader.specs.Texts.{task_in};
 ghost use Rattle.judge_bench.specs.Findings.{findings_of};
 ghost use Rattle.judge_engine.specs.Answer.{answer, answer_as, planner_of, too_large, plan_count, most_planners, most_plans};
 ghost use Rattle.judge_engine.specs.Plans.{AreCutsOf, handed_in, plans_of_cuts, plans_of_files};
-ghost use Rattle.judge_engine.specs.Refusal.{IsOfTexts, ReadingCallsFor, TextsCallFor, TextsCallForIn};
+ghost use Rattle.judge_engine.specs.Refusal.{IsOfTexts, IsOfThreads, ReadingCallsFor, TextsCallFor, TextsCallForIn};
 ghost use Rattle.report_text.specs.Format.{report};
 ghost use Rattle.judge_engine.specs.declared.fault.Input.{Input};
 ghost use Rattle.judge_engine.specs.declared.fault.JudgeFault.TheVariants.{OutOfMemory, TooLarge, TooManyPlanners, TooManyPlans, Domain, Held};
@@ -52,6 +52,7 @@ pub fn judge_bytes<R: Threads + Wait + Sync, G: Gate + Sync>(
     ensures answer { IfOk result (λ report. answer domain.now problem.now bundles.now ≡ Some report) }
     ensures refusal { IfErr result (λ fault. IsOfTexts fault → answer domain.now problem.now bundles.now ≡ None) }
     ensures cause { IfErr result (λ fault. IsOfTexts fault → TextsCallFor domain.now problem.now bundles.now fault) }
+    ensures threads { IfErr result (λ fault. IsOfThreads fault → answer domain.now problem.now bundles.now ≢ None) }
     ensures held { IfErr result (λ fault. (job : ℕ) → fault ≡ Held job → G.may_hold gate.now job) }
 
     // Faults that take no memory to find are always reported.
@@ -113,6 +114,7 @@ pub fn judge_run<R: Threads + Wait + Sync, G: Gate + Sync>(
     ensures answer { IfOk result (λ report. answer_as input.now.dialect input.now.format input.now.domain.now input.now.problem.now input.now.bundles.now ≡ Some report) }
     ensures refusal { IfErr result (λ fault. IsOfTexts fault → answer_as input.now.dialect input.now.format input.now.domain.now input.now.problem.now input.now.bundles.now ≡ None) }
     ensures cause { IfErr result (λ fault. IsOfTexts fault → TextsCallForIn input.now.dialect input.now.domain.now input.now.problem.now input.now.bundles.now fault) }
+    ensures threads { IfErr result (λ fault. IsOfThreads fault → answer_as input.now.dialect input.now.format input.now.domain.now input.now.problem.now input.now.bundles.now ≢ None) }
     ensures held { IfErr result (λ fault. (job : ℕ) → fault ≡ Held job → G.may_hold gate.now job) }
 
     // Faults that take no memory to find are always reported.
@@ -196,6 +198,7 @@ fn judge_planners<R: Threads + Wait + Sync, G: Gate + Sync>(
     requires planners { length input.now.bundles.now ≤ 64 }
     ensures report { IfOk result (λ text. (plan_count input.now.bundles.now ≤ most_plans) × (text ≡ report input.now.format task.now (map (planner_of task.now) input.now.bundles.now))) }
     ensures refusal { IfErr result (λ fault. IsOfTexts fault → (fault ≡ TooManyPlans) × (most_plans < plan_count input.now.bundles.now)) }
+    ensures counted { IfErr result (λ fault. IsOfThreads fault → plan_count input.now.bundles.now ≤ most_plans) }
     ensures held { IfErr result (λ fault. (job : ℕ) → fault ≡ Held job → G.may_hold gate.now job) }
 {
     match cut_plans(alloc, input.bundles) {

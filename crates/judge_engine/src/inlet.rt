@@ -7,7 +7,7 @@ ghost use Rattle.std.specs.Io.KnownBytes.{ReadConsumes, Consumes, IsAtEnd};
 ghost use Rattle.judge_engine.specs.Inlet.{get_fails};
 ghost use Rattle.judge_engine.specs.Inlet.{file_named};
 ghost use Rattle.judge_engine.specs.declared.inlet.InFault.TheVariants.{Unreadable, OutOfMemory};
-ghost use Rattle.judge_engine.specs.declared.inlet.TheConstants.{FILE_LIMIT};
+ghost use Rattle.judge_engine.specs.Answer.{file_limit};
 
 use crate::outlet::Failed;
 use std::alloc::Global;
@@ -80,6 +80,11 @@ pub trait Inlet {
     /// Whether a get has failed.
     fn has_failed(&self) -> bool
         ensures { result ≡ failed self.now };
+
+    /// How many bytes will probably come, for which memory is taken at once. More or fewer may come; nothing but speed depends on it.
+    fn expected(&self) -> usize {
+        0
+    }
 }
 
 /// A reader of the standard library as an inlet. Any error of the reader is [`Failed`], an interrupted read too.
@@ -87,6 +92,7 @@ pub trait Inlet {
 pub struct Feed<R> {
     reader: R,
     failed: bool,
+    expected: usize,
 }
 
 impl<R: Read> Feed<R> {
@@ -95,9 +101,18 @@ impl<R: Read> Feed<R> {
         ensures unused { ⟦<Feed<R> as Inlet>⟧.failed result ≡ false }
         ensures bytes { ⟦<Feed<R> as Inlet>⟧.left result ≡ R.remaining reader }
     {
+        Feed::with_size(reader, 0)
+    }
+
+    /// An inlet from which nothing was read yet, and from which probably as many bytes will come as `expected` says.
+    pub fn with_size(reader: R, expected: usize) -> Self
+        ensures unused { ⟦<Feed<R> as Inlet>⟧.failed result ≡ false }
+        ensures bytes { ⟦<Feed<R> as Inlet>⟧.left result ≡ R.remaining reader }
+    {
         Feed {
             reader,
             failed: false,
+            expected,
         }
     }
 }
@@ -120,6 +135,10 @@ impl<R: Read> Inlet for Feed<R> {
     fn has_failed(&self) -> bool {
         self.failed
     }
+
+    fn expected(&self) -> usize {
+        self.expected
+    }
 }
 
 /// The bytes of an inlet up to its end, or the first 16,777,217 if there are more.
@@ -127,31 +146,15 @@ impl<R: Read> Inlet for Feed<R> {
 /// It is refused as unreadable exactly if a get has failed.
 pub fn read_file<I: Inlet>(alloc: Global, inlet: &mut I) -> Result<Vec<u8>, InFault>
     requires { I.failed inlet.old ≡ false }
-    ensures limit { IfOk result (λ bytes. length bytes.items ≤ FILE_LIMIT + 1) }
-    ensures text { IfOk result (λ bytes. IfSome (I.left inlet.old) (λ all. bytes.items ≡ take (FILE_LIMIT + 1) all)) }
+    ensures limit { IfOk result (λ bytes. length bytes.items ≤ file_limit + 1) }
+    ensures text { IfOk result (λ bytes. IfSome (I.left inlet.old) (λ all. bytes.items ≡ take (file_limit + 1) all)) }
     ensures failure { (result ≡ Err InFault.Unreadable) ↔ (I.failed inlet.new ≡ true) }
 
     // Afterwards the bytes are gone from the inlet, which is at its end if they are within the limit.
     ensures given { IfOk result (λ bytes. Consumes (I.left inlet.old) (I.left inlet.new) bytes.items) }
-    ensures ended { IfOk result (λ bytes. length bytes.items ≤ FILE_LIMIT → IsAtEnd (I.left inlet.new)) }
+    ensures ended { IfOk result (λ bytes. length bytes.items ≤ file_limit → IsAtEnd (I.left inlet.new)) }
 {
-    read_expected(alloc, inlet, 0)
-}
-
-/// The same, with memory for `expected` bytes taken at once. More or fewer may come.
-fn read_expected<I: Inlet>(
-    alloc: Global,
-    inlet: &mut I,
-    expected: usize,
-) -> Result<Vec<u8>, InFault>
-    requires { I.failed inlet.old ≡ false }
-    ensures limit { IfOk result (λ bytes. length bytes.items ≤ FILE_LIMIT + 1) }
-    ensures text { IfOk result (λ bytes. IfSome (I.left inlet.old) (λ all. bytes.items ≡ take (FILE_LIMIT + 1) all)) }
-    ensures failure { (result ≡ Err InFault.Unreadable) ↔ (I.failed inlet.new ≡ true) }
-    ensures given { IfOk result (λ bytes. Consumes (I.left inlet.old) (I.left inlet.new) bytes.items) }
-    ensures ended { IfOk result (λ bytes. length bytes.items ≤ FILE_LIMIT → IsAtEnd (I.left inlet.new)) }
-{
-    let Ok(mut bytes) = Vec::with_capacity(alloc, expected.min(FILE_LIMIT + 1)) else {
+    let Ok(mut bytes) = Vec::with_capacity(alloc, inlet.expected().min(FILE_LIMIT + 1)) else {
         return Err(InFault::OutOfMemory);
     };
     let mut piece = [0u8; PIECE];
@@ -206,7 +209,7 @@ impl<R: std::rt::Files + AllocGlobal> Sources for Files<'_, R> {
             Ok(metadata) => usize::try_from(metadata.len()).unwrap_or(0),
             Err(_) => 0,
         };
-        read_expected(self.runtime.alloc(), &mut Feed::new(file), expected)
+        read_file(self.runtime.alloc(), &mut Feed::with_size(file, expected))
     }
 
     fn absence(&self, name: &str) -> Absence {

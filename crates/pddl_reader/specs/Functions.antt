@@ -8,7 +8,6 @@ use Rattle.formulas.specs.declared.atoms.Atom.{Atom}
 use Rattle.strips_task.specs.Names.{number_named}
 use Rattle.strips_task.specs.declared.amounts.Amount.{Amount}
 use Rattle.strips_task.specs.declared.amounts.Amount.TheVariants.{Number, Function}
-use Rattle.strips_task.specs.declared.amounts.TheConstants.{MOST_INCREASES}
 use Rattle.strips_task.specs.declared.costs.Costs.{Costs}
 use Rattle.strips_task.specs.declared.values.Given.{Given}
 use Rattle.strips_task.specs.declared.values.Given.TheVariants.{First, Again, Another}
@@ -54,10 +53,14 @@ unfoldable pub amount_behind : List Amount → Option Amount → Option (List Am
 amount_behind amounts None = None
 amount_behind amounts (Some amount) = Some (amounts ++ amount ∷ [])
 
+-- how many increases of the total cost an action may have
+abbrev pub most_increases : ℕ
+most_increases = 32
+
 -- the increases of an action with one more, if `total-cost` is declared and there are fewer increases than the limit
 unfoldable pub with_increase : Vocabulary → Scope → List Amount → AmountForm → Option (List Amount)
 with_increase vocabulary scope increases amount =
-    guard (nat_lt (length increases) MOST_INCREASES)
+    guard (nat_lt (length increases) most_increases)
     (guard (counts_costs vocabulary.functions.predicates) (amount_behind increases (amount_meant vocabulary.functions scope amount)))
 
 -- whether a function has no other value yet

@@ -10,7 +10,10 @@ use Rattle.pddl_tokens.specs.declared.spans.TokenKind.TheVariants.{Left, Right, 
 use Rattle.pddl_tokens.specs.Tokens.{Piece, token, bad}
 use Rattle.pddl_words.specs.Decimals.{Decimal, IsDecimal, decimal_bytes, billionths}
 use Rattle.strips_task.specs.declared.steps.StepText.{StepText}
-use Rattle.strips_task.specs.declared.steps.TheConstants.{MOST_STEPS}
+
+-- how many steps a plan may have
+abbrev pub most_steps : ℕ
+most_steps = 1000000
 
 -- a token without its span
 pub data Symbol : Type 0 where
@@ -70,15 +73,15 @@ meant step = record { action = folded step.action; args = map folded step.args }
 abbrev pub stamps : List WrittenStep → List ℕ
 stamps written = filter_map (λ step. option_map billionths step.stamp) written
 
--- tokens are a plan text for these steps if they are the tokens of written steps, one after the other, that mean these steps. There are at
--- most 1,000,000, and each stamp is larger than the one before it
+-- tokens are a plan text for these steps if they are the tokens of written steps, one after the other, that mean these steps. There are
+-- not too many, and each stamp is larger than the one before it
 pub record IsPlanText (tokens : List Symbol) (steps : List StepText) : Type 0 where
   pub written : List WrittenStep
   pub spelled : tokens ≡ flat_map step_symbols written
   pub are_steps : All IsStep written
   pub rising : IsStrictlyIncreasing (stamps written)
   pub read : steps ≡ map meant written
-  pub few : length written ≤ MOST_STEPS
+  pub few : length written ≤ most_steps
 
 -- tokens are viable if some plan text begins with them
 pub record IsViable (tokens : List Symbol) : Type 0 where

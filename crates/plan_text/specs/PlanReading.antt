@@ -11,8 +11,7 @@ use Rattle.strips_task.specs.Steps.{step_of}
 use Rattle.plan_text.specs.declared.want.Want.{Want}
 use Rattle.plan_text.specs.declared.want.Want.TheVariants.{Step, Number, Opening, Action, Argument}
 use Rattle.plan_text.specs.MarkedNumbers.{number_before}
-use Rattle.plan_text.specs.PlanGrammar.{Symbol, left, right, word, symbol_of}
-use Rattle.strips_task.specs.declared.steps.TheConstants.{MOST_STEPS}
+use Rattle.plan_text.specs.PlanGrammar.{Symbol, left, right, word, symbol_of, most_steps}
 
 -- what was read: what may come next, the least value of the next stamp in billionths, the finished steps, and the words of the open step
 pub record Reading : Type 0 where
@@ -31,7 +30,7 @@ then_want want r = record { want = want; least = r.least; steps = r.steps; words
 
 -- a step may begin, unless there are as many as there may be
 abbrev pub begun : Reading → Option Reading → Option Reading
-begun r next = if nat_lt (length r.steps) MOST_STEPS then next else None
+begun r next = if nat_lt (length r.steps) most_steps then next else None
 
 -- after a stamp of this value: the next one must be larger
 abbrev pub risen : Reading → Option ℕ → Option Reading

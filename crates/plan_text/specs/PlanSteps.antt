@@ -5,9 +5,8 @@ use Rattle.strips_task.specs.OpenPlan.{OpenPlan}
 use Rattle.plan_text.specs.declared.want.Want.{Want}
 use Rattle.plan_text.specs.declared.want.Want.TheVariants.{Step, Number, Opening, Action, Argument}
 use Rattle.plan_text.specs.declared.want.Expected.{Expected}
-use Rattle.plan_text.specs.PlanGrammar.{Symbol}
+use Rattle.plan_text.specs.PlanGrammar.{Symbol, most_steps}
 use Rattle.plan_text.specs.PlanReading.{Reading, read_on}
-use Rattle.strips_task.specs.declared.steps.TheConstants.{MOST_STEPS}
 
 -- what was read, as an open plan and what is expected hold it
 abbrev pub reading : Expected → OpenPlan → Reading
@@ -17,9 +16,9 @@ reading expected plan = record { want = expected.want; least = expected.least_st
 abbrev pub IsReady : Want → OpenPlan → Type 0
 IsReady Step plan = plan.words ≡ []
 IsReady Number plan = plan.words ≡ []
-IsReady Opening plan = (plan.words ≡ []) × (length plan.steps < MOST_STEPS)
-IsReady Action plan = (plan.words ≡ []) × (length plan.steps < MOST_STEPS)
-IsReady Argument plan = (0 < length plan.words) × (length plan.steps < MOST_STEPS)
+IsReady Opening plan = (plan.words ≡ []) × (length plan.steps < most_steps)
+IsReady Action plan = (plan.words ≡ []) × (length plan.steps < most_steps)
+IsReady Argument plan = (0 < length plan.words) × (length plan.steps < most_steps)
 
 -- a token was read and led to this reading, or it may not come here
 abbrev pub LeadsTo : Option Expected → OpenPlan → Option Reading → Type 0

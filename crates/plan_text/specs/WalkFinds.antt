@@ -27,14 +27,13 @@ use Rattle.plan_text.specs.declared.walk.Inside.{Inside}
 use Rattle.plan_text.specs.declared.walk.Inside.TheVariants as i
 use Rattle.plan_text.specs.declared.walk.TextStep.{TextStep}
 use Rattle.plan_text.specs.declared.walk.TextStep.TheVariants as t
-use Rattle.plan_text.specs.PlanGrammar.{symbol_of}
+use Rattle.plan_text.specs.PlanGrammar.{most_steps, symbol_of}
 use Rattle.plan_text.specs.PlanReading.{Reading, plan_from, plan_of, read_on, unreadable}
 use Rattle.plan_text.specs.Walks.{Walk, RestsAt, HasPassed, GoesBehind, GoesOn, reading_behind, words_before}
-use Rattle.strips_task.specs.declared.steps.TheConstants.{MOST_STEPS}
 
 -- a step may come next, and if its key is plain, this range comes next
 pub record ComesNext (walk : Walk) (range : ParenRange) : Type 0 where
-  pub room : walk.count < MOST_STEPS
+  pub room : walk.count < most_steps
   pub rests : RestsAt walk.want walk.count
   pub first : IsPlain range.key.now → walk.rest ≡ range_pieces range.start range.key.now ++ range.rest
   pub within : IsPlain range.key.now → AreWithin (length walk.text) range.rest
@@ -59,7 +58,7 @@ IsOnward (n.Found found) old new = IsFound found old new
 
 -- a step was opened: its stamp, if it has one, and its `(` were read
 pub record IsOpened (text : List ℕ) (expected : Expected) (count least : ℕ) (old new : List Piece) : Type 0 where
-  pub room : count < MOST_STEPS
+  pub room : count < most_steps
   pub shorter : length new < length old
   pub within : AreWithin (length text) new
   pub same :

@@ -7,7 +7,7 @@ use Rattle.strips_task.specs.declared.steps.StepText.{StepText}
 use Rattle.plan_text.specs.declared.want.Want.{Want}
 use Rattle.plan_text.specs.declared.want.Want.TheVariants.{Step, Number, Opening, Action, Argument}
 use Rattle.plan_text.specs.PlanReading.{Reading, plan_from, plan_of}
-use Rattle.strips_task.specs.declared.steps.TheConstants.{MOST_STEPS}
+use Rattle.plan_text.specs.PlanGrammar.{most_steps}
 
 -- where a walk is: the text, its pieces that are left, what may come next, the least value of the next stamp in billionths, and how many
 -- steps were passed
@@ -30,7 +30,7 @@ IsBetween Argument = ⊥
 abbrev pub RestsAt : Want → ℕ → Type 0
 RestsAt Step count = Unit {0}
 RestsAt Number count = Unit {0}
-RestsAt Opening count = count < MOST_STEPS
+RestsAt Opening count = count < most_steps
 RestsAt Action count = ⊥
 RestsAt Argument count = ⊥
 
@@ -41,7 +41,7 @@ reading_behind want least steps = record { want = want; least = least; steps = s
 -- these are the steps that were passed: reading what is left after them gives the plan of the text
 pub record HasPassed (walk : Walk) (steps : List StepText) : Type 0 where
   pub counted : length steps ≡ walk.count
-  pub few : walk.count ≤ MOST_STEPS
+  pub few : walk.count ≤ most_steps
   pub rests : RestsAt walk.want walk.count
   pub same : plan_from walk.text (reading_behind walk.want walk.least steps) walk.rest ≡ plan_of walk.text
 

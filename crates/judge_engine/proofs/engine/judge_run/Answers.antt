@@ -4,11 +4,11 @@ use Rattle.judge_engine.specs.declared.fault.Input.{Input}
 use Rattle.judge_engine.specs.declared.fault.JudgeFault.{JudgeFault}
 use Rattle.judge_engine.specs.declared.fault.JudgeFault.TheVariants.{Domain, TooLarge, TooManyPlans, TooManyPlanners}
 use Rattle.judge_engine.specs.Answer.{answer_as, planner_of, plan_count, most_plans}
-use Rattle.judge_engine.specs.Refusal.{IsOfTexts, TextsCallForIn}
+use Rattle.judge_engine.specs.Refusal.{IsOfTexts, IsOfThreads, TextsCallForIn}
 use Rattle.report_text.specs.Format.{report}
 use Rattle.judge_engine.proofs.Outcomes.{if_ok_more, if_err_more}
-use Rattle.judge_engine.proofs.Refusals.{same_error, large_told, no_large_told, read_cause, read_no_size, read_not_held, not_memory, plans_cause, plans_no_size}
-use Rattle.judge_engine.proofs.RunAnswers.{none_if_large, none_if_many, none_if_full, none_without_task, some_of_task}
+use Rattle.judge_engine.proofs.Refusals.{same_error, large_told, no_large_told, read_cause, read_no_size, read_not_held, read_no_threads, not_memory, plans_cause, plans_no_size}
+use Rattle.judge_engine.proofs.RunAnswers.{answered, none_if_large, none_if_many, none_if_full, none_without_task, some_of_task}
 use Rattle.judge_engine.proofs.engine.judge_run.Goals as goal
 
 pub returns-in-Some-clause-refusal : goal.returns-in-Some-clause-refusal
@@ -75,3 +75,14 @@ returns-in-Err-clause-domain_text g c =
 pub returns-in-Err-clause-held : goal.returns-in-Err-clause-held
 returns-in-Err-clause-held g c =
     λ job is. absurd (read_not_held c.args.input.now.dialect c.args.input.now.domain.now c.args.input.now.problem.now c.args.input.now.bundles.now c.in-Err.fault c.in-Err.ensures.cause job is)
+
+pub returns-in-Ok-clause-threads : goal.returns-in-Ok-clause-threads
+returns-in-Ok-clause-threads g c =
+    if_err_more {P = λ fault. IsOfThreads fault → plan_count c.args.input.now.bundles.now ≤ most_plans}
+    {Q = λ fault. IsOfThreads fault → answer_as c.args.input.now.dialect c.args.input.now.format c.args.input.now.domain.now c.args.input.now.problem.now c.args.input.now.bundles.now ≢ None} c.judge_planners.result
+    (λ fault h of_threads. answered c.args.input.now.dialect c.args.input.now.format c.args.input.now.domain.now c.args.input.now.problem.now c.args.input.now.bundles.now c.in-Ok.task c.in-None.ensures c.if-input-gt-MOST_PLANNERS.false
+    (h of_threads) c.in-Ok.ensures.task) c.judge_planners.ensures.counted
+
+pub returns-in-Err-clause-threads : goal.returns-in-Err-clause-threads
+returns-in-Err-clause-threads g c =
+    λ of_threads. absurd (read_no_threads c.args.input.now.dialect c.args.input.now.domain.now c.args.input.now.problem.now c.args.input.now.bundles.now c.in-Err.fault c.in-Err.ensures.cause of_threads)

@@ -1,7 +1,7 @@
 use Rattle.std.proofs.Common.{◌≡◌, ◌≤◌, ◌+◌, ◌-◌, false, length}
 use Rattle.std.specs.Io.KnownBytes.{Consumes}
 use Rattle.judge_engine.specs.declared.inlet.TheConstants.{FILE_LIMIT}
-use Rattle.judge_engine.proofs.inlet.read_expected.Given as goal
+use Rattle.judge_engine.proofs.inlet.read_file.Given as goal
 
 -- The bytes so far came from the inlet, no more than may be were read, and no get has failed.
 abbrev pub invariant-pieces : goal.invariant-pieces

@@ -1,11 +1,11 @@
 use Rattle.std.proofs.Common.{◌≡◌, map, length}
 use Rattle.std.specs.String.{string_bytes}
-use Rattle.commands.specs.CommandLine.{asks_for_help}
-use Rattle.commands.proofs.words.asks_for_help.Given as goal
+use Rattle.commands.specs.CommandLine.{has_help}
+use Rattle.commands.proofs.words.has_help.Given as goal
 
 -- The rest asks for help if all words do.
 abbrev pub invariant-words : goal.invariant-words
-invariant-words l = asks_for_help (map string_bytes l.rest) ≡ asks_for_help (map string_bytes l.fn.words)
+invariant-words l = has_help (map string_bytes l.rest) ≡ has_help (map string_bytes l.fn.words)
 
 abbrev pub decreases-words : goal.decreases-words
 decreases-words l = length l.rest
