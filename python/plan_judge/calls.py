@@ -121,19 +121,27 @@ def _shelf(domain: Text, problem: Text) -> Tuple[Shelf, Tuple[bytes, bytes]]:
 
 def _judged(by: Library, domain: Text, problem: Text, pieces: List[Piece], dialect: Dialect) -> Tuple[str, List[List[Share]]]:
     """The report of the library in JSON, and the shares in each file."""
-    shelf, (domain_name, problem_name) = _shelf(domain, problem)
+    shelf, task = _shelf(domain, problem)
     _, shares = inputs.files(shelf, pieces)
+    _check_files(shelf, task)
+    return _found(*by.judge(shelf.files, dialect)), shares
+
+
+def _check_files(shelf: Shelf, task: Tuple[bytes, bytes]) -> None:
+    """Refused if a file cannot be read or is too large. The names are those of the domain and of the problem."""
     name, how, kind = shelf.unreadable, "cannot read %s", "cannot read"
     if name is None:
         name, how, kind = shelf.too_large, "%s is too large", "too large"
     if name is not None:
-        file = "domain" if name == domain_name else "problem" if name == problem_name else "plan"
-        raise Refused(how % name.decode(), file, kind)
-    status, text = by.judge(shelf.files, dialect)
+        raise Refused(how % name.decode(), "domain" if name == task[0] else "problem" if name == task[1] else "plan", kind)
+
+
+def _found(status: int, text: bytes) -> str:
+    """A report of the library. An exception if it is the line of a refusal."""
     found = text.decode("utf-8", "surrogateescape")
     if status != 0:
         raise _refusal(found.removesuffix("\n"))
-    return found, shares
+    return found
 
 
 def _refusal(line: str) -> Exception:
@@ -220,12 +228,17 @@ def judge(
             status, out, message = _run(path, words, stopper)
             if status != 0:
                 raise _error(status, message, task, room)
+    return _report(out, [name for name, _ in planners], shares)
+
+
+def _report(out: str, names: List[str], shares: List[List[Share]]) -> Report:
+    """The report of a text in JSON, for planners with these names."""
     try:
         found = read_parts(out)
     except ValueError as error:
         raise CallFailed(0, "it printed no report in JSON") from error
-    verdicts = _shared([own for _, own in found.planners], shares, len(planners))
-    listed = tuple([Planner(name, tuple(own)) for (name, _), own in zip(planners, verdicts)])
+    verdicts = _shared([own for _, own in found.planners], shares, len(names))
+    listed = tuple([Planner(name, tuple(own)) for name, own in zip(names, verdicts)])
     return Report(found.domain, found.problem, listed, found.counts_costs)
 
 

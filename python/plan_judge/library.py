@@ -5,6 +5,8 @@ import ctypes
 import functools
 import os
 import secrets
+import threading
+import weakref
 from pathlib import Path
 from typing import Any, Callable, List, Optional, Sequence, Set, Tuple
 
@@ -35,34 +37,76 @@ class _Answer(ctypes.Structure):
     _fields_ = [("status", ctypes.c_uint32), ("length", ctypes.c_size_t)]
 
 
+class _Task(ctypes.Structure):
+    _fields_ = [("kept", ctypes.c_void_p)]
+
+
 class Library:
     """The library at a path. OSError if it cannot be loaded, AttributeError if it is another library."""
 
     def __init__(self, path: str) -> None:
         library = ctypes.CDLL(path)
         self._judge, self._explain = library.plan_judge_judge, library.plan_judge_explain
-        self._judge.restype = self._explain.restype = _Answer
+        self._keep, self._judge_kept, self._give_back = library.plan_judge_keep, library.plan_judge_judge_kept, library.plan_judge_give_back
+        self._judge.restype = self._explain.restype = self._keep.restype = self._judge_kept.restype = _Answer
+        self._give_back.restype = None
         self._judge.argtypes = [ctypes.POINTER(_Texts), ctypes.c_uint32, ctypes.c_void_p, ctypes.c_size_t]
         self._explain.argtypes = [ctypes.POINTER(_Texts), ctypes.c_uint32, ctypes.c_uint32, ctypes.c_void_p, ctypes.c_size_t]
+        self._keep.argtypes = [ctypes.POINTER(_Texts), ctypes.POINTER(_Task), ctypes.c_void_p, ctypes.c_size_t]
+        self._judge_kept.argtypes = [ctypes.POINTER(_Task), ctypes.POINTER(_File), ctypes.c_size_t, ctypes.c_uint32, ctypes.c_void_p, ctypes.c_size_t]
+        self._give_back.argtypes = [ctypes.POINTER(_Task)]
 
     def judge(self, files: Sequence[_File], dialect: str) -> Tuple[int, bytes]:
         """The status, and the report in JSON or the line that says why the texts are refused. The files are a domain, a problem and those of plans."""
-        return _text(self._judge, [JSON], files, dialect)
+        return _text(functools.partial(self._judge, ctypes.byref(_texts(files, dialect)), JSON), files[2:])
 
     def explain(self, files: Sequence[_File], dialect: str, trace: bool) -> Tuple[int, bytes]:
         """The status, and the explanation in lines."""
-        return _text(self._explain, [LINES, TRACE if trace else 0], files, dialect)
+        texts = ctypes.byref(_texts(files, dialect))
+        return _text(functools.partial(self._explain, texts, LINES, TRACE if trace else 0), files[2:])
+
+    def keep(self, files: Sequence[_File], dialect: str) -> Tuple[Optional[KeptTask], bytes]:
+        """The task of a domain and a problem, or None and the line that says why they are refused."""
+        task = _Task()
+        status, line = _text(functools.partial(self._keep, ctypes.byref(_texts(files, dialect)), ctypes.byref(task)), ())
+        return (KeptTask(task, self._judge_kept, self._give_back) if status == MADE else None), line
 
 
-def _text(function: Callable[..., Any], options: Sequence[int], files: Sequence[_File], dialect: str) -> Tuple[int, bytes]:
-    """The status and the text of a call. If the text does not fit into the first buffer, the call is made again."""
+class KeptTask:
+    """A task that the library keeps until `close` is called, or until nothing refers to this object. Threads that call at the same time wait for each other."""
+
+    def __init__(self, task: _Task, judge: Callable[..., Any], give_back: Callable[..., Any]) -> None:
+        self._task, self._judge, self._lock = task, judge, threading.Lock()
+        self._close = weakref.finalize(self, give_back, task)
+
+    def judge(self, files: Sequence[_File]) -> Tuple[int, bytes]:
+        """The status, and the report in JSON or the line that says why the files of plans are refused."""
+        with self._lock:
+            return _text(functools.partial(self._judge, self._task, _listed(files), len(files), JSON), files)
+
+    def close(self) -> None:
+        """Gives the task back. It may be called again."""
+        with self._lock:
+            self._close()
+
+
+def _listed(files: Sequence[_File]) -> Any:
+    """Files as an array, which has at least one element, so that it has an address."""
+    return (_File * max(1, len(files)))(*files)
+
+
+def _texts(files: Sequence[_File], dialect: str) -> _Texts:
+    """A domain, a problem and files of plans."""
     domain, problem, *plans = files
-    listed = (_File * max(1, len(plans)))(*plans)
-    texts = _Texts(domain, problem, listed, len(plans), SEED, DIALECTS.index(dialect))
+    return _Texts(domain, problem, _listed(plans), len(plans), SEED, DIALECTS.index(dialect))
+
+
+def _text(function: Callable[..., Any], plans: Sequence[_File]) -> Tuple[int, bytes]:
+    """The status and the text of a call, which takes a buffer and its length. If the text does not fit into the first buffer, the call is made again."""
     capacity = min(SPARE + sum([it.length for it in plans]), LARGEST_FIRST)
     while True:
         out = _buffer(capacity)
-        answer = function(ctypes.byref(texts), *options, out, len(out))
+        answer = function(out, len(out))
         if answer.length <= len(out):
             break
         capacity = answer.length
@@ -119,6 +163,7 @@ class Shelf:
 
     def __init__(self) -> None:
         self.files: List[_File] = []
+        self.contents: List[bytes] = []
         self.taken: Set[str] = set()
         self.unreadable: Optional[bytes] = None  # the first file that cannot be read
         self.too_large: Optional[bytes] = None
@@ -145,4 +190,5 @@ class Shelf:
         if len(content) > LARGEST_FILE:
             self.too_large = self.too_large or name
         self.files.append(_File(name, len(name), content, len(content)))
+        self.contents.append(content)
         return name

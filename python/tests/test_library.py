@@ -7,7 +7,7 @@ import unittest
 from typing import Any, Dict, List, Tuple
 from unittest import mock
 
-from plan_judge import CallFailed, Plans, ProgramMissing, Refused, Stopper, Text, Valid, explain, find_library, find_program, judge
+from plan_judge import CallFailed, Plans, ProgramMissing, Refused, Report, Stopper, Task, Text, Valid, explain, find_library, find_program, judge
 from plan_judge.library import Library, _Answer, _File, _text, library
 
 from .given import DOMAIN, FAULTY, PROBLEM, SHORT, TOP, Word, cases
@@ -22,6 +22,17 @@ def answer(call: Any, *words: Any, **options: Any) -> Tuple[str, Any]:
         return "returned", call(*words, **options)
     except (Refused, ValueError) as error:
         return type(error).__name__, (str(error), vars(error))
+
+
+def by_task(domain: Text, problem: Text, plans: Plans, **options: Any) -> Report:
+    """What a task judges that is made for these plans alone."""
+    with Task(domain, problem, **options) as task:
+        return task.judge(plans)
+
+
+def kinds(*found: Tuple[str, Any]) -> List[Any]:
+    """What calls returned, or the kinds of what they raised."""
+    return [it if it[0] == "returned" else it[0] for it in found]
 
 
 @unittest.skipUnless(os.environ.get("PLAN_JUDGE_LIBRARY"), "there is no library")
@@ -39,7 +50,11 @@ class Both(unittest.TestCase):
                     options["trace"] = True
                 words: List[Any] = [Word(case.options["--domain"]), Word(case.options["--problem"]), [Word(it) for it in case.plans]]
                 with self.subTest(case.name):
-                    self.assertEqual(answer(call, *words, **options), answer(call, *words, program=find_program(), **options))
+                    by_program = answer(call, *words, program=find_program(), **options)
+                    self.assertEqual(answer(call, *words, **options), by_program)
+                    if call is judge:
+                        for program in None, find_program():
+                            self.assertEqual(*kinds(answer(by_task, *words, program=program, **options), by_program))
                 compared += 1
         self.assertGreater(compared, 1400)
         print("%d calls compared with the program" % compared)
@@ -72,6 +87,23 @@ class Both(unittest.TestCase):
 
         with concurrent.futures.ThreadPoolExecutor(THREADS) as pool:
             self.assertEqual(list(pool.map(ask, range(THREADS))), [0] * THREADS)
+
+    def test_threads_with_tasks(self) -> None:
+        """Tasks of several threads, and one task that they share, judge each plan as if it were the only one."""
+        texts = (LAMP / "domain.pddl").read_bytes(), (LAMP / "problem.pddl").read_bytes()
+        plans = [b"(light)\n" * count + end for count in range(5) for end in (b"", b"(light", b"(dark)\n", b"---\n(light)\n")]
+        wanted = [judge(*texts, it, program=find_program()) for it in plans]
+
+        def ask(task: Task, calls: int) -> int:
+            return sum(task.judge(plans[number % len(plans)]) != wanted[number % len(plans)] for number in range(calls))
+
+        def ask_own(_: int) -> int:
+            with Task(*texts) as task:
+                return ask(task, CALLS)
+
+        with Task(*texts) as shared, concurrent.futures.ThreadPoolExecutor(THREADS) as pool:
+            self.assertEqual(list(pool.map(ask_own, range(THREADS))), [0] * THREADS)
+            self.assertEqual(list(pool.map(lambda _: ask(shared, 100), range(THREADS))), [0] * THREADS)
 
 
 @unittest.skipUnless(os.environ.get("PLAN_JUDGE_LIBRARY"), "there is no library")
@@ -126,7 +158,7 @@ class Answers(unittest.TestCase):
     def test_no_memory(self) -> None:
         for status, message in (3, "out of memory"), (2, ""):
             with self.assertRaises(CallFailed) as raised:
-                _text(lambda *words: _Answer(status, 0), [0], [_File(b"a", 1, b"", 0)] * 3, "strips")
+                _text(lambda *words: _Answer(status, 0), [_File(b"a", 1, b"", 0)])
             self.assertEqual((raised.exception.status, raised.exception.message), (status, message))
 
 

@@ -1,12 +1,13 @@
 /* Makes many calls of the library in one process, and compares what they answer. check_library compiles this file, and writes the calls.
 
-   usage: driver CALLS all|misuse|threads N|refuse|time N
+   usage: driver CALLS all|misuse|threads N|refuse|time N|kept N
 
-   all      each call, with buffers of 0 bytes, of one byte less than the text and of its length
+   all      each call, with buffers of 0 bytes, of one byte less than the text and of its length; each that judges also against a kept task
    misuse   calls with unknown numbers, wrong names, and files that are too large
    threads  each call five times in each of N threads at once
    refuse   each call with each of its allocations refused in turn; only if this file was compiled with -DREFUSE
    time     the first call, N times
+   kept     the first call, N times against a task that is kept
 
    Each text and each buffer is a block of its own, of just its length, so that valgrind and AddressSanitizer see what is read or written outside of it. */
 #define _GNU_SOURCE
@@ -150,16 +151,55 @@ static int is_all(const char *buffer, size_t length, char byte) {
     return 1;
 }
 
-/* Makes a call with a buffer of this capacity, and compares what is answered. */
-static void compare(const call *it, size_t capacity) {
-    char *out = malloc(capacity ? capacity : 1);
-    memset(out, 0x55, capacity ? capacity : 1);
-    plan_judge_answer answer = made_by(it, &it->texts, out, capacity);
+/* Compares what a call answered with a buffer of this capacity. */
+static void look(const call *it, plan_judge_answer answer, const char *out, size_t capacity) {
     if (answer.status != it->status) fail(it, "another status");
     if (answer.length != it->length) fail(it, "another length");
     else if (capacity < it->length) {
         if (!is_all(out, capacity, 0x55)) fail(it, "a buffer that is too small was written to");
     } else if (memcmp(out, it->text, it->length) || !is_all(out + it->length, capacity - it->length, 0x55)) fail(it, "another text");
+}
+
+static char *buffer(size_t capacity) {
+    char *out = malloc(capacity ? capacity : 1);
+    memset(out, 0x55, capacity ? capacity : 1);
+    return out;
+}
+
+/* Makes a call with a buffer of this capacity, and compares what is answered. */
+static void compare(const call *it, size_t capacity) {
+    char *out = buffer(capacity);
+    look(it, made_by(it, &it->texts, out, capacity), out, capacity);
+    free(out);
+}
+
+/* The same against a task that is kept. */
+static void compare_judged(const call *it, plan_judge_task *task, size_t capacity) {
+    char *out = buffer(capacity);
+    void *kept = task->kept;
+    look(it, plan_judge_judge_kept(task, it->texts.plans, it->texts.plan_count, it->format, out, capacity), out, capacity);
+    if (task->kept != kept) fail(it, "another task is kept");
+    free(out);
+}
+
+/* Keeps the task of a call, judges the plans of another call against it and then its own, and gives it back. If the task is refused, the call is. */
+static void compare_kept(const call *it, const call *other) {
+    plan_judge_task task = {0};
+    char *out = buffer(it->length);
+    plan_judge_answer answer = plan_judge_keep(&it->texts, &task, out, it->length);
+    if (answer.status == PLAN_JUDGE_MADE) {
+        if (answer.length || !task.kept || !is_all(out, it->length, 0x55)) fail(it, "a task is not kept as it should be");
+        char few[100];
+        plan_judge_judge_kept(&task, other->texts.plans, other->texts.plan_count, PLAN_JUDGE_LINES, few, sizeof few);
+        compare_judged(it, &task, 0);
+        if (it->length > 1) compare_judged(it, &task, it->length - 1);
+        compare_judged(it, &task, it->length);
+    } else {
+        if (task.kept) fail(it, "a task is kept that was refused");
+        look(it, answer, out, it->length);
+    }
+    plan_judge_give_back(&task);
+    if (task.kept) fail(it, "a task is kept after it was given back");
     free(out);
 }
 
@@ -168,6 +208,7 @@ static void compare_all(void) {
         compare(&calls[i], 0);
         if (calls[i].length > 1) compare(&calls[i], calls[i].length - 1);
         compare(&calls[i], calls[i].length);
+        if (!calls[i].explains) compare_kept(&calls[i], &calls[(i + 1) % call_count]);
     }
 }
 
@@ -176,6 +217,7 @@ static void *in_thread(void *start) {
     for (size_t i = 0; i < 5 * call_count; i++) {
         const call *it = &calls[(first + i) % call_count];
         compare(it, it->length + 7);
+        if (!it->explains) compare_kept(it, it);
     }
     return NULL;
 }
@@ -205,6 +247,83 @@ static void refused_with(const call *it, const char *line, const plan_judge_text
         plan_judge_answer answer = explains ? plan_judge_explain(texts, PLAN_JUDGE_LINES, 0, out, sizeof out) : plan_judge_judge(texts, PLAN_JUDGE_LINES, out, sizeof out);
         if (answer.status != PLAN_JUDGE_REFUSED || answer.length != strlen(line) || memcmp(out, line, answer.length)) fail(it, line);
     }
+}
+
+/* A call against a task that answers so, and leaves the task and its buffer as they were. */
+static void judged_wrongly(const call *it, const char *what, plan_judge_task *task, const plan_judge_file *plans, size_t plan_count, uint32_t format) {
+    char out[64];
+    void *kept = task->kept;
+    memset(out, 0x55, sizeof out);
+    plan_judge_answer answer = plan_judge_judge_kept(task, plans, plan_count, format, out, sizeof out);
+    if (answer.status != PLAN_JUDGE_MISUSED || answer.length || !is_all(out, sizeof out, 0x55) || task->kept != kept) fail(it, what);
+}
+
+static void kept_wrongly(const call *it, const char *line, plan_judge_task *task, const plan_judge_texts *texts, uint32_t status) {
+    char out[64];
+    memset(out, 0x55, sizeof out);
+    plan_judge_answer answer = plan_judge_keep(texts, task, out, sizeof out);
+    size_t length = strlen(line);
+    if (answer.status != status || answer.length != length || memcmp(out, line, length) || !is_all(out + length, sizeof out - length, 0x55) || task->kept) fail(it, line);
+}
+
+/* A struct that keeps nothing, is given back again and again, or kept anew, and files of plans that a kept task is not judged against. */
+static void misuse_kept(void) {
+    const call *it = &calls[0];
+    plan_judge_task task = {0};
+    plan_judge_texts texts = it->texts;
+    plan_judge_file plans[65];
+    uint32_t unknown[] = {3, 4, 255, 256, 0x80000000u, 0xffffffffu};
+    char out[200];
+    for (int i = 0; i < 65; i++) plans[i] = texts.plans[0];
+    judged_wrongly(it, "nothing was ever kept", &task, plans, 1, PLAN_JUDGE_LINES);
+    for (int i = 0; i < 3; i++) plan_judge_give_back(&task);
+    for (int i = 0; i < 3; i++)
+        if (plan_judge_keep(&texts, &task, out, 0).status != PLAN_JUDGE_MADE || !task.kept) fail(it, "a task is not kept anew");
+    compare_judged(it, &task, it->length);
+    for (size_t i = 0; i < sizeof unknown / sizeof *unknown; i++) judged_wrongly(it, "an unknown format", &task, plans, 1, unknown[i]);
+    plans[1].name = "a\xff";
+    plans[1].name_length = 2;
+    judged_wrongly(it, "a name that is not UTF-8", &task, plans, 2, PLAN_JUDGE_LINES);
+    char *one = malloc(1);
+    size_t lengths[] = {16777217, (size_t)1 << 40, SIZE_MAX / 2};
+    for (int i = 0; i < 3; i++) {
+        plan_judge_file large = {"large", 5, one, lengths[i]};
+        plans[1] = large;
+        plan_judge_answer answer = plan_judge_judge_kept(&task, plans, 2, PLAN_JUDGE_LINES, out, sizeof out);
+        if (answer.status != PLAN_JUDGE_REFUSED || answer.length != 19 || memcmp(out, "large is too large\n", 19)) fail(it, "a large file of plans");
+    }
+    plans[1] = plans[0];
+    plan_judge_answer answer = plan_judge_judge_kept(&task, plans, 65, PLAN_JUDGE_LINES, out, sizeof out);
+    if (answer.status != PLAN_JUDGE_REFUSED || answer.length != 22 || memcmp(out, "more than 64 planners\n", 22)) fail(it, "65 files");
+    if (plan_judge_judge_kept(&task, plans, 0, PLAN_JUDGE_LINES, out, 0).status != PLAN_JUDGE_MADE) fail(it, "no file");
+    compare_judged(it, &task, it->length);
+
+    /* What is refused is not kept, nor is what was kept before. */
+    for (int i = 0; i < 3; i++) {
+        plan_judge_file large = {"large", 5, one, lengths[i]};
+        plan_judge_keep(&texts, &task, out, 0);
+        texts.domain = large;
+        kept_wrongly(it, "large is too large\n", &task, &texts, PLAN_JUDGE_REFUSED);
+        texts.domain = it->texts.domain;
+        texts.problem = large;
+        kept_wrongly(it, "large is too large\n", &task, &texts, PLAN_JUDGE_REFUSED);
+        texts.problem = it->texts.problem;
+    }
+    for (size_t i = 0; i < sizeof unknown / sizeof *unknown; i++) {
+        plan_judge_keep(&texts, &task, out, 0);
+        texts.dialect = unknown[i];
+        kept_wrongly(it, "", &task, &texts, PLAN_JUDGE_MISUSED);
+        texts.dialect = it->texts.dialect;
+    }
+    judged_wrongly(it, "nothing is kept any more", &task, plans, 1, PLAN_JUDGE_LINES);
+
+    /* Plans are not looked at when a task is kept. */
+    plan_judge_file large = {"a\xff", 2, one, SIZE_MAX / 2};
+    texts.plans = &large;
+    if (plan_judge_keep(&texts, &task, out, 0).status != PLAN_JUDGE_MADE) fail(it, "a task is not kept because of plans");
+    for (int i = 0; i < 2; i++) plan_judge_give_back(&task);
+    judged_wrongly(it, "a task that was given back", &task, plans, 1, PLAN_JUDGE_LINES);
+    free(one);
 }
 
 static void misuse(void) {
@@ -269,6 +388,31 @@ static void misuse(void) {
 }
 
 #ifdef REFUSE
+/* Keeps the task of a call and judges its plans, with each allocation refused in turn. How many were, and how many calls said so, is added up. */
+static void refuse_kept(const call *it, long *all, long *lacking) {
+    char *out = malloc(it->length + 1);
+    long before = held;
+    for (long which = 1;; which++) {
+        plan_judge_task task = {0};
+        memset(out, 0x55, it->length + 1);
+        made = 0, refused = which;
+        plan_judge_answer kept = plan_judge_keep(&it->texts, &task, out, it->length), answer = kept;
+        if (kept.status == PLAN_JUDGE_MADE) answer = plan_judge_judge_kept(&task, it->texts.plans, it->texts.plan_count, it->format, out, it->length);
+        refused = -1;
+        long count = made;
+        int is_lack = answer.status == PLAN_JUDGE_OUT_OF_MEMORY && !answer.length && is_all(out, it->length + 1, 0x55);
+        int is_whole = answer.status == it->status && answer.length == it->length && !memcmp(out, it->text, it->length);
+        if (!(is_lack && count >= which) && !is_whole) fail(it, "another answer of a kept task after a refused allocation");
+        if ((kept.status == PLAN_JUDGE_MADE) != (task.kept != NULL)) fail(it, "what is kept is not what the status says");
+        if (task.kept) compare_judged(it, &task, it->length);
+        plan_judge_give_back(&task);
+        if (held != before) fail(it, "blocks of a kept task were not freed");
+        if (count < which) break;
+        ++*all, *lacking += is_lack;
+    }
+    free(out);
+}
+
 static void refuse(void) {
     long all = 0, lacking = 0;
     for (size_t i = 0; i < call_count; i++) {
@@ -289,6 +433,7 @@ static void refuse(void) {
             all++, lacking += is_lack;
         }
         free(out);
+        if (!it->explains) refuse_kept(it, &all, &lacking);
     }
     printf("%ld allocations refused in turn, %ld calls said so, ", all, lacking);
 }
@@ -302,17 +447,30 @@ static long resident(void) {
     return pages * 4;
 }
 
-static void time_calls(long count) {
-    char *out = malloc(calls[0].length + 1);
+/* Makes the first call again and again, against a task that is kept if there is one. */
+static void time_calls(long count, plan_judge_task *task) {
+    const call *it = &calls[0];
+    char *out = malloc(it->length + 1);
     struct timespec begin, end;
     long before = resident();
     clock_gettime(CLOCK_MONOTONIC, &begin);
-    for (long i = 0; i < count; i++)
-        if (made_by(&calls[0], &calls[0].texts, out, calls[0].length).length != calls[0].length) fail(&calls[0], "another answer");
+    for (long i = 0; i < count; i++) {
+        plan_judge_answer answer = task ? plan_judge_judge_kept(task, it->texts.plans, it->texts.plan_count, it->format, out, it->length)
+                                        : made_by(it, &it->texts, out, it->length);
+        if (answer.length != it->length || memcmp(out, it->text, it->length)) fail(it, "another answer");
+    }
     clock_gettime(CLOCK_MONOTONIC, &end);
     double seconds = (double)(end.tv_sec - begin.tv_sec) + (double)(end.tv_nsec - begin.tv_nsec) / 1e9;
     printf("%.2f microseconds a call, %ld KiB before and %ld KiB after, ", seconds * 1e6 / (double)count, before, resident());
     free(out);
+}
+
+static void time_kept(long count) {
+    plan_judge_task task = {0};
+    char out[1];
+    plan_judge_keep(&calls[0].texts, &task, out, 0);
+    time_calls(count, &task);
+    plan_judge_give_back(&task);
 }
 
 int main(int count, char **words) {
@@ -321,9 +479,10 @@ int main(int count, char **words) {
     const char *what = words[2];
     size_t number_given = count > 3 ? strtoul(words[3], NULL, 10) : 0;
     if (!strcmp(what, "all")) compare_all();
-    else if (!strcmp(what, "misuse")) misuse();
+    else if (!strcmp(what, "misuse")) misuse(), misuse_kept();
     else if (!strcmp(what, "threads")) compare_in_threads(number_given);
-    else if (!strcmp(what, "time")) time_calls((long)number_given);
+    else if (!strcmp(what, "time")) time_calls((long)number_given, NULL);
+    else if (!strcmp(what, "kept")) time_kept((long)number_given);
 #ifdef REFUSE
     else if (!strcmp(what, "refuse")) refuse();
 #endif

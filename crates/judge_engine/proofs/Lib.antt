@@ -11,3 +11,4 @@ pub mod Writing
 pub mod Tallies
 pub mod ReportPosition
 pub mod PlanCounts
+pub mod KeptTasks

@@ -10,3 +10,4 @@ pub mod Status
 pub mod Tally
 pub mod ReportPosition
 pub mod FaultText
+pub mod Kept

@@ -67,7 +67,7 @@ pub fn judge_alone(
 }
 
 /// The report of a task's plans, unless there are too many.
-fn planners_alone(
+pub(crate) fn planners_alone(
     alloc: Global,
     format: Format,
     task: &CostedTask,

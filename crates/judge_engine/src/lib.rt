@@ -18,6 +18,7 @@ pub mod engine;
 pub mod fault;
 pub mod fault_text;
 pub mod inlet;
+pub mod kept;
 pub mod outlet;
 mod planner;
 mod plans;

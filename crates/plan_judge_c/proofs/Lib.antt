@@ -1,1 +1,4 @@
 pub mod Answering
+pub mod KeptDrops
+pub mod KeptValues
+pub mod KeptAnswers

@@ -1,3 +1,5 @@
 pub mod Answers
 pub mod Handing
 pub mod Inputs
+pub mod Kept
+pub mod KeptAnswers

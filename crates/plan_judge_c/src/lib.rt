@@ -3,12 +3,14 @@
 //! Texts come in as bytes with a length, and the answer goes into a buffer of the caller's. Each export states the answer of the library for these bytes. What C
 //! has to keep to, `c/plan_judge.h` says.
 //!
-//! [`judging`] has the call that judges, [`explaining`] the one that explains. What they take is in `inputs`, and what they
-//! give in `answer`; `refusing` says why texts are refused.
+//! [`judging`] has the call that judges, [`explaining`] the one that explains, and [`keeping`] those that keep a task between calls. What they take is in
+//! `inputs`, and what they give in `answer`; `refusing` says why texts are refused. A task that is kept is in `kept`, as the pointer of its box.
 #![tactic(auto)]
 
 mod answer;
 pub mod explaining;
 mod inputs;
 pub mod judging;
+pub mod keeping;
+mod kept;
 mod refusing;

@@ -1,13 +1,14 @@
 //! Why texts are refused.
-ghost use Rattle.std.specs.Prelude.{◌≡◌, ◌⊎◌, IfOk};
+ghost use Rattle.std.specs.Prelude.{◌≡◌, ◌⊎◌, [], IfOk};
 ghost use Rattle.judge_engine.specs.Answer.{too_large};
 ghost use Rattle.plan_judge_c.specs.Answers.{name_in_fault, refusal_line};
 ghost use Rattle.plan_judge_c.specs.Handing.{IsHandedOut};
 ghost use Rattle.plan_judge_c.specs.Inputs.{bundles_of};
+ghost use Rattle.plan_judge_c.specs.declared.inputs.Texts.{Texts};
 ghost use Rattle.plan_judge_c.specs.declared.answer.TheConstants.{REFUSED, OUT_OF_MEMORY};
 
 use crate::answer::{Answer, OUT_OF_MEMORY, REFUSED, hand_out, no_text};
-use crate::inputs::Texts;
+use crate::inputs::{NamedText, Texts};
 use judge_engine::fault::{Input, JudgeFault};
 use judge_engine::fault_text::{line_of_fault, push_fault};
 use judge_engine::inlet::FILE_LIMIT;
@@ -24,7 +25,14 @@ pub(crate) fn too_large(texts: &Texts<'_>) -> Option<Input>
     if texts.problem.bytes.len() > FILE_LIMIT {
         return Some(Input::Problem);
     }
-    for (number, file) in texts.plans.iter().enumerate() {
+    too_large_plans(texts.plans)
+}
+
+/// The first file of plans that is over the limit of a file. Looks at no byte.
+pub(crate) fn too_large_plans(plans: &[NamedText<'_>]) -> Option<Input>
+    ensures { result ≡ too_large [] [] (bundles_of plans.now) }
+{
+    for (number, file) in plans.iter().enumerate() {
         if file.bytes.len() > FILE_LIMIT {
             return Some(Input::Plans(number));
         }
@@ -41,6 +49,38 @@ pub(crate) fn refuse(alloc: Global, texts: &Texts<'_>, fault: JudgeFault, out: &
     match refusal_line(alloc, texts, fault) {
         Ok(line) => hand_out(REFUSED, line.as_slice(), out),
         Err(AllocError) => no_text(OUT_OF_MEMORY),
+    }
+}
+
+/// Says why files of plans are refused, as [`refuse`] says it of texts with these plans.
+pub(crate) fn refuse_plans(
+    alloc: Global,
+    plans: &[NamedText<'_>],
+    fault: JudgeFault,
+    out: &mut [u8],
+) -> Answer
+    ensures status { (result.status ≡ REFUSED) ⊎ (result.status ≡ OUT_OF_MEMORY) }
+    ensures refused { result.status ≡ REFUSED → (texts : Texts) × (texts.plans.now ≡ plans.now) × IsHandedOut (refusal_line texts fault) result.length out.old out.new }
+    ensures no_text { result.status ≡ OUT_OF_MEMORY → (result.length ≡ 0) × (out.new ≡ out.old) }
+{
+    let texts = plans_alone(plans);
+    refuse(alloc, &texts, fault, out)
+}
+
+/// Texts with these files of plans, and nothing else.
+fn plans_alone<'a>(plans: &'a [NamedText<'a>]) -> Texts<'a>
+    ensures { result.plans.now ≡ plans.now }
+{
+    let nothing = NamedText {
+        name: b"",
+        bytes: b"",
+    };
+    Texts {
+        domain: nothing,
+        problem: nothing,
+        plans,
+        seed: 0,
+        dialect: 0,
     }
 }
 
