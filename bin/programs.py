@@ -1,7 +1,8 @@
 """The programs of a clone: release/ has the one that comes with it, built/ the one that was made here. bin/program says which is run.
 
 Each folder has the program, stripped; plan_judge.sha256, its checksum; and made_of, the lines that bin/made_of printed of what it was made of. The library
-for C is kept in the same way, as libplan_judge.so, libplan_judge.so.sha256 and libplan_judge.made_of. A folder may lack it.
+for C is kept in the same way, as libplan_judge.so, libplan_judge.so.sha256 and libplan_judge.made_of, and so is the archive libplan_judge.a, from which it can
+be linked into a program. A folder may lack them.
 """
 import dataclasses
 import hashlib
@@ -10,6 +11,7 @@ import re
 import shutil
 import subprocess
 import sys
+import tempfile
 
 from rooms import TOP, below, listed
 
@@ -32,6 +34,7 @@ class Kind:
 
 PROGRAM = Kind(NAME, "made_of", 0o755)
 LIBRARY = Kind("libplan_judge.so", "libplan_judge.made_of", 0o644, ("--library",))
+ARCHIVE = Kind("libplan_judge.a", "libplan_judge.a.made_of", 0o644, ("--library",))
 
 
 class Stale(Exception):
@@ -101,11 +104,12 @@ def kit(*parts):
     return os.path.join(os.path.dirname(page), *parts)
 
 
-def made_by_kit(tool, words, to):
-    """The bytes that a tool of the toolchain writes to a file, which is then removed. They are the same on each machine."""
+def made_by_kit(tool, words, to, *more):
+    """The bytes that a tool of the toolchain writes to a file, which is then removed. They are the same on each machine. The name of the file is behind the
+    words, and before any others."""
     to = f"{to}.{os.getpid()}"
     try:
-        subprocess.run([tool, *words, "-o", to], executable=kit("toolchain", "bin", "clang"), check=True)
+        subprocess.run([tool, *words, to, *more], executable=kit("toolchain", "bin", "clang"), check=True)
         with open(to, "rb") as file:
             return file.read()
     finally:
@@ -115,7 +119,7 @@ def made_by_kit(tool, words, to):
 
 def stripped(program):
     """The bytes of a program without symbols."""
-    return made_by_kit("llvm-strip", ["--strip-all", program], program)
+    return made_by_kit("llvm-strip", ["--strip-all", program, "-o"], program)
 
 
 def soname():
@@ -125,13 +129,33 @@ def soname():
     return f"{LIBRARY.name}.{version[1]}"
 
 
+def exports():
+    """The names of the functions that the library shows."""
+    with open(os.path.join(TOP, "c", "plan_judge.map"), encoding="utf-8") as file:
+        return re.findall(r"\bplan_judge_\w+(?=;)", file.read())
+
+
 def linked(archive):
     """The bytes of the library for C: the archive that was proved, the toolchain's calls of malloc and free, and the C library. It shows what c/plan_judge.map
     names, and has no other symbols."""
     words = ["--shared", "--strip-all", "--gc-sections", "--no-undefined", "--build-id=none", "--hash-style=gnu", "-z", "now", "-z", "relro", "-z", "noexecstack"]
-    words += ["--soname", soname(), "--version-script", os.path.join(TOP, "c", "plan_judge.map"), "--undefined=plan_judge_judge", "--undefined=plan_judge_explain"]
+    words += ["--soname", soname(), "--version-script", os.path.join(TOP, "c", "plan_judge.map")]
+    words += [f"--undefined={it}" for it in exports()]
     words += [archive, kit("c", "liblibc_c.a"), *(kit("toolchain", "lib", it) for it in ("libgcc.a", "libc.so.6"))]
-    return made_by_kit("ld.lld", words, os.path.join(BUILT, LIBRARY.name))
+    return made_by_kit("ld.lld", [*words, "-o"], os.path.join(BUILT, LIBRARY.name))
+
+
+def packed(archive):
+    """The bytes of an archive to link with: the archive that was proved and the toolchain's calls of malloc and free, in one object that shows what
+    c/plan_judge.map names."""
+    with tempfile.TemporaryDirectory() as folder:
+        whole, shown, to = (os.path.join(folder, it) for it in ("whole.o", "libplan_judge.o", "libplan_judge.a"))
+        words = ["-r", "--whole-archive", archive, "--no-whole-archive", kit("c", "liblibc_c.a"), "-o"]
+        for tool, given, made in ("ld.lld", words, whole), ("llvm-objcopy", ["--strip-debug", "--remove-section=.comment", *(f"--keep-global-symbol={it}" for it in exports()), whole], shown):
+            content = made_by_kit(tool, given, made)
+            with open(made, "wb") as file:
+                file.write(content)
+        return made_by_kit("llvm-ar", ["rcsD"], to, shown)
 
 
 def archive():
@@ -146,6 +170,9 @@ def archive():
     words = ["rt", "lib"]
     if is_of_ci:
         words = [kit("bin", "rattle"), "build", "--crate-name", CRATE, "src/lib.rt", "--extern", f"std={kit('rlibs', 'std.rlib')}", "-L", f"dependency={kit('rlibs')}"]
+        of_kit = [it for it in crates[CRATE].line.partition("#")[0].partition(":")[2].split() if it not in crates]
+        for it in of_kit:
+            words += ["--extern", f"{it}={kit('rlibs', it)}.rlib"]
         for it in under:
             words += ["--extern", f"{it.name}={rlib(it)}/{it.name}.rlib"] if it.name in crates[CRATE].libraries else []
             words += ["-L", f"dependency={rlib(it)}"]
@@ -177,18 +204,19 @@ def keep(parts):
 
 
 def keep_library(parts, proved):
-    """Links the archive that was proved and puts the library into built/, if the sources are still those of which `parts` was printed."""
-    content = linked(proved)
+    """Puts the library that is linked of what was proved, and the archive, into built/, if the sources are still those of which `parts` was printed."""
+    contents = {LIBRARY: linked(proved), ARCHIVE: packed(proved)}
     if made_of("--library") != parts:
         raise Stale("the sources changed meanwhile")
-    put(BUILT, content, parts, LIBRARY)
+    for kind, content in contents.items():
+        put(BUILT, content, parts, kind)
 
 
 def look(folder, parts, kind=PROGRAM):
     """The bytes of the program or the library of a folder. Stale says why it is not the one made of these parts, or that it is damaged."""
     path = f"{os.path.relpath(folder, TOP)}/{kind.name}"
     there = dict(line.split(" ", 1) for line in read(folder, kind.parts).decode().splitlines())
-    if kind is LIBRARY and not any(os.path.exists(os.path.join(folder, it)) for it in (kind.name, kind.parts)):
+    if kind is not PROGRAM and not any(os.path.exists(os.path.join(folder, it)) for it in (kind.name, kind.parts)):
         raise Missing(f"{path} is missing")
     for part, wanted in (line.split(" ", 1) for line in parts.splitlines()):
         found = there.get(part)
