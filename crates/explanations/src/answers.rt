@@ -29,7 +29,7 @@ use std::alloc::{AllocError, Global};
 use strips_judge::Verdict;
 use strips_task::Seed;
 use task_reader::TaskFault;
-use text_judge::TextJudge;
+use text_judge::{Assessed, TextJudge};
 
 /// Explains what a judge answers about the plans of some files.
 ///
@@ -312,7 +312,10 @@ fn push_plan<'a>(
     ensures judge { judge.new ≡ judge.old }
     ensures valid { IfOk result (λ valid. valid ≡ is_valid_plan judge.old text.now) }
 {
-    let assessment = judge.assess(page.alloc(), text)?;
+    let Assessed {
+        assessment,
+        place: _,
+    } = judge.assess(page.alloc(), text)?;
     match push_found(page, judge, library, options, plan, &assessment) {
         Ok(()) => Ok(is_valid(&assessment.verdict)),
         Err(AllocError) => Err(AllocError),

@@ -3,6 +3,8 @@
 use Rattle.std.specs.Arc.{arc_value}
 use Rattle.plan_text.specs.PlanReading.{plan_of}
 use Rattle.strips_task.specs.declared.plans.Plan.{Plan}
+use Rattle.text_judge.specs.Places.{IsPlaceIn}
+use Rattle.text_judge.specs.declared.place.StepPlace.{StepPlace}
 use Rattle.intake_rules.specs.declared.plan.PlanForm.{PlanForm}
 use Rattle.intake_rules.specs.declared.plan.PlanForm.TheVariants as shown
 use Rattle.intake_rules.specs.declared.plan.KeptPlan.{KeptPlan}
@@ -17,3 +19,8 @@ content (kept.Text text) = plan_of text
 abbrev pub content_shown : PlanForm → Plan
 content_shown (shown.Read plan) = plan.now
 content_shown (shown.Text text) = plan_of text.now
+
+-- a step of the plan that is kept is written at this place: the plan is kept as its text, and the place is one in the text
+abbrev pub IsPlaceOf : KeptPlan → StepPlace → Type 0
+IsPlaceOf (kept.Read plan) place = ⊥
+IsPlaceOf (kept.Text text) place = IsPlaceIn text place

@@ -1,11 +1,9 @@
 //! A job with its verdict and its cost.
 ghost use Rattle.std.specs.Prelude.{◌≡◌, IfErr, IfOk};
-ghost use Rattle.plan_cost.specs.Assessments.{assessment};
-ghost use Rattle.plan_cost.specs.CompactCosts.{IsCompact};
 ghost use Rattle.intake_rules.specs.Findings.{IsRight};
 
-use crate::{Job, PlanForm, SubmittedPlan};
-use plan_cost::{Assessment, CompactCost, CostedTask, assess};
+use crate::Job;
+use plan_cost::{Assessment, CompactCost, CostedTask};
 use std::alloc::{AllocError, AllocFailed, Global};
 use strips_judge::Verdict;
 use text_judge::{MOST_JUDGES, TextJudge};
@@ -44,9 +42,10 @@ impl Finding {
         ensures job { IfOk result (λ finding. finding.job ≡ job.now) }
         ensures task { judge.new ≡ judge.old }
     {
-        let Assessment { verdict, cost } = assess_by(alloc, judge, &job.plan)?;
+        let mut job = job.try_clone()?;
+        let Assessment { verdict, cost } = job.plan.assess_by(alloc, judge)?;
         Ok(Finding {
-            job: job.try_clone()?,
+            job,
             verdict,
             cost: CompactCost::new(cost),
         })
@@ -58,14 +57,14 @@ impl Finding {
     pub fn judge_own(
         alloc: Global,
         judge: &mut TextJudge<'_>,
-        job: Job,
+        mut job: Job,
     ) -> Result<Finding, AllocFailed<Job>>
         ensures right { IfOk result (λ finding. IsRight judge.old finding) }
         ensures job { IfOk result (λ finding. finding.job ≡ job) }
         ensures task { judge.new ≡ judge.old }
         ensures given_back { IfErr result (λ failed. failed.value ≡ job) }
     {
-        match assess_by(alloc, judge, &job.plan) {
+        match job.plan.assess_by(alloc, judge) {
             Ok(Assessment { verdict, cost }) => Ok(Finding {
                 job,
                 verdict,
@@ -73,21 +72,5 @@ impl Finding {
             }),
             Err(AllocError) => Err(AllocFailed { value: job }),
         }
-    }
-}
-
-/// Judges a plan, read or as its text, and adds up what it costs.
-fn assess_by(
-    alloc: Global,
-    judge: &mut TextJudge<'_>,
-    plan: &SubmittedPlan,
-) -> Result<Assessment, AllocError>
-    ensures answer { IfOk result (λ answer. answer ≡ assessment judge.old plan.now) }
-    ensures compact { IfOk result (λ answer. IsCompact answer.cost) }
-    ensures task { judge.new ≡ judge.old }
-{
-    match plan.form() {
-        PlanForm::Read(plan) => assess(alloc, judge.task(), plan),
-        PlanForm::Text(text) => judge.assess(alloc, text),
     }
 }

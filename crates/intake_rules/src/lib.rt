@@ -9,9 +9,10 @@
 //! ```
 //!
 //! A [`SubmittedPlan`] is a plan as it was handed in: already read, or still as text. A plan that is kept as text takes no memory of its own, since its text
-//! is a range of a file's bytes that all plans of the file share; it is read by the code that judges it. Contracts see its content, a
-//! [`Plan`](strips_task::Plan). A [`Job`] is an accepted plan with its number. A [`Finding`] is a job with its verdict and the cost of its plan, and [`Finding::judge`] makes
-//! the right one. A [`Reply`] is what an intake answers to a request, and a [`Refusal`] is the reason if it refuses one.
+//! is a range of a file's bytes that all plans of the file share. The code that judges it reads it, and leaves beside it where the step is written at which it
+//! fails. Contracts see the content of a plan, a [`Plan`](strips_task::Plan). A [`Job`] is an accepted plan with its number. A [`Finding`] is a job with its
+//! verdict and the cost of its plan, and [`Finding::judge`] makes the right one. A [`Reply`] is what an intake answers to a request, and a [`Refusal`] is the
+//! reason if it refuses one.
 //!
 //! The rules themselves are definitions in `specs/`:
 //!

@@ -1,11 +1,12 @@
 -- Steps that are written as rows: the names of a step, with a space between each two.
 
-use Rattle.std.proofs.Common.{◌≡◌, ◌≢◌, ℕ, suc, ◌-◌, Bool, true, false, List, [], ◌∷◌, ◌++◌, length, map, slice_get, Option, Some, refl, sym, ap, ◌∙◌, arith, append_assoc, codes}
+use Rattle.std.proofs.Common.{◌≡◌, ◌≢◌, ℕ, suc, ◌+◌, ◌<◌, ◌-◌, Bool, true, false, List, [], ◌∷◌, ◌++◌, length, map, slice_get, Option, Some, refl, sym, ap, ◌∙◌, arith, append_assoc, length-append, codes}
 use Rattle.std.specs.Prelude.{if◌then◌else◌, unwrap_or}
 use Rattle.std.specs.Char.{to_ascii_lowercase}
 use Rattle.std.specs.Cmp.{unsigned_Decides}
 use Rattle.std.specs.List.{onto_first}
 use Rattle.std.specs.Option.{option_map}
+use Rattle.std.proofs.lemmas.List.{length-map}
 use Rattle.std.proofs.lemmas.List.Splits.{length-slice_split}
 use Rattle.std.proofs.lemmas.Option.{slice_get-map}
 use Rattle.pddl_words.specs.SpacedWords.{is_space, words_of}
@@ -24,6 +25,13 @@ names_text step = step.action ++ spaced step.args
 
 some_words : (row : List ℕ) → words_of row ≢ []
 some_words row none = let size : length (words_of row) ≡ 0 = ap length none in omega (arith, length-slice_split is_space row, size)
+
+-- a row has a name, so one was read if none is left
+pub some_read : (row : List ℕ) (words left : List (List ℕ)) → left ≡ [] → words ++ map folded left ≡ map folded (words_of row) → 0 < length words
+some_read row words left none all =
+    let read : length words + length (map folded left) ≡ length (map folded (words_of row)) = sym (length-append words (map folded left)) ∙ ap length all in
+    let over : length (map folded left) ≡ 0 = ap (λ (l : List (List ℕ)). length (map folded l)) none in
+    omega (arith, read, over, length-map (words_of row) folded, length-slice_split is_space row)
 
 byte_more : (b : ℕ) (bytes : List ℕ) (words : List (List ℕ)) (space : Bool) → words ≢ [] → is_space b ≡ space → names_text (step_of (map folded words)) ≡ folded bytes
     → names_text (step_of (map folded (if space then [] ∷ words else onto_first b words))) ≡ folded (b ∷ bytes)

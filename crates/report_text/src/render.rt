@@ -1,7 +1,7 @@
 //! The text of steps, verdicts and findings, as reports show them.
 //!
 //! Each function adds its piece at the end of the text.
-ghost use Rattle.std.specs.Prelude.{◌≡◌, ◌<◌, ◌++◌, ◌-◌, OnOk, IfSome, Some, length, map, slice_get};
+ghost use Rattle.std.specs.Prelude.{◌≡◌, ◌<◌, [], ◌∷◌, ◌++◌, ◌-◌, IfOk, OnOk, IfSome, Some, length, map, slice_get};
 ghost use Rattle.std.specs.Option.{option_copied};
 ghost use Rattle.pddl_words.specs.SpacedWords.{words_of};
 ghost use Rattle.pddl_words.specs.Words.{folded};
@@ -180,7 +180,8 @@ fn push_failure_in(
     }
 }
 
-/// Adds the failing step of a plan with a number, counted from 1, and what is wrong with it, in a format; a number that no step has adds nothing.
+/// Adds the failing step of a plan with a number, counted from 1, and what is wrong with it, in a format; a number that no step has adds nothing. The
+/// text of a plan is read once more only if the plan does not know where the step is written.
 pub(crate) fn push_failing_step(
     text: &mut Text,
     format: Format,
@@ -192,6 +193,9 @@ pub(crate) fn push_failing_step(
     ensures { OnOk result (text.new ≡ text.old ++ failure_in format task.now (step_at plan.now (number - 1)) why.now) }
 {
     let index = number.saturating_sub(1) as usize;
+    if let Some(row) = plan.row_of_step(index) {
+        return push_failure_of_spelled(text, format, task, row, why);
+    }
     match plan.form() {
         PlanForm::Read(plan) => push_failure_of_plan(text, format, task, plan, index, why),
         PlanForm::Text(bytes) => push_failure_of_text(text, format, task, bytes, index, why),
@@ -217,7 +221,7 @@ fn push_failure_of_plan(
     }
 }
 
-/// Adds the failing step with an index in a plan that is kept as its text, as above. The text is read once more, but only for plans that fail.
+/// Adds the failing step with an index in a plan that is kept as its text, as above. The text is read once more, to its end.
 fn push_failure_of_text(
     text: &mut Text,
     format: Format,
@@ -234,7 +238,7 @@ fn push_failure_of_text(
     }
 }
 
-/// Adds a failing step where it is written, and what is wrong with it, in a format. A row of names is copied as a whole where it is to be a row.
+/// Adds a failing step where it is written, and what is wrong with it, in a format.
 fn push_failure_of_found(
     text: &mut Text,
     format: Format,
@@ -246,14 +250,46 @@ fn push_failure_of_found(
     requires spelled { IfSome (option_copied found.now.key) (λ row. IsSpelled row × (step_spelled row ≡ step_of (map folded found.now.words))) }
     ensures { OnOk result (text.new ≡ text.old ++ failure_in format task.now (Some (step_of (map folded found.now.words))) why.now) }
 {
-    match (format, found.key) {
-        (Format::Lines, Some(row)) => push_failure_of_row(text, task, row, why),
-        _ => {
+    match found.key {
+        Some(row) => push_failure_of_spelled(text, format, task, row, why),
+        None => {
             let mut step = OpenSteps::new(text.alloc());
             found.words.push_to(&mut step)?;
             push_failure_in(text, format, task, &step.get(0), why)
         }
     }
+}
+
+/// Adds a failing step that a row of names spells, and what is wrong with it, in a format. The row is copied as a whole where it is to be a row.
+fn push_failure_of_spelled(
+    text: &mut Text,
+    format: Format,
+    task: &Task,
+    row: &[u8],
+    why: &Why,
+) -> Result<(), AllocError>
+    ensures { OnOk result (text.new ≡ text.old ++ failure_in format task.now (Some (step_spelled row.now)) why.now) }
+{
+    match format {
+        Format::Lines => push_failure_of_row(text, task, row, why),
+        _ => {
+            let mut step = OpenSteps::new(text.alloc());
+            read_row(row, &mut step)?;
+            push_failure_in(text, format, task, &step.get(0), why)
+        }
+    }
+}
+
+/// Reads the names of a row into an empty step, in lower case, and closes it.
+fn read_row(row: &[u8], step: &mut OpenSteps) -> Result<(), AllocError>
+    requires { step.old ≡ record { steps = []; words = [] } }
+    ensures { IfOk result (λ _. step.new ≡ record { steps = step_spelled row.now ∷ []; words = [] }) }
+{
+    let mut words = RowWords::new(row);
+    'words: while let Some(word) = words.next() {
+        step.push_word(word)?;
+    }
+    step.close_step()
 }
 
 /// Adds a failing step that a row spells, and what is wrong with it.

@@ -27,6 +27,7 @@ use Rattle.plan_text.specs.Walks.{Walk}
 use Rattle.text_judge.specs.Judging.{Judging, HasTaken, cost_by}
 use Rattle.text_judge.proofs.TakenLaws.{found_at_end}
 use Rattle.text_judge.specs.declared.history.Watch.{Watch}
+use Rattle.text_judge.specs.declared.place.StepPlace.{StepPlace}
 use Rattle.text_judge.specs.declared.pass.Passed.{Passed}
 use Rattle.text_judge.specs.declared.pass.Passed.TheVariants.{All, Fails, Unreadable as Faulty}
 use Rattle.text_judge.specs.History.{state_after, steps_taken, AreLastChanges, LastChangesAreEffects}
@@ -107,9 +108,9 @@ all_taken judging steps all taken same =
     ∙ all_of_goal judging.count (missing judging.task.task (state_of judging.state) judging.task.task.goal) steps
 
 -- of a plan that fails those before the step at which it does
-pub some_taken : (walk : Walk) (task : CostedTask) (number : ℕ) (why : Why) (at : FailsAt walk task number why) (more all : List StepText)
+pub some_taken : (walk : Walk) (task : CostedTask) (number : ℕ) (why : Why) (place : Option StepPlace) (at : FailsAt walk task number why place) (more all : List StepText)
     → ◌≡◌ {A = Plan} (Steps ((at.before ++ at.step ∷ []) ++ more)) (Steps all) → steps_taken (verdict task.task (Steps all)) all ≡ at.before
-some_taken walk task number why at more all same =
+some_taken walk task number why place at more all same =
     let joined : (at.before ++ at.step ∷ []) ++ more ≡ at.before ++ at.step ∷ more = append_assoc at.before (at.step ∷ []) more in
     let is : at.before ++ at.step ∷ more ≡ all = sym joined ∙ (let inner : (at.before ++ at.step ∷ []) ++ more ≡ all = cc in inner) in
     let one_less : length at.before + 1 - 1 ≡ length at.before = omega arith in
@@ -121,14 +122,15 @@ some_taken walk task number why at more all same =
 -- how a pass ends, and how it ends for what is watched
 pub ends_pass : (passed : Passed) (walk : Walk) (judging : Judging) (steps : List StepText) → GoOnOrEnd (Some passed) walk judging steps → EndsPass passed walk judging
 ends_pass All walk judging steps end = (steps, end.0, end.1)
-ends_pass (Fails number why) walk judging steps (step, passed, is, fails) = record { before = steps; step = step; passed = passed; is = is; fails = fails }
+ends_pass (Fails number why place) walk judging steps (step, passed, is, fails, written) =
+    record { before = steps; step = step; passed = passed; is = is; fails = fails; written = written }
 ends_pass (Faulty line) walk judging steps end = end
 
 pub ends_watch : (passed : Passed) (walk : Walk) (judging : Judging) (steps : List StepText) (atoms : List Atom) (watches : List Watch)
     → GoOnOrEnd (Some passed) walk judging steps → AreWatched judging.task.task steps atoms watches → EndsWatch passed walk judging atoms watches
 ends_watch All walk judging steps atoms watches end watched = (steps, end.0, end.1, watched)
-ends_watch (Fails number why) walk judging steps atoms watches (step, passed, is, fails) watched =
-    (record { before = steps; step = step; passed = passed; is = is; fails = fails }, watched)
+ends_watch (Fails number why place) walk judging steps atoms watches (step, passed, is, fails, written) watched =
+    (record { before = steps; step = step; passed = passed; is = is; fails = fails; written = written }, watched)
 ends_watch (Faulty line) walk judging steps atoms watches end watched = end
 
 -- what is watched behind the steps that a plan takes before its verdict is clear
@@ -140,14 +142,14 @@ follows_all old judging steps all atoms watches walked text task taken is same_t
     subst (λ (t : CostedTask). AreWatched t.task (steps_taken (verdict t.task (Steps all)) all) atoms watches) task
     (subst (λ (l : List StepText). AreWatched judging.task.task l atoms watches) (sym (all_taken judging steps all taken same)) watched)
 
-pub follows_some : (old : CostedTask) (walk : Walk) (judging : Judging) (number : ℕ) (why : Why) (at : FailsAt walk judging.task number why) (all : List StepText)
+pub follows_some : (old : CostedTask) (walk : Walk) (judging : Judging) (number : ℕ) (why : Why) (place : Option StepPlace) (at : FailsAt walk judging.task number why place) (all : List StepText)
     (atoms : List Atom) (watches : List Watch) (text : List ℕ) (fault : Option ℕ) → judging.task ≡ old
     → MatchOption fault ((more : List StepText) × (plan_of walk.text ≡ Steps ((at.before ++ at.step ∷ []) ++ more))) (λ line. plan_of walk.text ≡ Unreadable line)
     → walk.text ≡ text → plan_of text ≡ Steps all → AreWatched judging.task.task at.before atoms watches
     → AreWatched old.task (steps_taken (verdict old.task (Steps all)) all) atoms watches
-follows_some old walk judging number why at all atoms watches text None task (more, is) same_text given watched =
+follows_some old walk judging number why place at all atoms watches text None task (more, is) same_text given watched =
     let same : ◌≡◌ {A = Plan} (Steps ((at.before ++ at.step ∷ []) ++ more)) (Steps all) = sym is ∙ ap plan_of same_text ∙ given in
     subst (λ (t : CostedTask). AreWatched t.task (steps_taken (verdict t.task (Steps all)) all) atoms watches) task
-    (subst (λ (l : List StepText). AreWatched judging.task.task l atoms watches) (sym (some_taken walk judging.task number why at more all same)) watched)
-follows_some old walk judging number why at all atoms watches text (Some line) task is same_text given watched =
+    (subst (λ (l : List StepText). AreWatched judging.task.task l atoms watches) (sym (some_taken walk judging.task number why place at more all same)) watched)
+follows_some old walk judging number why place at all atoms watches text (Some line) task is same_text given watched =
     let clash : ◌≡◌ {A = Plan} (Unreadable line) (Steps all) = sym is ∙ ap plan_of same_text ∙ given in cc

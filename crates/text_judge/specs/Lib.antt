@@ -1,5 +1,6 @@
 pub mod History
 pub mod Passes
+pub mod Places
 pub mod Watches
 pub mod Judging
 pub mod Known

@@ -35,6 +35,6 @@ pub record WatchTogether (walk : Walk) (judging : Judging) (atoms : List Atom) (
 abbrev pub EndsWatch : Passed → Walk → Judging → List Atom → List Watch → Type 0
 EndsWatch All walk judging atoms watches =
     (steps : List StepText) × HasTaken judging steps × (plan_of walk.text ≡ Steps steps) × AreWatched judging.task.task steps atoms watches
-EndsWatch (Fails number why) walk judging atoms watches =
-    (at : FailsAt walk judging.task number why) × AreWatched judging.task.task at.before atoms watches
+EndsWatch (Fails number why place) walk judging atoms watches =
+    (at : FailsAt walk judging.task number why place) × AreWatched judging.task.task at.before atoms watches
 EndsWatch (Faulty line) walk judging atoms watches = plan_of walk.text ≡ Unreadable line

@@ -55,7 +55,7 @@ pub(crate) fn numbered_amount(
 }
 
 /// The sum of two amounts, undefined if one of them is.
-pub(crate) fn added(cost: Option<u128>, amount: Option<u128>) -> Option<u128>
+fn added(cost: Option<u128>, amount: Option<u128>) -> Option<u128>
     requires { unwrap_or cost 0 + unwrap_or amount 0 < 2 ^ 128 }
     ensures sum { result ≡ added cost amount }
     ensures small { unwrap_or result 0 ≤ unwrap_or cost 0 + unwrap_or amount 0 }
@@ -63,6 +63,20 @@ pub(crate) fn added(cost: Option<u128>, amount: Option<u128>) -> Option<u128>
     match (cost, amount) {
         (Some(cost), Some(amount)) => Some(cost + amount),
         _ => None,
+    }
+}
+
+/// Adds an amount to a cost, which becomes undefined if the amount is. Nothing is written for an amount of 0, which is that of each step of a task without
+/// costs.
+#[inline(always)]
+pub(crate) fn raise(cost: &mut Option<u128>, amount: Option<u128>)
+    requires { unwrap_or cost.old 0 + unwrap_or amount 0 < 2 ^ 128 }
+    ensures sum { cost.new ≡ added cost.old amount }
+    ensures small { unwrap_or cost.new 0 ≤ unwrap_or cost.old 0 + unwrap_or amount 0 }
+{
+    match amount {
+        Some(0) => {}
+        _ => *cost = added(*cost, amount),
     }
 }
 

@@ -1,5 +1,5 @@
 //! The judge.
-ghost use Rattle.std.specs.Prelude.{◌≡◌, [], List, length, IfOk};
+ghost use Rattle.std.specs.Prelude.{◌≡◌, [], List, None, length, IfOk, IfSome};
 ghost use Rattle.strips_task.specs.declared.plans.Plan.TheVariants.{Steps};
 ghost use Rattle.strips_task.specs.declared.steps.StepText.{StepText};
 ghost use Rattle.strips_judge.specs.Verdict.{verdict};
@@ -10,10 +10,12 @@ ghost use Rattle.plan_text.specs.Walks.{HasPassed};
 ghost use Rattle.text_judge.specs.Judging.{HasTaken};
 ghost use Rattle.text_judge.specs.History.{AreLastChanges, steps_taken};
 ghost use Rattle.text_judge.specs.Passes.{unreadable};
+ghost use Rattle.text_judge.specs.Places.{IsPlaceIn};
 ghost use Rattle.text_judge.specs.Watches.{AreWatched};
 
 use crate::history::{Watch, changes_of, watch_all, watch_steps};
 use crate::pass::{Passed, fault_behind, pass};
+use crate::place::StepPlace;
 use crate::step_judge::Judge;
 use plan_cost::{Assessment, Cost, CostedTask};
 use plan_text::PlanSteps;
@@ -21,6 +23,15 @@ use std::alloc::{AllocError, Global};
 use std::marker::Model;
 use strips_judge::Verdict;
 use strips_task::{Atom, OpenSteps};
+
+/// What a judge finds about the plan of a text.
+#[derive(Drop)]
+pub struct Assessed {
+    /// The verdict, and what the plan costs.
+    pub assessment: Assessment,
+    /// Where the step that fails is written, if one does, and if that is as a row.
+    pub place: Option<StepPlace>,
+}
 
 /// A judge of the plans of one task, for one thread. Contracts see the task.
 pub struct TextJudge<'t> {
@@ -80,12 +91,14 @@ impl<'t> TextJudge<'t> {
         self.task
     }
 
-    /// Judges the plan of a text, and adds up what it costs if it is valid and the task counts costs.
+    /// Judges the plan of a text, and adds up what it costs if it is valid and the task counts costs. Says too where the step that fails is written, so
+    /// that whoever shows it need not read the plan again.
     ///
     /// One pass over the text. The judge takes memory for steps and atoms that it has not seen before, within the bounds of `memo`.
-    pub fn assess(&mut self, alloc: Global, text: &[u8]) -> Result<Assessment, AllocError>
-        ensures answer { IfOk result (λ answer. answer ≡ assessment self.old (plan_of text.now)) }
-        ensures compact { IfOk result (λ answer. IsCompact answer.cost) }
+    pub fn assess(&mut self, alloc: Global, text: &[u8]) -> Result<Assessed, AllocError>
+        ensures answer { IfOk result (λ assessed. assessed.assessment ≡ assessment self.old (plan_of text.now)) }
+        ensures compact { IfOk result (λ assessed. IsCompact assessed.assessment.cost) }
+        ensures place { IfOk result (λ assessed. IfSome assessed.place (IsPlaceIn text.now)) }
         ensures task { self.new ≡ self.old }
     {
         match PlanSteps::new(text) {
@@ -160,33 +173,44 @@ fn assess_steps(
     judge: &mut Judge<'_>,
     words: &mut OpenSteps,
     walk: &mut PlanSteps<'_>,
-) -> Result<Assessment, AllocError>
+) -> Result<Assessed, AllocError>
     requires { HasPassed walk.old [] }
-    ensures answer { IfOk result (λ answer. answer ≡ assessment judge.old.task (plan_of walk.old.text)) }
-    ensures compact { IfOk result (λ answer. IsCompact answer.cost) }
+    ensures answer { IfOk result (λ assessed. assessed.assessment ≡ assessment judge.old.task (plan_of walk.old.text)) }
+    ensures compact { IfOk result (λ assessed. IsCompact assessed.assessment.cost) }
+    ensures place { IfOk result (λ assessed. IfSome assessed.place (IsPlaceIn walk.old.text)) }
     ensures task { judge.new.task ≡ judge.old.task }
 {
     judge.begin(alloc)?;
     match pass(alloc, judge, words, walk)? {
-        Passed::All => judge.finish(alloc),
+        Passed::All => Ok(Assessed {
+            assessment: judge.finish(alloc)?,
+            place: None,
+        }),
         Passed::Unreadable { line } => Ok(unreadable(line)),
-        Passed::Fails { step, why } => match fault_behind(walk) {
+        Passed::Fails { step, why, place } => match fault_behind(walk) {
             Some(line) => Ok(unreadable(line)),
-            None => Ok(Assessment {
-                verdict: Verdict::Fails { step, why },
-                cost: Cost::NotCounted,
+            None => Ok(Assessed {
+                assessment: Assessment {
+                    verdict: Verdict::Fails { step, why },
+                    cost: Cost::NotCounted,
+                },
+                place,
             }),
         },
     }
 }
 
-/// The assessment of a text that is no plan text.
-fn unreadable(line: u32) -> Assessment
-    ensures answer { result ≡ unreadable line }
-    ensures compact { IsCompact result.cost }
+/// What is found about a text that is no plan text.
+fn unreadable(line: u32) -> Assessed
+    ensures answer { result.assessment ≡ unreadable line }
+    ensures compact { IsCompact result.assessment.cost }
+    ensures place { result.place ≡ None }
 {
-    Assessment {
-        verdict: Verdict::Unreadable { line },
-        cost: Cost::NotCounted,
+    Assessed {
+        assessment: Assessment {
+            verdict: Verdict::Unreadable { line },
+            cost: Cost::NotCounted,
+        },
+        place: None,
     }
 }

@@ -2,7 +2,7 @@
 //!
 //! ```text
 //! let mut judge = TextJudge::new(alloc, &task, threads)?;         // one for each thread that judges
-//! let answer = judge.assess(alloc, text)?;                        // the verdict of the plan of the text, and its cost
+//! let answer = judge.assess(alloc, text)?;                        // the verdict of the plan of the text, its cost, and where a step fails
 //! let changes = judge.last_changes(alloc, text, &atoms)?;         // which steps changed these atoms last
 //! ```
 //!
@@ -28,8 +28,10 @@ mod memo_limits;
 mod memo_policy;
 mod names;
 mod pass;
+mod place;
 mod step_judge;
 mod steps;
 
-pub use judge::TextJudge;
+pub use judge::{Assessed, TextJudge};
 pub use memo_limits::MOST_JUDGES;
+pub use place::StepPlace;

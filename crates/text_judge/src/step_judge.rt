@@ -12,7 +12,7 @@ ghost use Rattle.plan_cost.specs.CompactCosts.{IsCompact};
 ghost use Rattle.text_judge.specs.Judging.{HasTaken};
 ghost use Rattle.text_judge.specs.Passes.{FailsNext};
 
-use crate::amounts::{added, amount_of, cost_beside, initial_of, numbered_amount};
+use crate::amounts::{amount_of, cost_beside, initial_of, numbered_amount, raise};
 use crate::indexed_task::IndexedTask;
 use crate::memo::Memo;
 use crate::memo_limits::MemoLimits;
@@ -211,7 +211,7 @@ impl<'t> Judge<'t> {
         let Some(amount) = found else {
             return Ok(false);
         };
-        self.cost = added(self.cost, Some(u128::from(amount)));
+        raise(&mut self.cost, Some(u128::from(amount)));
         self.count += 1;
         Ok(true)
     }
@@ -260,7 +260,7 @@ impl<'t> Judge<'t> {
         if !is_taken {
             return Ok(false);
         }
-        self.cost = added(self.cost, amount);
+        raise(&mut self.cost, amount);
         self.count += 1;
         Ok(true)
     }
@@ -290,7 +290,7 @@ impl<'t> Judge<'t> {
             return Ok(Some(why));
         }
         let amount = amount_of(self.task.costed(), step, &mut self.cost_scratch)?;
-        self.cost = added(self.cost, amount);
+        raise(&mut self.cost, amount);
         self.count += 1;
         Ok(None)
     }

@@ -24,6 +24,6 @@ returns-clause-watched c =
           let clash : ◌≡◌ {A = Plan} (Unreadable w.in-Unreadable.line) (Steps all) = sym end ∙ ap plan_of c.in_ok-watch_steps.ensures.text ∙ given in cc)
       | in-Fails w ↦
           let end = rw w.in-Fails.is at c.in_ok-watch_steps.ensures.passed in
-          rw w.result-is (λ all given. follows_some old walk judging w.in-Fails.step w.in-Fails.why end.0 all atoms watches c.args.walk.now.text w.fault_behind.result
+          rw w.result-is (λ all given. follows_some old walk judging w.in-Fails.step w.in-Fails.why w.in-Fails.place end.0 all atoms watches c.args.walk.now.text w.fault_behind.result
           c.in_ok-watch_steps.ensures.task (w.fault_behind.ensures (end.0.before ++ end.0.step ∷ []) end.0.passed) c.in_ok-watch_steps.ensures.text given end.1)
     ]

@@ -6,6 +6,6 @@ use Rattle.text_judge.proofs.pass.advance.Goals as goal
 
 pub take_next-requires : goal.take_next-requires
 take_next-requires c =
-    let tried = c.in_ok-take_spelled.ensures in
-    subst (λ (w : Walk). AreTogether w c.take_spelled.new.judge) (sym (tried.stays c.if-branch.false))
-    (together_still c.args.walk.now c.args.judge.now c.take_spelled.new.judge c.requires (tried.not c.if-branch.false))
+    let tried = rw c.in-Left.is at c.in_ok-take_spelled.ensures.tried in
+    subst (λ (w : Walk). AreTogether w c.take_spelled.new.judge) (sym tried.0)
+    (together_still c.args.walk.now c.args.judge.now c.take_spelled.new.judge c.requires tried.1)

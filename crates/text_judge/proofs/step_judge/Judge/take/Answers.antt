@@ -36,18 +36,18 @@ invariant_of-self-2 c =
     let lt : c.self.inside.count < 1000000 = omega (arith, c.requires, ap (λ (j : Judging). j.count) c.self.view_is) in
     judge_counted c.self.inside.task c.take_step.new.state c.self.inside.cost c.self.inside.count c.self.inside.memo
     (judge_grown c.self.inside.task c.self.inside.state c.self.inside.cost c.self.inside.count c.self.inside.memo c.self.invariant c.take_step.new.state c.take_step.ensures.grows)
-    c.added-self-inside.result c.in_ok-amount.amount lt c.added-self-inside.ensures.small c.in_ok-amount.ensures.small
+    c.raise.new.cost c.in_ok-amount.amount lt c.raise.ensures.small c.in_ok-amount.ensures.small
 
 pub returns-clause-taken : goal.returns-clause-taken
 returns-clause-taken c =
     subst (λ (j : Judging). (steps : List StepText) → HasTaken j steps
-    → HasTaken (record { task = c.self.inside.task; state = c.take_step.new.state; cost = c.added-self-inside.result; count = c.self.inside.count + 1 }) (steps ++ step_shown c.args.step ∷ []))
+    → HasTaken (record { task = c.self.inside.task; state = c.take_step.new.state; cost = c.raise.new.cost; count = c.self.inside.count + 1 }) (steps ++ step_shown c.args.step ∷ []))
     c.self.view_is
-    (has_taken_more c.self.inside.task c.self.inside.state c.self.inside.cost c.self.inside.count c.take_step.new.state c.added-self-inside.result c.in_ok-amount.amount
+    (has_taken_more c.self.inside.task c.self.inside.state c.self.inside.cost c.self.inside.count c.take_step.new.state c.raise.new.cost c.in_ok-amount.amount
     (step_shown c.args.step)
     (λ stays. record {
       not_hindered = ap (λ (parts : TaskParts). hindrance parts (state_of c.self.inside.state) (step_shown c.args.step)) (sym c.index-index.ensures) ∙ sym c.in_ok-why.ensures.why ∙ c.in_default.is;
       leads = ◌∙◌ {A = State} (without_value _ c.in_default.is c.in_ok-why.ensures.next) (ap (λ (parts : TaskParts). after parts (state_of c.self.inside.state) (step_shown c.args.step)) c.index-index.ensures);
       adds = subst (λ (task : CostedTask). IsAmount task.task task.costs (step_shown c.args.step) c.in_ok-amount.amount) c.costed.ensures c.in_ok-amount.ensures.amount;
     })
-    c.added-self-inside.ensures.sum)
+    c.raise.ensures.sum)

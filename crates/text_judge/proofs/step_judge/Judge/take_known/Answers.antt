@@ -18,9 +18,9 @@ pub returns-clause-taken : goal.returns-clause-taken
 returns-clause-taken c = λ t.
     let step = step_spelled c.args.key.now in
     subst (λ (j : Judging). (steps : List StepText) → HasTaken j steps
-    → HasTaken (record { task = c.self.inside.task; state = c.take_remembered.new.state; cost = c.added-self-inside.result; count = c.self.inside.count + 1 }) (steps ++ step ∷ []))
+    → HasTaken (record { task = c.self.inside.task; state = c.take_remembered.new.state; cost = c.raise.new.cost; count = c.self.inside.count + 1 }) (steps ++ step ∷ []))
     c.self.view_is
-    (has_taken_more c.self.inside.task c.self.inside.state c.self.inside.cost c.self.inside.count c.take_remembered.new.state c.added-self-inside.result (Some c.in-Some.amount) step
+    (has_taken_more c.self.inside.task c.self.inside.state c.self.inside.cost c.self.inside.count c.take_remembered.new.state c.raise.new.cost (Some c.in-Some.amount) step
     (with_value (λ amount. KeepsStatics c.self.inside.task.task (state_of c.self.inside.state) → Takes c.self.inside.task (state_of c.self.inside.state) (state_of c.take_remembered.new.state) step (Some amount)) c.in_ok-found.found
     c.in-Some.amount c.in-Some.is c.in_ok-found.ensures.taken)
-    (c.added-self-inside.ensures.sum ∙ ap (λ n. added c.self.inside.cost (Some n)) c.from.ensures))
+    (c.raise.ensures.sum ∙ ap (λ n. added c.self.inside.cost (Some n)) c.from.ensures))

@@ -1,0 +1,6 @@
+(define (domain d)
+  (:requirements :strips :typing :negative-preconditions)
+  (:types room)
+  (:predicates (lit ?r - room) (at ?r - room))
+  (:action go :parameters (?a ?b - room) :precondition (at ?a) :effect (and (at ?b) (not (at ?a))))
+  (:action light :parameters (?r - room) :precondition (and (at ?r) (not (lit ?r))) :effect (lit ?r)))
