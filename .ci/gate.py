@@ -18,9 +18,9 @@ import sys
 
 TOP = os.path.dirname(os.path.dirname(os.path.realpath(__file__)))
 sys.path.insert(0, os.path.join(TOP, "bin"))
+from running import passed_on, until_interrupted  # noqa: E402
 import programs  # noqa: E402
 from arguments import Parser  # noqa: E402
-from running import passed_on, until_interrupted  # noqa: E402
 
 
 def main():

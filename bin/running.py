@@ -1,4 +1,6 @@
 """Runs commands one after another, and ends the one that runs when the caller is interrupted."""
+import interrupts
+
 import contextlib
 import os
 import signal
@@ -6,7 +8,7 @@ import subprocess
 import sys
 import time
 
-ENDED = 130  # the status after an interrupt
+UNREAD = 141  # the status if whoever read the output has closed it
 SECONDS_TO_END = 30
 
 
@@ -25,12 +27,17 @@ def until_interrupted(main, name=os.path.basename(sys.argv[0])):
     for number in (signal.SIGINT, signal.SIGTERM, signal.SIGHUP):
         signal.signal(number, stop)
     try:
-        return main()
+        status = main()
+        sys.stdout.flush()
+        return status
+    except BrokenPipeError:
+        os.dup2(os.open(os.devnull, os.O_WRONLY), sys.stdout.fileno())  # nobody reads on
+        return UNREAD
     except Interrupted as interrupted:
         sys.stdout.flush()
         if not interrupted.is_said:
             print(f"{Progress.clear()}{name}: interrupted", file=sys.stderr)
-        return ENDED
+        return interrupts.ENDED
 
 
 class Progress:
@@ -96,7 +103,7 @@ def passed_on(words, **how):
         return process.wait()
     except Interrupted as interrupted:
         end(process)
-        interrupted.is_said = True
+        interrupted.is_said = process.returncode == interrupts.ENDED
         raise
 
 
