@@ -1,19 +1,29 @@
 """The edits that make a proved function wrong, which the prover has to refuse: crates/CRATE/must-fail has those that the gate tries, crates/CRATE/edits others.
 
 Both folders have the form that rt describes.
+
+An edit is tried on a copy of the crate, over the built libraries below it. First the prover looks at the function alone in which the first changed line
+stands, or at its module if that line is in none. If that is proved all the same, it looks at the whole crate.
 """
+import functools
 import glob
 import os
+import re
 import shutil
 import tempfile
 import time
 
-from rooms import Room, listed, memory
+from programs import kit
+from rooms import PARTS, Room, below, listed, memory
 from running import Command, Progress
 
 FOLDERS = ("must-fail", "edits")
-BYTES_FOR_A_CRATE = 4 << 30
-REFUSED = ": refused, as it must be"
+BYTES_FOR_A_CHECK = 2 << 30
+FUNCTION = re.compile(r"( *)(?:pub(?:\([^)]*\))? )?(?:const )?(?:unsafe )?(?:extern \"C\" )?fn (\w+)")
+METHODS = re.compile(r"impl(?:<.*?>)? (?:.* for )?(\w+)")
+WHERE = re.compile(r"(?:note: )?\S+:\d+:\d+: ")
+NAMES_WHAT_IS_GONE = re.compile(r"(?:\./)?proofs/.*(?:has no field|is not in scope|has no `|was not admitted)")
+OF_FUNCTIONS = re.compile(r"only=(\d+) proved=(\d+)")
 
 
 def listed_edits(names=()):
@@ -23,9 +33,13 @@ def listed_edits(names=()):
     return {it: sorted(own, key=os.path.basename) for it, own in paths.items() if own}
 
 
-def why_not(crate, edit):
-    """Why an edit of a crate cannot be applied, if it cannot."""
-    path, old, pairs, texts = None, None, 0, {}
+class Unusable(Exception):
+    """Why an edit cannot be applied."""
+
+
+def applied(crate, edit):
+    """The texts of the files that an edit changes, by their paths in the crate, and what the prover has to look at first."""
+    path, old, place, texts = None, None, None, {}
     with open(edit, encoding="utf-8") as file:
         lines = file.read().split("\n")
     for line in lines:
@@ -35,89 +49,168 @@ def why_not(crate, edit):
             try:
                 with open(os.path.join(crate.folder, path), encoding="utf-8") as file:
                     texts.setdefault(path, file.read())
-            except OSError:
-                return f"there is no file {path}"
+            except OSError as error:
+                raise Unusable(f"there is no file {path}") from error
         elif kind == "old":
             old = rest[1:]
         elif kind == "new":
             if not path or not old:
-                return "a new text without a file or an old one"
+                raise Unusable("a new text without a file or an old one")
             if texts[path].count(old) != 1:
-                return f"its old text is {texts[path].count(old)} times in {path}: {old.strip()}"
-            texts[path], old, pairs = texts[path].replace(old, rest[1:]), None, pairs + 1
-    return None if pairs else "it changes nothing"
+                raise Unusable(f"its old text is {texts[path].count(old)} times in {path}: {old.strip()}")
+            place = place or place_of(path, texts[path].partition(old)[0] + old)
+            texts[path], old = texts[path].replace(old, rest[1:]), None
+    if not place:
+        raise Unusable("it changes nothing")
+    return texts, place
 
 
-class Trying:
-    """The edits of a crate, which rt tries one after the other. Each is checked in a folder rt-edit-.. below TMPDIR, which shows when it is tried."""
+def why_not(crate, edit):
+    """Why an edit of a crate cannot be applied, if it cannot."""
+    try:
+        applied(crate, edit)
+    except Unusable as why:
+        return str(why)
+    return None
 
-    def __init__(self, crates, crate, paths, folder):
-        self.crate, self.names, self.said, self.seconds = crate, [os.path.basename(it) for it in paths], [], []
-        self.now = self.begun = None
-        self.own = os.path.join(folder, crate.name)
-        os.mkdir(self.own)
-        self.room = Room(crates, crate)
-        os.mkdir(self.room.inside("must-fail"))
-        for it in paths:
-            shutil.copy2(it, self.room.inside("must-fail"))
-        environment = {**os.environ, "RT_JOBS": "1", "TMPDIR": self.own}
-        self.command = Command(["rt", "must-fail", crate.name], self.own + ".log", self.said.append, cwd=self.room.top, env=environment)
+
+def place_of(path, text):
+    """The function of a source in which the last line of a text stands, or its module, as the prover names it; "everything" in a definition or a proof."""
+    if not path.startswith("src/"):
+        return "everything"
+    module = path[len("src/"):].removesuffix(".rt")
+    words = [] if module in ("lib", "main") else module.split("/")
+    methods, found = None, None
+    for line in text.split("\n"):
+        if head := METHODS.match(line):
+            methods = head[1]
+        elif head := FUNCTION.match(line):
+            found = [methods, head[2]] if head[1] else [head[2]]
+        elif line.startswith("}"):
+            methods = None
+            found = None
+    return "::".join(words + (found or [])) or "everything"
+
+
+@functools.lru_cache
+def toolchain():
+    """The folder of the toolchain."""
+    return kit()
+
+
+def call(room, crates, crate):
+    """The call of the prover on a copy of a crate, over the libraries of a room."""
+    of_kit = [it for it in crate.line.partition(":")[2].split() if it not in crates]
+    words = [os.path.join(toolchain(), "bin", "rattle"), "check", "--crate-name", crate.name, "src/lib.rt", "--links", f"{crate.name}="]
+    for name in ["std", *of_kit]:
+        words += ["--extern", f"{name}={os.path.join(toolchain(), 'rlibs', name)}.rlib"]
+    words += ["-L", f"dependency={os.path.join(toolchain(), 'rlibs')}"]
+    for it in below(crates, crate):
+        folder = room.inside(os.path.join("out", "rlib"), it)
+        words += ["-L", f"dependency={folder}"]
+        if it.name in crate.libraries:
+            words += ["--extern", f"{it.name}={os.path.join(folder, it.name)}.rlib"]
+    words += ["--antt-project", os.path.join(toolchain(), "rattle", "logic", "antt-project.json")]
+    words += ["--logic-built", os.path.join(toolchain(), "logic_built"), "--jobs", "1"]
+    return words + (["--crate-type", "staticlib"] if "staticlib" in crate.line.split(":")[0] else [])
+
+
+class Trial:
+    """An edit that is tried."""
+
+    def __init__(self, room, crates, crate, edit, folder):
+        self.crate, self.name = crate, os.path.basename(edit).removesuffix(".edit")
+        self.words, self.begun, self.said, self.command = call(room, crates, crate), time.time(), [], None
+        self.own = tempfile.mkdtemp(dir=folder)
+        texts, self.place = applied(crate, edit)
+        for part in PARTS:
+            if os.path.isdir(os.path.join(crate.folder, part)):
+                shutil.copytree(os.path.join(crate.folder, part), os.path.join(self.own, part))
+        for path, text in texts.items():
+            with open(os.path.join(self.own, path), "w", encoding="utf-8") as file:
+                file.write(text)
+        self.start()
+
+    def start(self):
+        """Starts the prover on what is to be looked at."""
+        self.close()
+        only = [] if self.place == "everything" else ["--only", self.place]
+        self.said = []
+        self.command = Command([*self.words, *only], self.own + ".log", self.said.append, cwd=self.own)
 
     def has_ended(self):
-        """Whether all are tried. Looks which one is tried now, and how long those before it took."""
-        found = glob.glob(os.path.join(glob.escape(self.own), "rt-edit-*"))
-        if self.now not in found:
-            if self.now:
-                self.seconds.append(time.time() - self.begun)
-            self.now, self.begun = found[0] if found else None, time.time()
-        return self.command.status() is not None
+        """Whether it is known if the edit is refused."""
+        status = self.command.status()
+        if status == 0 and self.place != "everything":
+            self.place = "everything"
+            self.start()
+            return False
+        return status is not None
+
+    def is_refused(self):
+        """Whether the prover has read the edited text, and not proved it. An error of the text itself is none of a proof."""
+        last = self.said[-1] if self.said else ""
+        counts = OF_FUNCTIONS.match(last)
+        return int(counts[2]) < int(counts[1]) if counts else last.startswith("logic=not-proved")
 
     def close(self):
-        self.command.close()
-        self.room.leave()
+        if self.command:
+            self.command.close()
 
-    def rows(self):
-        """For each edit whether it was refused, the seconds that its check took, and its name; and what rt said of those that were not refused."""
-        told = {name: line for line in self.said for name in self.names if line.startswith(f"rt: must-fail {self.crate.name}/{name}: ")}
-        seconds = dict(zip(self.names, self.seconds))
-        rows = [(REFUSED in told.get(name, ""), seconds.get(name, 0.0), name) for name in self.names]
-        wrong = [told.get(name, "") for is_refused, _, name in rows if not is_refused]
-        return rows, self.said if "" in wrong else wrong
+    def row(self):
+        """What came of it, in a line; and what the prover said if the edit was not refused."""
+        is_refused = self.is_refused()
+        told = [it for it in self.said if WHERE.match(it)]
+        first = next((it for it in told if not NAMES_WHAT_IS_GONE.match(it)), "only since a proof names what the edit took away")
+        row = f"{'refused' if is_refused else 'NOT REFUSED'} {time.time() - self.begun:6.0f} s  {self.crate.name}/{self.name}  {self.place}  {first[:160]}"
+        return [row] if is_refused else [row, *self.said[-20:]]
 
 
-def show(trying, say):
-    """Prints the table of a crate whose edits are tried, and answers how many were not refused."""
-    rows, wrong = trying.rows()
-    for is_refused, seconds, name in rows:
-        say(f"{'refused' if is_refused else 'NOT REFUSED'} {seconds:6.0f} s  {trying.crate.name}/{name.removesuffix('.edit')}")
-    for line in wrong:
-        say(line)
-    return sum(not is_refused for is_refused, _, _ in rows)
+class Trials:
+    """Edits that are tried, several side by side, and those of a crate one after the other."""
+
+    def __init__(self, names, say, folder):
+        self.crates, self.edits, self.say, self.folder = listed(), listed_edits(names), say, folder
+        self.waiting = sorted(((crate, it) for crate in self.edits for it in self.edits[crate]), key=lambda it: -it[0].lines())
+        self.lanes = max(1, min(len(os.sched_getaffinity(0)), memory() // BYTES_FOR_A_CHECK))
+        self.rooms, self.running, self.count, self.passed = {}, [], len(self.waiting), 0
+
+    def go_on(self):
+        """Starts edits while there is room, and ends those whose result is known."""
+        while self.waiting and len(self.running) < self.lanes:
+            crate, edit = self.waiting.pop(0)
+            if crate not in self.rooms:
+                self.rooms[crate] = Room(self.crates, crate)
+            self.running.append(Trial(self.rooms[crate], self.crates, crate, edit, self.folder))
+        for it in [it for it in self.running if it.has_ended()]:
+            self.running.remove(it)
+            self.passed += it.is_refused()
+            for line in it.row():
+                self.say(f"{Progress.clear()}{line}")
+            it.close()
+            shutil.rmtree(it.own)
+        for crate in set(self.rooms) - {it[0] for it in self.waiting} - {it.crate for it in self.running}:
+            self.rooms.pop(crate).leave()
+
+    def close(self):
+        for it in self.running:
+            it.close()
+        for it in self.rooms.values():
+            it.leave()
 
 
 def try_all(names, say):
-    """Tries the edits of all crates, or of those with these names, several crates side by side. Answers whether each edit was refused."""
-    crates, edits = listed(), listed_edits(names)
-    waiting = sorted(edits, key=lambda it: it.lines() * len(edits[it]))
-    lanes = max(1, min(len(os.sched_getaffinity(0)), memory() // BYTES_FOR_A_CRATE))
-    count, passed, spent, running, progress = sum(map(len, edits.values())), 0, 0.0, [], Progress("")
+    """Tries the edits of all crates, or of those with these names, several side by side. Answers whether each edit was refused."""
+    progress = Progress("")
     with tempfile.TemporaryDirectory(prefix="edits-") as folder:
+        trials = Trials(names, say, folder)
         try:
-            while waiting or running:
-                while waiting and len(running) < lanes:
-                    crate = waiting.pop()
-                    running.append(Trying(crates, crate, edits[crate], folder))
-                time.sleep(0.1)
-                for it in [it for it in running if it.has_ended()]:
-                    running.remove(it)
-                    passed += len(it.names) - show(it, lambda line: say(f"{Progress.clear()}{line}"))
-                    spent += sum(it.seconds)
-                    it.close()
-                tried = count - sum(len(edits[it]) for it in waiting) - sum(max(0, len(it.names) - len(it.seconds)) for it in running)
-                progress.text = f"edits: {tried} of {count} tried, now those of {', '.join(it.crate.name for it in running)}"
+            while trials.waiting or trials.running:
+                trials.go_on()
+                progress.text = f"edits: {trials.count - len(trials.waiting) - len(trials.running)} of {trials.count} tried"
                 progress.show()
+                time.sleep(0.1)
         finally:
-            for it in running:
-                it.close()
-    say(f"{passed} of {count} edits refused, in {spent / 60:.1f} minutes of checks")
-    return passed == count
+            trials.close()
+    say(f"{trials.passed} of {trials.count} edits refused, in {progress.seconds() / 60:.1f} minutes")
+    return trials.passed == trials.count
