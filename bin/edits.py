@@ -161,7 +161,7 @@ class Trial:
         """What came of it, in a line; and what the prover said if the edit was not refused."""
         is_refused = self.is_refused()
         told = [it for it in self.said if WHERE.match(it)]
-        first = next((it for it in told if not NAMES_WHAT_IS_GONE.match(it)), "only since a proof names what the edit took away")
+        first = next((it for it in told if not NAMES_WHAT_IS_GONE.match(it)), "only since a proof names what the edit took away" if is_refused else "")
         row = f"{'refused' if is_refused else 'NOT REFUSED'} {time.time() - self.begun:6.0f} s  {self.crate.name}/{self.name}  {self.place}  {first[:160]}"
         return [row] if is_refused else [row, *self.said[-20:]]
 
