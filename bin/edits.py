@@ -3,7 +3,8 @@
 Both folders have the form that rt describes.
 
 An edit is tried on a copy of the crate, over the built libraries below it. First the prover looks at the function alone in which the first changed line
-stands, or at its module if that line is in none. If that is proved all the same, it looks at the whole crate.
+stands, or at its module if that line is in none, and at what it calls. If that is proved all the same, it looks at the whole crate. What it proves is kept for
+the other edits of the crate, which are tried one after the other.
 """
 import functools
 import glob
@@ -19,8 +20,9 @@ from running import Command, Progress
 
 FOLDERS = ("must-fail", "edits")
 BYTES_FOR_A_CHECK = 2 << 30
+CALLED_WRONGLY = 2  # what the prover answers if there is no function with that name
 FUNCTION = re.compile(r"( *)(?:pub(?:\([^)]*\))? )?(?:const )?(?:unsafe )?(?:extern \"C\" )?fn (\w+)")
-METHODS = re.compile(r"impl(?:<.*?>)? (?:.* for )?(\w+)")
+METHODS = re.compile(r"impl(?:<.*?>)? (?:(\w+)(?:<.*>)? for )?(\w+)")
 WHERE = re.compile(r"(?:note: )?\S+:\d+:\d+: ")
 NAMES_WHAT_IS_GONE = re.compile(r"(?:\./)?proofs/.*(?:has no field|is not in scope|has no `|was not admitted)")
 OF_FUNCTIONS = re.compile(r"only=(\d+) proved=(\d+)")
@@ -83,7 +85,7 @@ def place_of(path, text):
     methods, found = None, None
     for line in text.split("\n"):
         if head := METHODS.match(line):
-            methods = head[1]
+            methods = head[2] + (head[1] or "")
         elif head := FUNCTION.match(line):
             found = [methods, head[2]] if head[1] else [head[2]]
         elif line.startswith("}"):
@@ -118,9 +120,9 @@ def call(room, crates, crate):
 class Trial:
     """An edit that is tried."""
 
-    def __init__(self, room, crates, crate, edit, folder):
+    def __init__(self, words, crate, edit, folder):
         self.crate, self.name = crate, os.path.basename(edit).removesuffix(".edit")
-        self.words, self.begun, self.said, self.command = call(room, crates, crate), time.time(), [], None
+        self.words, self.begun, self.said, self.command = words, time.time(), [], None
         self.own = tempfile.mkdtemp(dir=folder)
         texts, self.place = applied(crate, edit)
         for part in PARTS:
@@ -141,7 +143,7 @@ class Trial:
     def has_ended(self):
         """Whether it is known if the edit is refused."""
         status = self.command.status()
-        if status == 0 and self.place != "everything":
+        if (status == 0 or status == CALLED_WRONGLY) and self.place != "everything":
             self.place = "everything"
             self.start()
             return False
@@ -167,21 +169,38 @@ class Trial:
 
 
 class Trials:
-    """Edits that are tried, several side by side, and those of a crate one after the other."""
+    """Edits that are tried, those of several crates side by side, and those of a crate one after the other."""
 
     def __init__(self, names, say, folder):
-        self.crates, self.edits, self.say, self.folder = listed(), listed_edits(names), say, folder
-        self.waiting = sorted(((crate, it) for crate in self.edits for it in self.edits[crate]), key=lambda it: -it[0].lines())
+        self.crates, self.waiting, self.say, self.folder = listed(), listed_edits(names), say, folder
+        self.lines = {it: it.lines() for it in self.waiting}
         self.lanes = max(1, min(len(os.sched_getaffinity(0)), memory() // BYTES_FOR_A_CHECK))
-        self.rooms, self.running, self.count, self.passed = {}, [], len(self.waiting), 0
+        self.rooms, self.running, self.count, self.passed = {}, [], sum(map(len, self.waiting.values())), 0
+
+    def left(self):
+        """How many edits were not begun."""
+        return sum(map(len, self.waiting.values()))
+
+    def words(self, crate):
+        """The call of the prover on a copy of a crate. What was proved of the crate is kept in a folder, which begins with what `bin/build` has kept."""
+        kept = os.path.join(self.folder, f"{crate.name}.kept")
+        if crate not in self.rooms:
+            self.rooms[crate] = Room(self.crates, crate)
+            if os.path.isdir(os.path.join(crate.folder, "out", "incremental")):
+                shutil.copytree(os.path.join(crate.folder, "out", "incremental"), kept)
+            os.makedirs(kept, exist_ok=True)
+        return [*call(self.rooms[crate], self.crates, crate), "--incremental", kept]
+
+    def begin(self):
+        """Begins edits while there is room, those of the crate first that has most to do."""
+        busy = {it.crate for it in self.running}
+        free = sorted((it for it in self.waiting if self.waiting[it] and it not in busy), key=lambda it: self.lines[it] * len(self.waiting[it]))
+        while free and len(self.running) < self.lanes:
+            crate = free.pop()
+            self.running.append(Trial(self.words(crate), crate, self.waiting[crate].pop(0), self.folder))
 
     def go_on(self):
-        """Starts edits while there is room, and ends those whose result is known."""
-        while self.waiting and len(self.running) < self.lanes:
-            crate, edit = self.waiting.pop(0)
-            if crate not in self.rooms:
-                self.rooms[crate] = Room(self.crates, crate)
-            self.running.append(Trial(self.rooms[crate], self.crates, crate, edit, self.folder))
+        """Ends edits whose result is known, and begins others."""
         for it in [it for it in self.running if it.has_ended()]:
             self.running.remove(it)
             self.passed += it.is_refused()
@@ -189,8 +208,9 @@ class Trials:
                 self.say(f"{Progress.clear()}{line}")
             it.close()
             shutil.rmtree(it.own)
-        for crate in set(self.rooms) - {it[0] for it in self.waiting} - {it.crate for it in self.running}:
-            self.rooms.pop(crate).leave()
+            if not self.waiting[it.crate]:
+                self.rooms.pop(it.crate).leave()
+        self.begin()
 
     def close(self):
         for it in self.running:
@@ -205,9 +225,9 @@ def try_all(names, say):
     with tempfile.TemporaryDirectory(prefix="edits-") as folder:
         trials = Trials(names, say, folder)
         try:
-            while trials.waiting or trials.running:
+            while trials.left() or trials.running:
                 trials.go_on()
-                progress.text = f"edits: {trials.count - len(trials.waiting) - len(trials.running)} of {trials.count} tried"
+                progress.text = f"edits: {trials.count - trials.left() - len(trials.running)} of {trials.count} tried"
                 progress.show()
                 time.sleep(0.1)
         finally:
