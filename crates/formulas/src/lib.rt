@@ -33,5 +33,5 @@ pub use grounding::ground;
 pub use names::{Name, NameKey};
 pub use seq::Seq;
 pub use short::ShortSeq;
-pub use terms::{Pattern, Term};
+pub use terms::{Pattern, Term, variable_term};
 pub use variables::{Alternatives, VariableGroup};

@@ -1,4 +1,7 @@
 //! Terms, and atoms whose arguments are terms.
+ghost use Rattle.std.specs.Prelude.{◌≡◌, IfNone, IfSome, Some};
+ghost use Rattle.std.specs.Option.{option_map};
+ghost use Rattle.formulas.specs.declared.terms.Term.TheVariants.{Bound, Param};
 
 use crate::ShortSeq;
 
@@ -18,6 +21,19 @@ pub enum Term {
 impl Default for Term {
     fn default() -> Term {
         Term::Param(0)
+    }
+}
+
+/// The term that a variable stands for, if there are a bound variable with this level and a parameter with this index of its name. The bound one hides the
+/// parameter.
+pub fn variable_term(bound: Option<u16>, parameter: Option<u16>) -> Option<Term>
+    ensures bound { IfSome bound (λ level. result ≡ Some (Bound level)) }
+    ensures parameter { IfNone bound (result ≡ option_map (λ index. Param index) parameter) }
+{
+    match (bound, parameter) {
+        (Some(level), _) => Some(Term::Bound(level)),
+        (None, Some(index)) => Some(Term::Param(index)),
+        (None, None) => None,
     }
 }
 

@@ -12,7 +12,8 @@ use Rattle.judge_engine.specs.declared.fault.Input.TheVariants as input
 use Rattle.judge_engine.specs.declared.inlet.TheConstants.{FILE_LIMIT}
 use Rattle.judge_engine.proofs.TooLarge.{large_from, large_here, large_later}
 use Rattle.plan_judge_c.specs.Answers.{are_valid, report_for}
-use Rattle.plan_judge_c.specs.Inputs.{bundle_of, bundles_of, dialect_numbered, format_numbered, source_of}
+use Rattle.plan_judge_c.specs.Inputs.{bundle_of, bundles_of, format_numbered, source_of}
+use Rattle.c_values.specs.Dialects.{dialect_numbered}
 use Rattle.plan_judge_c.specs.declared.inputs.NamedText.{NamedText}
 use Rattle.plan_judge_c.specs.declared.inputs.Texts.{Texts}
 

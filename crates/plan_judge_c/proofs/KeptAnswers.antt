@@ -16,8 +16,9 @@ use Rattle.judge_engine.specs.declared.fault.JudgeFault.TheVariants.{TooLarge, T
 use Rattle.judge_engine.proofs.KeptTasks.{empty_fits, same_answer, same_cause}
 use Rattle.judge_engine.proofs.TooLarge.{too_large_bundles}
 use Rattle.plan_judge_c.specs.Answers.{IsCalledFor, name_or_none, refusal_line, report_for}
-use Rattle.plan_judge_c.specs.Handing.{IsHandedOut}
-use Rattle.plan_judge_c.specs.Inputs.{bundles_of, dialect_numbered, format_numbered}
+use Rattle.c_values.specs.Handing.{IsHandedOut}
+use Rattle.plan_judge_c.specs.Inputs.{bundles_of, format_numbered}
+use Rattle.c_values.specs.Dialects.{dialect_numbered}
 use Rattle.plan_judge_c.specs.KeptAnswers.{AreTextsOf, kept_report, task_for}
 use Rattle.plan_judge_c.specs.declared.inputs.NamedText.{NamedText}
 use Rattle.plan_judge_c.specs.declared.inputs.Texts.{Texts}

@@ -13,7 +13,8 @@ use Rattle.judge_engine.specs.declared.fault.Input.{Input}
 use Rattle.judge_engine.specs.declared.fault.Input.TheVariants as input
 use Rattle.judge_engine.specs.declared.fault.JudgeFault.{JudgeFault}
 use Rattle.judge_engine.specs.declared.fault.JudgeFault.TheVariants.{TooLarge, TooManyPlanners, Domain, Problem, TooManyPlans, Steps, OutOfMemory, NoThread, Held}
-use Rattle.plan_judge_c.specs.Inputs.{bundles_of, dialect_numbered, format_numbered, source_of}
+use Rattle.plan_judge_c.specs.Inputs.{bundles_of, format_numbered, source_of}
+use Rattle.c_values.specs.Dialects.{dialect_numbered}
 use Rattle.plan_judge_c.specs.declared.inputs.NamedText.{NamedText}
 use Rattle.plan_judge_c.specs.declared.inputs.Texts.{Texts}
 

@@ -1,17 +1,11 @@
 -- What a caller in C hands in.
 
 use Rattle.std.specs.Prelude.{ℕ, nat_lt, Bool, ◌&&◌, ◌||◌, List, map, Option, Some, None, ◌==◌, if◌then◌else◌}
-use Rattle.pddl_syntax.specs.declared.dialect.Dialect.{Dialect}
-use Rattle.pddl_syntax.specs.declared.dialect.Dialect.TheVariants.{Strips, Ipc, Adl}
 use Rattle.report_text.specs.declared.format.Format.{Format}
 use Rattle.report_text.specs.declared.format.Format.TheVariants.{Lines, Table, Json}
 use Rattle.explanations.specs.declared.source.SourceText.{SourceText}
 use Rattle.judge_engine.specs.Bundle.{BundleValue}
 use Rattle.plan_judge_c.specs.declared.inputs.NamedText.{NamedText}
-
--- the dialect with a number
-abbrev pub dialect_numbered : ℕ → Option Dialect
-dialect_numbered number = if number == 0 then Some Strips else if number == 1 then Some Ipc else if number == 2 then Some Adl else None
 
 -- the format with a number
 abbrev pub format_numbered : ℕ → Option Format

@@ -7,7 +7,8 @@ use Rattle.strips_task.specs.declared.costs.CostedTask.{CostedTask}
 use Rattle.judge_engine.specs.Kept.{answer_of, task_within}
 use Rattle.judge_engine.specs.Refusal.{IsOfTexts, TextsCallForIn}
 use Rattle.judge_engine.specs.declared.fault.JudgeFault.{JudgeFault}
-use Rattle.plan_judge_c.specs.Inputs.{bundles_of, dialect_numbered, format_numbered}
+use Rattle.plan_judge_c.specs.Inputs.{bundles_of, format_numbered}
+use Rattle.c_values.specs.Dialects.{dialect_numbered}
 use Rattle.plan_judge_c.specs.declared.inputs.NamedText.{NamedText}
 use Rattle.plan_judge_c.specs.declared.inputs.Texts.{Texts}
 

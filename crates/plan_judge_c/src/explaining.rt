@@ -3,13 +3,16 @@ ghost use Rattle.std.specs.Prelude.{◌≡◌, ◌≤◌, ◌<◌, ◌⊎◌, �
 ghost use Rattle.explanations.specs.AllValid.{all_valid_for};
 ghost use Rattle.task_reader.specs.Texts.{task_in};
 ghost use Rattle.plan_judge_c.specs.Answers.{IsTooLarge, are_valid};
-ghost use Rattle.plan_judge_c.specs.Handing.{IsHandedOut};
-ghost use Rattle.plan_judge_c.specs.Inputs.{dialect_numbered, is_asked, source_of};
-ghost use Rattle.plan_judge_c.specs.declared.answer.TheConstants.{MADE, REFUSED, MISUSED, OUT_OF_MEMORY};
+ghost use Rattle.c_values.specs.Handing.{IsHandedOut};
+ghost use Rattle.plan_judge_c.specs.Inputs.{is_asked, source_of};
+ghost use Rattle.c_values.specs.Dialects.{dialect_numbered};
+ghost use Rattle.c_values.specs.declared.answer.TheConstants.{MADE, REFUSED, MISUSED, OUT_OF_MEMORY};
 
-use crate::answer::{Answer, MADE, MISUSED, OUT_OF_MEMORY, REFUSED, hand_out, no_text};
-use crate::inputs::{Texts, dialect_numbered, seed_from, source_from, sources_from};
+use crate::inputs::{Texts, seed_from, source_from, sources_from};
 use crate::refusing::{refuse, too_large};
+use c_values::{
+    Answer, MADE, MISUSED, OUT_OF_MEMORY, REFUSED, dialect_numbered, hand_out, no_text,
+};
 use explanations::{Explanation, ExplanationFormat, Options, explain};
 use judge_engine::fault::JudgeFault;
 use std::alloc::{AllocError, Global};

@@ -1,10 +1,10 @@
 //! What a caller hands in.
 ghost use Rattle.std.specs.Prelude.{◌≡◌, All, IfOk, IfErr, map};
 ghost use Rattle.std.specs.Str.{IsUtf8};
-ghost use Rattle.plan_judge_c.specs.Inputs.{bundle_of, bundles_of, dialect_numbered, format_numbered, source_of};
+ghost use Rattle.plan_judge_c.specs.Inputs.{bundle_of, bundles_of, format_numbered, source_of};
 ghost use Rattle.plan_judge_c.specs.declared.inputs.Untaken.TheVariants.{NoText};
 
-use explanations::{Dialect, SourceText};
+use explanations::SourceText;
 use judge_engine::Seed;
 use judge_engine::bundle::Bundle;
 use report_text::Format;
@@ -68,18 +68,6 @@ impl<T: Drop> From<AllocFailed<T>> for Untaken {
 
     fn from(_error: AllocFailed<T>) -> Self {
         Untaken::OutOfMemory
-    }
-}
-
-/// The dialect with a number.
-pub(crate) fn dialect_numbered(number: u32) -> Option<Dialect>
-    ensures { result ≡ dialect_numbered number }
-{
-    match number {
-        0 => Some(Dialect::Strips),
-        1 => Some(Dialect::Ipc),
-        2 => Some(Dialect::Adl),
-        _ => None,
     }
 }
 

@@ -5,18 +5,17 @@ ghost use Rattle.strips_task.specs.declared.costs.CostedTask.{CostedTask};
 ghost use Rattle.judge_engine.specs.Kept.{PlansCallFor, answer_of};
 ghost use Rattle.judge_engine.specs.declared.fault.JudgeFault.{JudgeFault};
 ghost use Rattle.plan_judge_c.specs.Answers.{IsCalledFor, refusal_line, report_for};
-ghost use Rattle.plan_judge_c.specs.Handing.{IsHandedOut};
-ghost use Rattle.plan_judge_c.specs.Inputs.{bundles_of, dialect_numbered, format_numbered};
+ghost use Rattle.c_values.specs.Handing.{IsHandedOut};
+ghost use Rattle.plan_judge_c.specs.Inputs.{bundles_of, format_numbered};
+ghost use Rattle.c_values.specs.Dialects.{dialect_numbered};
 ghost use Rattle.plan_judge_c.specs.KeptAnswers.{AreTextsOf, IsTaskCalledFor, kept_report, task_for};
 ghost use Rattle.plan_judge_c.specs.declared.inputs.Texts.{Texts};
-ghost use Rattle.plan_judge_c.specs.declared.answer.TheConstants.{MADE, REFUSED, MISUSED, OUT_OF_MEMORY};
+ghost use Rattle.c_values.specs.declared.answer.TheConstants.{MADE, REFUSED, MISUSED, OUT_OF_MEMORY};
 
-use crate::answer::{Answer, MADE, MISUSED, OUT_OF_MEMORY, hand_out, no_text};
-use crate::inputs::{
-    NamedText, Texts, Untaken, bundles_from, dialect_numbered, format_numbered, seed_from,
-};
+use crate::inputs::{NamedText, Texts, Untaken, bundles_from, format_numbered, seed_from};
 use crate::kept::KeptTask;
 use crate::refusing::{refuse, refuse_plans, too_large_plans};
+use c_values::{Answer, MADE, MISUSED, OUT_OF_MEMORY, dialect_numbered, hand_out, no_text};
 use judge_engine::bundle::Bundle;
 use judge_engine::fault::JudgeFault;
 use judge_engine::kept::{judge_kept, read_kept};

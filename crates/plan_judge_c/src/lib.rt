@@ -4,10 +4,9 @@
 //! has to keep to, `c/plan_judge.h` says.
 //!
 //! [`judging`] has the call that judges, [`explaining`] the one that explains, and [`keeping`] those that keep a task between calls. What they take is in
-//! `inputs`, and what they give in `answer`; `refusing` says why texts are refused. A task that is kept is in `kept`, as the pointer of its box.
+//! `inputs`, and what they give in the crate [`c_values`]; `refusing` says why texts are refused. A task that is kept is in `kept`, as the pointer of its box.
 #![tactic(auto)]
 
-mod answer;
 pub mod explaining;
 mod inputs;
 pub mod judging;

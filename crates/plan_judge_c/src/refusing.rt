@@ -2,13 +2,13 @@
 ghost use Rattle.std.specs.Prelude.{◌≡◌, ◌⊎◌, [], IfOk};
 ghost use Rattle.judge_engine.specs.Answer.{too_large};
 ghost use Rattle.plan_judge_c.specs.Answers.{name_in_fault, refusal_line};
-ghost use Rattle.plan_judge_c.specs.Handing.{IsHandedOut};
+ghost use Rattle.c_values.specs.Handing.{IsHandedOut};
 ghost use Rattle.plan_judge_c.specs.Inputs.{bundles_of};
 ghost use Rattle.plan_judge_c.specs.declared.inputs.Texts.{Texts};
-ghost use Rattle.plan_judge_c.specs.declared.answer.TheConstants.{REFUSED, OUT_OF_MEMORY};
+ghost use Rattle.c_values.specs.declared.answer.TheConstants.{REFUSED, OUT_OF_MEMORY};
 
-use crate::answer::{Answer, OUT_OF_MEMORY, REFUSED, hand_out, no_text};
 use crate::inputs::{NamedText, Texts};
+use c_values::{Answer, OUT_OF_MEMORY, REFUSED, hand_out, no_text};
 use judge_engine::fault::{Input, JudgeFault};
 use judge_engine::fault_text::{line_of_fault, push_fault};
 use judge_engine::inlet::FILE_LIMIT;

@@ -1,6 +1,7 @@
 //! The variables that terms may name: the parameters of an action, and those that quantifiers bind.
 
 ghost use Rattle.std.specs.Prelude.{◌≡◌, ◌≤◌, length, take, IfSome, OnOk, None};
+ghost use Rattle.formulas.specs.declared.terms.Term.TheVariants.{Bound};
 ghost use Rattle.pddl_syntax.specs.Forms.{word_forms};
 ghost use Rattle.pddl_syntax.specs.Reading.{Gives};
 ghost use Rattle.pddl_reader.specs.Resolved.{known_form, variables_form};
@@ -9,6 +10,7 @@ ghost use Rattle.strips_task.specs.WellFormed.{is_fitting, most_variables, term_
 
 use crate::resolution::tables::Declared;
 use crate::resolution::variables::{DeclaredVariables, variable_number};
+use formulas::variable_term;
 use pddl_syntax::{FaultKind, ReadFault, Word};
 use pddl_tokens::same_folded;
 use std::alloc::{AllocError, Global};
@@ -80,11 +82,16 @@ impl<'a> Scope<'a> {
     pub(crate) fn variable(&self, word: Word<'_>) -> Result<Term, ReadFault>
         ensures { Gives (λ term. term) result (variable_meant self.now word.entry.text.now) }
     {
-        if let Some(level) = last_number(self.names.as_slice(), word.text) {
-            return bound_term(level, word);
-        }
-        match variable_number(self.parameters.names.as_slice(), word.text) {
-            Some(number) => Ok(Term::Param(number as u16)),
+        let bound = match last_number(self.names.as_slice(), word.text) {
+            Some(level) => Some(bound_level(level, word)?),
+            None => None,
+        };
+        let parameter = match variable_number(self.parameters.names.as_slice(), word.text) {
+            Some(number) => Some(number as u16),
+            None => None,
+        };
+        match variable_term(bound, parameter) {
+            Some(term) => Ok(term),
             None => Err(ReadFault::new(FaultKind::UnknownName, word.span)),
         }
     }
@@ -154,13 +161,13 @@ fn last_number(names: &[Word<'_>], word: &[u8]) -> Option<usize>
     last
 }
 
-/// The bound variable with a level. There are fewer levels in every text that the grammar takes, since lists nest at most 64 deep.
+/// The level of a bound variable, as a term holds it. There are fewer levels in every text that the grammar takes, since lists nest at most 64 deep.
 #[tactic(auto, using(crate::proofs::ScopeMeaning::level_steps))]
-fn bound_term(level: usize, word: Word<'_>) -> Result<Term, ReadFault>
-    ensures { Gives (λ term. term) result (bound_term level) }
+fn bound_level(level: usize, word: Word<'_>) -> Result<u16, ReadFault>
+    ensures { Gives (λ level. Bound level) result (bound_term level) }
 {
     if level >= LEVELS {
         return Err(ReadFault::new(FaultKind::TooMany, word.span));
     }
-    Ok(Term::Bound(level as u16))
+    Ok(level as u16)
 }

@@ -1,6 +1,6 @@
 //! What a call answers: how it ended, and a text in the caller's buffer.
 ghost use Rattle.std.specs.Prelude.{◌≡◌};
-ghost use Rattle.plan_judge_c.specs.Handing.{IsHandedOut};
+ghost use Rattle.c_values.specs.Handing.{IsHandedOut};
 
 /// The status of a call that made what was asked for.
 pub const MADE: u32 = 0;
@@ -25,14 +25,14 @@ pub struct Answer {
 }
 
 /// The answer without a text.
-pub(crate) fn no_text(status: u32) -> Answer
+pub fn no_text(status: u32) -> Answer
     ensures { result ≡ record { status = status; length = 0 } }
 {
     Answer { status, length: 0 }
 }
 
 /// Writes a text to the front of the buffer if there is room for all of it, and answers how long it is.
-pub(crate) fn hand_out(status: u32, text: &[u8], out: &mut [u8]) -> Answer
+pub fn hand_out(status: u32, text: &[u8], out: &mut [u8]) -> Answer
     ensures status { result.status ≡ status }
     ensures text { IsHandedOut text.now result.length out.old out.new }
 {

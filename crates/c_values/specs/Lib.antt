@@ -1,0 +1,2 @@
+pub mod Dialects
+pub mod Handing
