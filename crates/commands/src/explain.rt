@@ -80,10 +80,15 @@ pub(crate) fn explain_files<'a, S: Sources>(
 }
 
 /// A file that was read, with its name.
-#[derive(Drop)]
 struct NamedText {
     name: String,
     bytes: Vec<u8>,
+}
+
+impl Drop for NamedText {
+    fn drop(self) {
+        let Self { name: _, bytes: _ } = self;
+    }
 }
 
 /// The explanation of files.

@@ -67,7 +67,6 @@ pub struct JudgeRequest<'a> {
 }
 
 /// What is to be explained or validated.
-#[derive(Drop)]
 pub struct ExplainRequest<'a> {
     /// The name of the file of the domain.
     pub domain: &'a str,
@@ -83,6 +82,20 @@ pub struct ExplainRequest<'a> {
     pub trace: bool,
     /// Whether to warn of what is probably not meant in the domain and the problem, too.
     pub lint: bool,
+}
+
+impl Drop for ExplainRequest<'_> {
+    fn drop(self) {
+        let Self {
+            domain: _,
+            problem: _,
+            plans: _,
+            dialect: _,
+            format: _,
+            trace: _,
+            lint: _,
+        } = self;
+    }
 }
 
 /// The files of a replay.

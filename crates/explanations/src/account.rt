@@ -9,7 +9,6 @@ use crate::plans::JudgedPlan;
 use strips_task::{Formula, VariableGroup};
 
 /// A page on which it is written why a condition does not hold.
-#[derive(Drop)]
 pub(crate) struct Account<'p, 'a, 'f, 't> {
     pub(crate) page: &'p mut Page,
     pub(crate) judged: JudgedPlan<'a, 'f, 't>,
@@ -19,6 +18,18 @@ pub(crate) struct Account<'p, 'a, 'f, 't> {
     pub(crate) depth: usize,
     /// How many formulas may still be shown.
     pub(crate) left: usize,
+}
+
+impl Drop for Account<'_, '_, '_, '_> {
+    fn drop(self) {
+        let Self {
+            page: _,
+            judged: _,
+            bound: _,
+            depth: _,
+            left: _,
+        } = self;
+    }
 }
 
 /// Begins the line or the record of a formula.

@@ -27,7 +27,7 @@ use plan_cost::{Assessment, CostedTask};
 use plan_text::{PartEnd, part_from};
 use std::alloc::{AllocError, Global};
 use strips_judge::Verdict;
-use strips_task::Seed;
+use strips_task::{Seed, Task};
 use task_reader::TaskFault;
 use text_judge::{Assessed, TextJudge};
 
@@ -337,16 +337,30 @@ fn push_found<'a>(
     if options.trace {
         push_steps(page, judge.task(), plan, verdict)?;
     }
-    let positions = named_positions(page.alloc(), plan, verdict)?;
     let missing = missing_of(verdict);
     let changes = changes_for(page.alloc(), judge, plan.part.text(), missing)?;
     let task = &judge.task().task;
     let most = steps_followed(options.dialect, verdict);
-    let world = world_after(page.alloc(), task, plan.part.text(), most)?;
+    let changes = changes.as_slice();
+    push_with_changes(page, task, library, plan, assessment, changes, most)
+}
+
+/// Adds what is found about a plan, where it is known which step changed each missing condition last. So many of its steps are followed.
+fn push_with_changes<'a>(
+    page: &mut Page,
+    task: &Task,
+    library: &mut Library<'a>,
+    plan: PlanAt<'a>,
+    assessment: &Assessment,
+    changes: &[Option<usize>],
+    steps: usize,
+) -> Result<(), AllocError> {
+    let positions = named_positions(page.alloc(), plan, &assessment.verdict)?;
+    let world = world_after(page.alloc(), task, plan.part.text(), steps)?;
     let judged = JudgedPlan {
         plan,
         positions: &positions,
-        changes: changes.as_slice(),
+        changes,
         world: &world,
         assessment,
     };

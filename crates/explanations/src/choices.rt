@@ -7,18 +7,34 @@ use strips_task::{Task, VariableGroup};
 
 /// All choices of objects for the variables of a quantifier, in the order in which they are tried: objects in the order of their numbers, and the last
 /// variable changes first. Choices are counted from 0.
-#[derive(Drop)]
 pub(crate) struct Choices {
     /// For each group of variables how many they are, and the objects that fit them.
     groups: Vec<Group>,
     count: usize,
 }
 
+impl Drop for Choices {
+    fn drop(self) {
+        let Self {
+            groups: _,
+            count: _,
+        } = self;
+    }
+}
+
 /// Variables of the same types.
-#[derive(Drop)]
 struct Group {
     variables: usize,
     objects: Vec<u16>,
+}
+
+impl Drop for Group {
+    fn drop(self) {
+        let Self {
+            variables: _,
+            objects: _,
+        } = self;
+    }
 }
 
 impl Choices {

@@ -21,13 +21,22 @@ pub(crate) struct Guard<'t> {
 }
 
 /// How an effect happened: under which conditions, and for which objects. Of an effect without conditions no objects are kept.
-#[derive(Drop)]
 pub(crate) struct Firing<'t> {
     pub(crate) guards: Vec<Guard<'t>>,
     /// The objects of the parameters of the action.
     pub(crate) objects: Vec<u16>,
     /// Those of the variables that are bound around the effect.
     pub(crate) bound: Vec<u16>,
+}
+
+impl Drop for Firing<'_> {
+    fn drop(self) {
+        let Self {
+            guards: _,
+            objects: _,
+            bound: _,
+        } = self;
+    }
 }
 
 /// An atom that a step makes true or false.
@@ -45,7 +54,6 @@ pub(crate) struct StepChanges<'t> {
 }
 
 /// The effects of a step, as far as they were gathered.
-#[derive(Drop)]
 struct Gathering<'w, 't> {
     world: &'w World<'t>,
     objects: Vec<u16>,
@@ -55,6 +63,19 @@ struct Gathering<'w, 't> {
     guards: Vec<Guard<'t>>,
     deleted: IndexMap<Atom, Firing<'t>, Seed>,
     added: IndexMap<Atom, Firing<'t>, Seed>,
+}
+
+impl Drop for Gathering<'_, '_> {
+    fn drop(self) {
+        let Self {
+            world: _,
+            objects: _,
+            bound: _,
+            guards: _,
+            deleted: _,
+            added: _,
+        } = self;
+    }
 }
 
 /// What a step changes in a world.
@@ -155,9 +176,11 @@ impl<'w, 't> Gathering<'w, 't> {
     fn finish(self) -> Result<StepChanges<'t>, AllocError> {
         let Self {
             world,
+            objects: _,
+            bound: _,
+            guards: _,
             deleted,
             added,
-            ..
         } = self;
         let mut changes = StepChanges {
             deleted: Vec::new(world.alloc()),

@@ -81,11 +81,20 @@ impl<'a> ReadText<'a> {
 }
 
 /// A warning about a range of a file.
-#[derive(Drop)]
 struct Warning<'a> {
     file: SourceText<'a>,
     range: Range,
     message: Vec<u8>,
+}
+
+impl Drop for Warning<'_> {
+    fn drop(self) {
+        let Self {
+            file: _,
+            range: _,
+            message: _,
+        } = self;
+    }
 }
 
 impl Warning<'_> {
@@ -110,10 +119,18 @@ impl Warning<'_> {
 }
 
 /// Warnings, as many as are shown, and how many more there are.
-#[derive(Drop)]
 pub(crate) struct Warnings<'a> {
     list: Vec<Warning<'a>>,
     left_out: usize,
+}
+
+impl Drop for Warnings<'_> {
+    fn drop(self) {
+        let Self {
+            list: _,
+            left_out: _,
+        } = self;
+    }
 }
 
 impl<'a> Warnings<'a> {

@@ -49,12 +49,21 @@ pub(crate) struct Compound {
 }
 
 /// The literals of preconditions, effects and goals, in the order of the text, and which parameters of actions they use.
-#[derive(Drop)]
 pub(crate) struct Literals {
     list: Vec<Literal>,
     compounds: Vec<Compound>,
     /// For each name of the text whether it is a parameter that is used.
     uses: Vec<bool>,
+}
+
+impl Drop for Literals {
+    fn drop(self) {
+        let Self {
+            list: _,
+            compounds: _,
+            uses: _,
+        } = self;
+    }
 }
 
 impl Literals {

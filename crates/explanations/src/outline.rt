@@ -59,9 +59,14 @@ fn section_of(word: &[u8]) -> Section {
 }
 
 /// The declared names of a text, in its order.
-#[derive(Drop)]
 pub(crate) struct Outline {
     names: Vec<Declared>,
+}
+
+impl Drop for Outline {
+    fn drop(self) {
+        let Self { names: _ } = self;
+    }
 }
 
 impl Outline {

@@ -34,7 +34,6 @@ pub(crate) enum Style {
 }
 
 /// Text that is made piece by piece, with or without colors. If memory runs out, the page says so at the end, and its text is lost.
-#[derive(Drop)]
 pub(crate) struct Page {
     text: Text,
     format: ExplanationFormat,
@@ -42,6 +41,18 @@ pub(crate) struct Page {
     /// Whether hints and remarks begin with a label.
     has_labels: bool,
     lacks_memory: bool,
+}
+
+impl Drop for Page {
+    fn drop(self) {
+        let Self {
+            text: _,
+            format: _,
+            colors: _,
+            has_labels: _,
+            lacks_memory: _,
+        } = self;
+    }
 }
 
 impl Page {
@@ -104,8 +115,10 @@ impl Page {
     pub(crate) fn into_text(self) -> Result<Text, AllocError> {
         let Page {
             text,
+            format: _,
+            colors: _,
+            has_labels: _,
             lacks_memory,
-            ..
         } = self;
         if lacks_memory {
             return Err(AllocError);
@@ -117,8 +130,10 @@ impl Page {
     fn take_draft(&mut self, draft: Page) -> Vec<u8> {
         let Page {
             text,
+            format: _,
+            colors: _,
+            has_labels: _,
             lacks_memory,
-            ..
         } = draft;
         self.lacks_memory |= lacks_memory;
         let mut bytes = text.into_bytes();

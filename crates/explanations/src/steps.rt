@@ -35,9 +35,14 @@ impl<'a> Part<'a> {
 }
 
 /// The positions of a plan's steps, in their order.
-#[derive(Drop)]
 pub(crate) struct StepPositions {
     positions: Vec<Position>,
+}
+
+impl Drop for StepPositions {
+    fn drop(self) {
+        let Self { positions: _ } = self;
+    }
 }
 
 impl StepPositions {

@@ -7,9 +7,14 @@ use std::alloc::{AllocError, Global};
 use strips_task::{Action, Effect, EffectNode, KeptAtom, Pattern, Task};
 
 /// For each predicate whether an initial atom or an effect has it.
-#[derive(Drop)]
 pub(crate) struct Support {
     predicates: Vec<bool>,
+}
+
+impl Drop for Support {
+    fn drop(self) {
+        let Self { predicates: _ } = self;
+    }
 }
 
 impl Support {

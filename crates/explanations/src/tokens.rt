@@ -41,10 +41,15 @@ pub(crate) fn range_of(token: Token<'_>) -> Range {
 }
 
 /// The pieces of a text in order.
-#[derive(Drop)]
 pub(crate) struct Pieces<'a> {
     pub(crate) text: &'a [u8],
     pieces: Vec<Piece>,
+}
+
+impl Drop for Pieces<'_> {
+    fn drop(self) {
+        let Self { text: _, pieces: _ } = self;
+    }
 }
 
 impl<'a> Pieces<'a> {

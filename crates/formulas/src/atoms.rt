@@ -11,12 +11,17 @@ use std::alloc::{AllocError, Global};
 use std::hash::{Hash, Hasher};
 
 /// A predicate applied to objects, all by number.
-#[derive(Drop)]
 pub struct Atom {
     /// The number of the predicate.
     pub pred: u16,
     /// The numbers of the objects, in the order of the predicate's arguments.
     pub args: ShortSeq<u16>,
+}
+
+impl Drop for Atom {
+    fn drop(self) {
+        let Self { pred: _, args: _ } = self;
+    }
 }
 
 impl Atom {

@@ -21,9 +21,14 @@ const INLINE: usize = 22;
 
 /// A name in lower case, seen by contracts as the list of its bytes. They are always a name of PDDL, which is a letter and then letters, digits,
 /// `-` and `_`.
-#[derive(Drop)]
 pub struct Name {
     bytes: SmallVec<u8, INLINE>,
+}
+
+impl Drop for Name {
+    fn drop(self) {
+        let Self { bytes: _ } = self;
+    }
 }
 
 impl Model for Name {

@@ -7,10 +7,15 @@ pub type Alternatives = Seq<u16>;
 
 /// Variables of a quantifier that share their types, such as `?x ?y - block` or `?z - (either a b)`. A quantifier keeps its groups as they were written,
 /// because conditions are printed.
-#[derive(Drop)]
 pub struct VariableGroup {
     /// The names of the variables in order, without their question marks.
     pub names: Seq<Name>,
     /// The numbers of their types. Each variable stands for an object of one of these.
     pub types: Alternatives,
+}
+
+impl Drop for VariableGroup {
+    fn drop(self) {
+        let Self { names: _, types: _ } = self;
+    }
 }

@@ -8,12 +8,17 @@ use std::marker::Model;
 use std::sync::Arc;
 
 /// A planner's name and the bytes of its file. Contracts see the two lists of bytes.
-#[derive(Drop)]
 pub struct Bundle {
     /// The planner's name, as reports show it.
     pub name: String,
     /// The bytes of its file, which its plans share.
     pub bytes: Arc<Vec<u8>>,
+}
+
+impl Drop for Bundle {
+    fn drop(self) {
+        let Self { name: _, bytes: _ } = self;
+    }
 }
 
 impl Model for Bundle {

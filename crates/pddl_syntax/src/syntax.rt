@@ -35,10 +35,18 @@ pub type Variables<'a> = SmallVec<Word<'a>, 1>;
 pub type Names<'a> = SmallVec<NameWord<'a>, 1>;
 
 /// An atom as written. A function with its terms is kept the same way, with the name of the function as that of the predicate.
-#[derive(Drop)]
 pub struct AtomSyntax<'a> {
     pub predicate: NameWord<'a>,
     pub terms: Terms<'a>,
+}
+
+impl Drop for AtomSyntax<'_> {
+    fn drop(self) {
+        let Self {
+            predicate: _,
+            terms: _,
+        } = self;
+    }
 }
 
 /// The two terms of an equality.
@@ -58,7 +66,6 @@ pub enum AmountSyntax<'a> {
 }
 
 /// An increase of `total-cost`.
-#[derive(Drop)]
 pub struct IncreaseSyntax<'a> {
     /// Where the word `increase` is.
     pub span: Span,
@@ -67,14 +74,33 @@ pub struct IncreaseSyntax<'a> {
     pub amount: AmountSyntax<'a>,
 }
 
+impl Drop for IncreaseSyntax<'_> {
+    fn drop(self) {
+        let Self {
+            span: _,
+            target: _,
+            amount: _,
+        } = self;
+    }
+}
+
 /// The value of a function.
-#[derive(Drop)]
 pub struct ValueSyntax<'a> {
     pub function: AtomSyntax<'a>,
     /// The value, in billionths.
     pub value: u64,
     /// Where the value is.
     pub span: Span,
+}
+
+impl Drop for ValueSyntax<'_> {
+    fn drop(self) {
+        let Self {
+            function: _,
+            value: _,
+            span: _,
+        } = self;
+    }
 }
 
 /// An initial atom, or the value of a function.
@@ -90,43 +116,77 @@ pub enum InitialSyntax<'a> {
 }
 
 /// A group of a list of typed variables, with the names of the types that they may have.
-#[derive(Drop)]
 pub struct VariableGroup<'a> {
     pub variables: Variables<'a>,
     pub kinds: Names<'a>,
 }
 
+impl Drop for VariableGroup<'_> {
+    fn drop(self) {
+        let Self {
+            variables: _,
+            kinds: _,
+        } = self;
+    }
+}
+
 /// The declaration of a predicate or a function.
-#[derive(Drop)]
 pub struct PredicateSyntax<'a> {
     pub name: NameWord<'a>,
     pub variables: VariableList<'a>,
 }
 
+impl Drop for PredicateSyntax<'_> {
+    fn drop(self) {
+        let Self {
+            name: _,
+            variables: _,
+        } = self;
+    }
+}
+
 /// The parts of an action that are given.
-#[derive(Drop)]
 pub struct ActionParts<'a> {
     pub parameters: Option<VariableList<'a>>,
     pub precondition: Option<FormulaSyntax<'a>>,
     pub effect: Option<EffectSyntax<'a>>,
 }
 
+impl Drop for ActionParts<'_> {
+    fn drop(self) {
+        let Self {
+            parameters: _,
+            precondition: _,
+            effect: _,
+        } = self;
+    }
+}
+
 /// An action with its name.
-#[derive(Drop)]
 pub struct ActionSyntax<'a> {
     pub name: NameWord<'a>,
     pub parts: ActionParts<'a>,
 }
 
+impl Drop for ActionSyntax<'_> {
+    fn drop(self) {
+        let Self { name: _, parts: _ } = self;
+    }
+}
+
 /// A group of a list of typed names, with the name of their type.
-#[derive(Drop)]
 pub struct NameGroup<'a> {
     pub names: Names<'a>,
     pub kind: NameWord<'a>,
 }
 
+impl Drop for NameGroup<'_> {
+    fn drop(self) {
+        let Self { names: _, kind: _ } = self;
+    }
+}
+
 /// The sections of a domain that are given.
-#[derive(Drop)]
 pub struct DomainSections<'a> {
     pub requirements: bool,
     pub types: Option<Vec<NameGroup<'a>>>,
@@ -136,11 +196,32 @@ pub struct DomainSections<'a> {
     pub actions: Vec<ActionSyntax<'a>>,
 }
 
+impl Drop for DomainSections<'_> {
+    fn drop(self) {
+        let Self {
+            requirements: _,
+            types: _,
+            constants: _,
+            predicates: _,
+            functions: _,
+            actions: _,
+        } = self;
+    }
+}
+
 /// A domain with its name.
-#[derive(Drop)]
 pub struct DomainSyntax<'a> {
     pub name: NameWord<'a>,
     pub sections: DomainSections<'a>,
+}
+
+impl Drop for DomainSyntax<'_> {
+    fn drop(self) {
+        let Self {
+            name: _,
+            sections: _,
+        } = self;
+    }
 }
 
 /// The sections of a problem that are given.
@@ -156,11 +237,22 @@ pub struct ProblemSections<'a> {
 }
 
 /// A problem with its name, and the name that it gives for its domain.
-#[derive(Drop)]
 pub struct ProblemSyntax<'a> {
     pub name: NameWord<'a>,
     pub domain: NameWord<'a>,
     pub objects: Option<Vec<NameGroup<'a>>>,
     pub init: Option<InitialItems<'a>>,
     pub goal: FormulaSyntax<'a>,
+}
+
+impl Drop for ProblemSyntax<'_> {
+    fn drop(self) {
+        let Self {
+            name: _,
+            domain: _,
+            objects: _,
+            init: _,
+            goal: _,
+        } = self;
+    }
 }

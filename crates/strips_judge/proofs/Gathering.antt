@@ -14,13 +14,12 @@ use Rattle.formulas.specs.Tree.{conjunction, no_parts}
 use Rattle.formulas.specs.Within.{IsEffectWithin, AreEffectsWithin}
 use Rattle.strips_task.specs.AtomNumbers.{number_in}
 use Rattle.strips_task.specs.declared.tasks.TaskParts.{TaskParts}
-use Rattle.strips_judge.specs.Codes.{AreNumbers}
+use Rattle.strips_judge.specs.NumberedState.{AreNumbers, KeepsNumbers}
 use Rattle.strips_judge.specs.Fitting.{object_fits}
 use Rattle.strips_judge.specs.Gathered.{Gathered, Found, nothing, only_added, only_deleted, and_then, AreGathered, GathersMore, effect_found, effects_found, choices_found}
-use Rattle.strips_judge.specs.NumberedState.{KeepsNumbers}
 use Rattle.strips_judge.specs.State.{State, objects_of}
 use Rattle.strips_judge.specs.Step.{changed_by}
-use Rattle.strips_judge.proofs.CodeLaws.{numbers_kept, numbers_more}
+use Rattle.strips_judge.proofs.AtomNumbers.{numbers_kept, numbers_more}
 use Rattle.strips_judge.proofs.Evaluations.{drop_at, drop_past, one_less_left}
 use Rattle.strips_judge.proofs.StepLaws.{taken_more}
 

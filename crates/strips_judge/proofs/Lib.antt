@@ -4,8 +4,7 @@ pub mod VerdictMeanings
 pub mod NumberedLaws
 pub mod AtomsFound
 pub mod SingleCells
-pub mod CodeLaws
-pub mod CompiledEffects
+pub mod AtomNumbers
 pub mod Fits
 pub mod Listings
 pub mod Weights
@@ -15,13 +14,12 @@ pub mod EffectWeights
 pub mod ActionEffects
 pub mod Gathering
 pub mod NoChoices
-pub mod Instructions
 pub mod Growth
 pub mod Runs
 pub mod StaticLaws
 pub mod Searches
 pub mod StepLaws
 pub mod VerdictLaws
-pub mod NumberedSteps
 pub mod UnmetConditions
 pub mod ReasonLaws
+pub mod NumberedSteps

@@ -8,7 +8,7 @@ use Rattle.formulas.specs.Variables.{extensions}
 use Rattle.std.specs.List.{flat_map}
 use Rattle.strips_task.specs.declared.tasks.TaskParts.{TaskParts}
 use Rattle.strips_judge.specs.declared.scratch.Changes.{Changes}
-use Rattle.strips_judge.specs.Codes.{AreNumbers}
+use Rattle.strips_judge.specs.NumberedState.{AreNumbers}
 use Rattle.strips_judge.specs.State.{State, objects_of}
 
 -- the numbers of the atoms that are deleted and of those that are added

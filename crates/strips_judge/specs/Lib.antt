@@ -1,14 +1,11 @@
-pub mod Codes
 pub mod Gathered
 pub mod Grounding
 pub mod NumberedState
-pub mod Programs
 pub mod Statics
 pub mod Fitting
 pub mod State
 pub mod Listing
 pub mod Choices
-pub mod Compiling
 pub mod SingleCells
 pub mod AtomsFound
 pub mod Step

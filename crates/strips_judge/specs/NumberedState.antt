@@ -1,6 +1,6 @@
 -- The state that is kept as numbered atoms with a bit each.
 
-use Rattle.std.specs.Prelude.{◌≡◌, ℕ, ◌≤◌, ◌<◌, ◌*◌, ◌^◌, Bool, false, List, Option, Some, None, length}
+use Rattle.std.specs.Prelude.{◌≡◌, ℕ, ◌≤◌, ◌<◌, ◌*◌, ◌^◌, Bool, false, List, Option, Some, None, length, map}
 use Rattle.formulas.specs.declared.atoms.Atom.{Atom}
 use Rattle.bit_rows.specs.Rows.{row_has}
 use Rattle.strips_task.specs.AtomNumbers.{number_in}
@@ -24,6 +24,10 @@ state_by atoms bits = λ atom. bit_of bits (number_in atoms atom)
 -- the state that the bits stand for
 abbrev pub state_of : Numbered → State
 state_of kept = state_by kept.atoms kept.bits
+
+-- these are the numbers of these atoms
+abbrev pub AreNumbers : List Atom → List Atom → List ℕ → Type 0
+AreNumbers atoms these numbers = map (number_in atoms) these ≡ map Some numbers
 
 -- each atom that had a number still has the same one
 abbrev pub KeepsNumbers : List Atom → List Atom → Type 0

@@ -1,7 +1,8 @@
 //! The arguments of a step: which objects they name, and whether these fit the action's parameters.
 ghost use Rattle.std.specs.Prelude.{◌≡◌, ◌<◌, ◌≤◌, All, IfOk, IfNone, length};
-ghost use Rattle.std.specs.List.{position_from, zip};
+ghost use Rattle.std.specs.List.{list_any, position_from, zip};
 ghost use Rattle.strips_task.specs.StepView.{step_shown};
+ghost use Rattle.strips_task.specs.Types.{is_below};
 ghost use Rattle.strips_judge.specs.Fitting.{object_fits};
 ghost use Rattle.strips_judge.specs.Step.{first_unknown, is_ill_typed, objects_named, argument_fault};
 
@@ -58,7 +59,7 @@ fn find_objects(
 
 /// The first object that does not fit the parameter beside it, counted from 1.
 #[inline(always)]
-pub(crate) fn first_ill_typed(task: &Task, params: &[Alternatives], objects: &[u16]) -> Option<u32>
+pub fn first_ill_typed(task: &Task, params: &[Alternatives], objects: &[u16]) -> Option<u32>
     requires few { length params.now ≤ 32 }
     requires beside { length objects.now ≡ length params.now }
     requires known { All (λ object. object < length task.now.objects) objects.now }
@@ -79,8 +80,20 @@ pub(crate) fn object_fits(task: &Task, alternatives: &[u16], object: u16) -> boo
     ensures { result ≡ object_fits task.now alternatives.now object }
 {
     let object_type = task.object_type(object);
-    for alternative in alternatives {
-        if task.is_subtype(object_type, *alternative) {
+    match alternatives {
+        [only] => task.is_subtype(object_type, *only),
+        _ => is_below_one(task, object_type, alternatives),
+    }
+}
+
+/// Whether a type is one of others, or below one of them.
+#[inline(never)]
+fn is_below_one(task: &Task, number: u16, others: &[u16]) -> bool
+    requires { number < length task.now.parents }
+    ensures { result ≡ list_any (is_below task.now.parents number) others.now }
+{
+    for other in others {
+        if task.is_subtype(number, *other) {
             return true;
         }
     }

@@ -7,12 +7,12 @@ ghost use Rattle.strips_task.specs.AtomKeys.{IsKeyOf};
 use crate::grounding::object_of;
 use strips_task::{AtomKey, Pattern};
 
-/// The key of the atom that a pattern stands for, unless it has more than four objects.
+/// The key of the atom that a pattern stands for, if it has at most two terms, as most have.
 #[inline(always)]
-pub(crate) fn key_of_pattern(pattern: &Pattern, objects: &[u16], bound: &[u16]) -> Option<AtomKey>
+pub(crate) fn key_of_short(pattern: &Pattern, objects: &[u16], bound: &[u16]) -> Option<AtomKey>
     requires { IsPatternWithin (length objects.now) (length bound.now) pattern.now }
     ensures key { IfSome result (IsKeyOf (atom_of objects.now bound.now pattern.now)) }
-    ensures many { IfNone result (4 < length (atom_of objects.now bound.now pattern.now).args) }
+    ensures longer { IfNone result (2 < length pattern.now.terms) }
 {
     let pred = pattern.pred;
     match pattern.terms.as_slice() {
@@ -26,6 +26,19 @@ pub(crate) fn key_of_pattern(pattern: &Pattern, objects: &[u16], bound: &[u16]) 
             0,
             0,
         )),
+        _ => None,
+    }
+}
+
+/// The key of the atom that a pattern of more than two terms stands for, unless it has more than four.
+pub(crate) fn key_of_longer(pattern: &Pattern, objects: &[u16], bound: &[u16]) -> Option<AtomKey>
+    requires within { IsPatternWithin (length objects.now) (length bound.now) pattern.now }
+    requires longer { 2 < length pattern.now.terms }
+    ensures key { IfSome result (IsKeyOf (atom_of objects.now bound.now pattern.now)) }
+    ensures many { IfNone result (4 < length (atom_of objects.now bound.now pattern.now).args) }
+{
+    let pred = pattern.pred;
+    match pattern.terms.as_slice() {
         [a, b, c] => Some(AtomKey::new(
             pred,
             3,

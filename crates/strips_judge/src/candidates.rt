@@ -12,7 +12,7 @@ const MOST_TESTS: usize = 1_048_576;
 
 /// Objects, among which are those that a variable may stand for, in the order of their numbers.
 #[derive(Clone, Copy)]
-pub(crate) enum Candidates<'l> {
+pub enum Candidates<'l> {
     /// So many objects, from the first on.
     Every(u16),
     /// The objects of a list.
@@ -21,7 +21,7 @@ pub(crate) enum Candidates<'l> {
 
 impl Candidates<'_> {
     /// How many there are.
-    pub(crate) fn len(self) -> usize
+    pub fn len(self) -> usize
         ensures { result ≡ length (candidates_of self.entry) }
     {
         match self {
@@ -31,7 +31,7 @@ impl Candidates<'_> {
     }
 
     /// The object at an index.
-    pub(crate) fn get(self, index: usize) -> u16
+    pub fn get(self, index: usize) -> u16
         requires { index < length (candidates_of self) }
         ensures { slice_get (candidates_of self.entry) index ≡ Some result }
     {

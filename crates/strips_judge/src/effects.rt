@@ -11,8 +11,8 @@ ghost use Rattle.strips_judge.specs.NumberedState.{Grows, state_of};
 ghost use Rattle.strips_judge.specs.State.{without, with_all};
 ghost use Rattle.strips_judge.specs.Step.{after_by};
 
-use crate::codes::{clear_all, set_all};
 use crate::evaluation::{evaluate, have_objects, types_of};
+use crate::numbers::{clear_all, set_all};
 use crate::scratch::{Changes, Room};
 use crate::state::NumberedState;
 use crate::task_index::TaskIndex;
@@ -21,21 +21,25 @@ use strips_task::{Action, Atom, Effect, EffectNode, Pattern, VariableGroup};
 
 /// What the parameters of an action stand for in a task.
 #[derive(Clone, Copy)]
-pub(crate) struct Arguments<'a, 't> {
-    pub(crate) task: &'a TaskIndex<'t>,
-    pub(crate) objects: &'a [u16],
+pub struct Arguments<'a, 't> {
+    /// The task.
+    pub task: &'a TaskIndex<'t>,
+    /// The objects, in the order of the parameters.
+    pub objects: &'a [u16],
 }
 
 /// An effect under `forall`, with its variables.
 #[derive(Clone, Copy)]
-pub(crate) struct Quantified<'e> {
-    pub(crate) groups: &'e [VariableGroup],
-    pub(crate) body: &'e Effect,
+pub struct Quantified<'e> {
+    /// The variables.
+    pub groups: &'e [VariableGroup],
+    /// The effect for each choice of objects for them.
+    pub body: &'e Effect,
 }
 
 /// Changes a state as an action with these objects does.
 #[inline(always)]
-pub(crate) fn apply(
+pub fn apply(
     alloc: Global,
     arguments: Arguments<'_, '_>,
     state: &mut NumberedState<'_>,
@@ -76,8 +80,7 @@ fn apply_gathered(
 {
     let objects = arguments.objects;
     room.bound.clear();
-    changes.deleted.clear();
-    changes.added.clear();
+    changes.clear();
     gather_all(
         alloc,
         arguments,

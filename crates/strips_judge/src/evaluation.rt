@@ -28,7 +28,7 @@ struct Quantified<'f> {
 
 /// Whether a formula holds when the parameters are bound to these objects. Takes no memory for a literal.
 #[inline(always)]
-pub(crate) fn holds(
+pub fn holds(
     task: &TaskIndex<'_>,
     state: &mut NumberedState<'_>,
     formula: &Formula,
@@ -72,7 +72,7 @@ fn atom_holds(
 
 /// Whether two terms stand for the same object, or for different ones if `positive` is false.
 #[inline(always)]
-pub(crate) fn equality_holds(
+pub fn equality_holds(
     positive: bool,
     left: Term,
     right: Term,
@@ -261,7 +261,7 @@ fn object_gives(
 }
 
 /// Whether there is an object for each variable of these groups. Takes one pass over the objects of its types for each group at most.
-pub(crate) fn have_objects(task: &TaskIndex<'_>, groups: &[VariableGroup]) -> bool
+pub fn have_objects(task: &TaskIndex<'_>, groups: &[VariableGroup]) -> bool
     ensures { result ≡ false → (bound : List ℕ) → extensions (objects_of task.now) (variable_types groups.now) bound ≡ [] }
 {
     for group in groups {
@@ -286,7 +286,7 @@ fn has_object(task: &TaskIndex<'_>, types: &[u16]) -> bool
 }
 
 /// The types of a variable, by its index in all groups.
-pub(crate) fn types_of(groups: &[VariableGroup], index: usize) -> Option<&[u16]>
+pub fn types_of(groups: &[VariableGroup], index: usize) -> Option<&[u16]>
     ensures some { IfSome result (λ types. slice_get (variable_types groups.now) index ≡ Some types.now) }
     ensures none { IfNone result (slice_get (variable_types groups.now) index ≡ None) }
 {

@@ -12,8 +12,8 @@
 //! [`judge`] takes a [`Task`] and a [`Plan`] and gives a [`Verdict`]. `specs/Verdict.antt` defines the verdict of a plan, and the functions of
 //! [`laws`] tie it to validity in the words of PDDL; those of [`reasons`] say that the reason in a verdict is right.
 //!
-//! To judge many plans of one task, keep a [`NumberedState`] for all of them. Take each step with [`take_step`], or with [`take_by_code`] if the
-//! step was taken before and its [`StepCode`] was kept.
+//! To judge many plans of one task, keep a [`NumberedState`] for all of them, and take each step with [`take_step`]. The crate `step_codes` takes steps
+//! faster that are known by numbers.
 //!
 //! Tasks and plans come from the crate `strips_task`. Its types are re-exported here, so users need to name only this crate.
 #![tactic(auto)]
@@ -21,17 +21,13 @@
 mod arguments;
 mod atom_keys;
 mod candidates;
-mod codes;
-mod compiling;
 mod conditions;
 mod effects;
 mod evaluation;
 mod grounding;
 mod judging;
-mod lasting;
 pub mod laws;
-mod numbered_steps;
-mod programs;
+mod numbers;
 pub mod reasons;
 mod scratch;
 mod single_cells;
@@ -40,11 +36,13 @@ mod task_index;
 mod unmet;
 mod verdict;
 
-pub use codes::{CodeBuffer, StepCode, take_by_code};
+pub use arguments::first_ill_typed;
+pub use candidates::Candidates;
+pub use effects::{Arguments, Quantified, apply};
+pub use evaluation::{equality_holds, have_objects, holds, types_of};
 pub use judging::{judge, judge_goal, take_step};
-pub use numbered_steps::{code_of_numbered, take_numbered};
-pub use programs::Instruction;
-pub use scratch::Scratch;
+pub use numbers::{clear_all, set_all};
+pub use scratch::{Changes, Room, Scratch};
 pub use state::NumberedState;
 pub use strips_task::{
     Action, Alternatives, Atom, AtomList, Formula, InitialAtoms, MOST_STEPS, Name, NameKey,

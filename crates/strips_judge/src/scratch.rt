@@ -1,4 +1,5 @@
 //! Room that is used again and again.
+ghost use Rattle.std.specs.Prelude.{◌≡◌, []};
 
 use std::alloc::Global;
 use strips_task::{Atom, ShortSeq};
@@ -6,8 +7,10 @@ use strips_task::{Atom, ShortSeq};
 /// Room that all steps use, so that a step takes no memory of its own. No answer depends on what it holds.
 pub struct Scratch {
     pub(crate) objects: Vec<u16>,
-    pub(crate) room: Room,
-    pub(crate) changes: Changes,
+    /// Room to evaluate formulas.
+    pub room: Room,
+    /// Room for the changes of conditional effects.
+    pub changes: Changes,
 }
 
 impl Drop for Scratch {
@@ -32,11 +35,11 @@ impl Scratch {
 }
 
 /// Room to evaluate formulas.
-pub(crate) struct Room {
+pub struct Room {
     /// The objects that are bound to the variables of quantifiers, by the levels of the variables.
-    pub(crate) bound: Vec<u16>,
+    pub bound: Vec<u16>,
     /// The atom that is looked up.
-    pub(crate) atom: Atom,
+    pub atom: Atom,
 }
 
 impl Drop for Room {
@@ -59,11 +62,11 @@ impl Room {
 }
 
 /// Room for the changes of conditional effects, by the numbers of their atoms.
-pub(crate) struct Changes {
+pub struct Changes {
     /// The atoms that become false.
-    pub(crate) deleted: Vec<u32>,
+    pub deleted: Vec<u32>,
     /// The atoms that become true.
-    pub(crate) added: Vec<u32>,
+    pub added: Vec<u32>,
 }
 
 impl Drop for Changes {
@@ -82,5 +85,14 @@ impl Changes {
             deleted: Vec::new(alloc),
             added: Vec::new(alloc),
         }
+    }
+
+    /// Forgets the changes of the step before.
+    pub fn clear(&mut self)
+        ensures deleted { self.new.deleted.items ≡ [] }
+        ensures added { self.new.added.items ≡ [] }
+    {
+        self.deleted.clear();
+        self.added.clear();
     }
 }

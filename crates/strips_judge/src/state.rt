@@ -15,7 +15,7 @@ ghost use Rattle.strips_task.specs.FirstOccurrences.{first_occurrences};
 ghost use Rattle.strips_judge.specs.NumberedState.{Grows, state_of};
 ghost use Rattle.strips_judge.specs.State.{is_in, without, with_all};
 
-use crate::atom_keys::key_of_pattern;
+use crate::atom_keys::{key_of_longer, key_of_short};
 use crate::grounding::ground;
 use crate::single_cells::SingleCells;
 use bit_rows::Row;
@@ -118,7 +118,28 @@ impl NumberedState<'_> {
         ensures number { IfOk result (λ number. number ≡ number_in self.old.atoms (meaning.atom_of objects.now bound.now pattern.now)) }
         ensures same { self.new ≡ self.old }
     {
-        if let Some(key) = key_of_pattern(pattern, objects, bound) {
+        if let Some(key) = key_of_short(pattern, objects, bound) {
+            return self.look_up_packed(key);
+        }
+        let number = self.look_up_longer(pattern, objects, bound, atom)?;
+        Ok(number)
+    }
+
+    /// The same for a pattern of more than two terms.
+    #[inline(never)]
+    fn look_up_longer(
+        &mut self,
+        pattern: &Pattern,
+        objects: &[u16],
+        bound: &[u16],
+        atom: &mut Atom,
+    ) -> Result<Option<usize>, AllocError>
+        requires within { IsPatternWithin (length objects.now) (length bound.now) pattern.now }
+        requires longer { 2 < length pattern.now.terms }
+        ensures number { IfOk result (λ number. number ≡ number_in self.old.atoms (meaning.atom_of objects.now bound.now pattern.now)) }
+        ensures same { self.new ≡ self.old }
+    {
+        if let Some(key) = key_of_longer(pattern, objects, bound) {
             return self.look_up_packed(key);
         }
         ground(pattern, objects, bound, atom)?;
@@ -238,7 +259,7 @@ impl NumberedState<'_> {
 
     /// The number of the atom that a pattern stands for. An atom without a number gets the next one. Whether it is true does not change.
     #[inline(always)]
-    pub(crate) fn number(
+    pub fn number(
         &mut self,
         alloc: Global,
         pattern: &Pattern,
@@ -251,7 +272,30 @@ impl NumberedState<'_> {
         ensures state { state_of self.new ≡ state_of self.old }
         ensures grows { Grows self.old self.new }
     {
-        if let Some(key) = key_of_pattern(pattern, objects, bound) {
+        if let Some(key) = key_of_short(pattern, objects, bound) {
+            return self.number_packed(key);
+        }
+        let number = self.number_longer(alloc, pattern, objects, bound, atom)?;
+        Ok(number)
+    }
+
+    /// The same for a pattern of more than two terms.
+    #[inline(never)]
+    fn number_longer(
+        &mut self,
+        alloc: Global,
+        pattern: &Pattern,
+        objects: &[u16],
+        bound: &[u16],
+        atom: &mut Atom,
+    ) -> Result<usize, AllocError>
+        requires within { IsPatternWithin (length objects.now) (length bound.now) pattern.now }
+        requires longer { 2 < length pattern.now.terms }
+        ensures number { IfOk result (λ number. number_in self.new.atoms (meaning.atom_of objects.now bound.now pattern.now) ≡ Some number) }
+        ensures state { state_of self.new ≡ state_of self.old }
+        ensures grows { Grows self.old self.new }
+    {
+        if let Some(key) = key_of_longer(pattern, objects, bound) {
             return self.number_packed(key);
         }
         ground(pattern, objects, bound, atom)?;
@@ -359,7 +403,7 @@ impl NumberedState<'_> {
     }
 
     /// Whether the atom with a number is true.
-    pub(crate) fn has(&self, number: usize) -> bool
+    pub fn has(&self, number: usize) -> bool
         ensures bit { result ≡ row_has self.now.bits number }
         ensures truth { (atom : Atom) → number_in self.now.atoms atom ≡ Some number → result ≡ state_of self.now atom }
     {

@@ -85,7 +85,7 @@ impl<'t> TaskIndex<'t> {
     }
 
     /// Where the objects are to be found that a variable of these types may stand for.
-    pub(crate) fn candidates(&self, types: &[u16]) -> Candidates<'_>
+    pub fn candidates(&self, types: &[u16]) -> Candidates<'_>
         ensures all { filter (object_fits self.now types.now) (candidates_of result) ≡ objects_of self.now types.now }
         ensures known { All (λ object. object < length self.now.objects) (candidates_of result) }
     {
@@ -99,7 +99,7 @@ impl<'t> TaskIndex<'t> {
 
     /// Whether an object is of one of these types, or of one below them.
     #[inline(always)]
-    pub(crate) fn object_fits(&self, types: &[u16], object: u16) -> bool
+    pub fn object_fits(&self, types: &[u16], object: u16) -> bool
         requires { object < length self.now.objects }
         ensures { result ≡ object_fits self.now types.now object }
     {
@@ -119,7 +119,7 @@ impl<'t> TaskIndex<'t> {
 
     /// Whether the atom that a pattern stands for is true in every state of the task, or in none, if its predicate is static. Takes one hash.
     #[inline(always)]
-    pub(crate) fn lasting_truth(
+    pub fn lasting_truth(
         &self,
         pattern: &Pattern,
         objects: &[u16],

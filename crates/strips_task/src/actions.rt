@@ -6,7 +6,6 @@
 use formulas::{Alternatives, Effect, Formula, Pattern, Seq};
 
 /// An action without its name (PDDL 2.1, Fox and Long 2003, level 1).
-#[derive(Drop)]
 pub struct Action {
     /// For each parameter, the types that its object may have.
     pub params: Seq<Alternatives>,
@@ -18,4 +17,16 @@ pub struct Action {
     pub del: Seq<Pattern>,
     /// What else it does: the effects under `when` and `forall`. Which atoms they add and delete depends on the state before.
     pub effects: Seq<Effect>,
+}
+
+impl Drop for Action {
+    fn drop(self) {
+        let Self {
+            params: _,
+            pre: _,
+            add: _,
+            del: _,
+            effects: _,
+        } = self;
+    }
 }

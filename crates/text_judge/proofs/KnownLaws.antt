@@ -4,8 +4,8 @@ use Rattle.std.proofs.Common.{◌≡◌, ℕ, ◌+◌, ◌-◌, ◌≤◌, List,
 use Rattle.std.proofs.lemmas.List.{take-append-le, drop-append-le, take_all, map-append}
 use Rattle.std.proofs.lemmas.List.Elements.{All-append, All-cons, All-nil}
 use Rattle.std.proofs.Math.Seq.{drop-append_seam}
-use Rattle.strips_judge.specs.declared.programs.Instruction.{Instruction}
-use Rattle.strips_judge.specs.Codes.{Code}
+use Rattle.step_codes.specs.declared.programs.Instruction.{Instruction}
+use Rattle.step_codes.specs.Codes.{Code}
 use Rattle.text_judge.specs.declared.memo.Entry.{Entry}
 use Rattle.text_judge.specs.Known.{known_at, IsEntry, IsEntryFor}
 

@@ -13,7 +13,7 @@ use Rattle.strips_task.specs.Spelled.{IsSpelled, step_spelled}
 use Rattle.strips_judge.specs.declared.verdict.Verdict.{Verdict}
 use Rattle.strips_judge.specs.declared.verdict.Verdict.TheVariants.{Valid, Fails, Goal, Unreadable}
 use Rattle.strips_judge.specs.declared.verdict.Why.{Why}
-use Rattle.strips_judge.specs.Codes.{Code, IsCode}
+use Rattle.step_codes.specs.Codes.{Code, IsCode}
 use Rattle.strips_judge.specs.NumberedState.{Numbered, Grows, state_of}
 use Rattle.strips_judge.specs.State.{State, is_in}
 use Rattle.strips_judge.specs.Statics.{KeepsStatics}
@@ -22,7 +22,7 @@ use Rattle.strips_judge.specs.Validity.{IsApplicable, LeadTo}
 use Rattle.strips_judge.specs.Verdict.{goal_verdict, step_verdict, verdict_from, verdict}
 use Rattle.strips_judge.proofs.StaticLaws.{run_keeps}
 use Rattle.strips_judge.proofs.Applicable.{applicable_from_hindrance, hindrance_from_applicable}
-use Rattle.strips_judge.proofs.CodeLaws.{code_kept}
+use Rattle.step_codes.proofs.CodeLaws.{code_kept}
 use Rattle.strips_judge.proofs.Growth.{grows_same}
 use Rattle.strips_judge.proofs.Runs.{lead_none, lead_none_same, lead_more, lead_first}
 use Rattle.plan_cost.specs.declared.costs.Cost.{Cost}

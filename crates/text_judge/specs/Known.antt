@@ -1,8 +1,8 @@
 -- Known steps, and where they are kept.
 
 use Rattle.std.specs.Prelude.{◌≡◌, ℕ, ◌+◌, ◌≤◌, List, length, slice_range}
-use Rattle.strips_judge.specs.declared.programs.Instruction.{Instruction}
-use Rattle.strips_judge.specs.Codes.{Code}
+use Rattle.step_codes.specs.declared.programs.Instruction.{Instruction}
+use Rattle.step_codes.specs.Codes.{Code}
 use Rattle.text_judge.specs.declared.memo.Entry.{Entry}
 
 -- what is known of a step: the bytes that spell it, its code, and what it adds to the cost

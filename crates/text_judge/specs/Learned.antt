@@ -6,7 +6,7 @@ use Rattle.strips_task.specs.declared.steps.StepText.{StepText}
 use Rattle.strips_task.specs.declared.steps.TheConstants.{MOST_STEPS}
 use Rattle.strips_task.specs.declared.tasks.TaskParts.{TaskParts}
 use Rattle.strips_task.specs.Spelled.{IsSpelled, step_spelled}
-use Rattle.strips_judge.specs.Codes.{IsCode}
+use Rattle.step_codes.specs.Codes.{IsCode}
 use Rattle.strips_judge.specs.NumberedState.{Numbered}
 use Rattle.strips_judge.specs.State.{State}
 use Rattle.strips_judge.specs.Step.{hindrance, after}

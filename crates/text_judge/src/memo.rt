@@ -4,7 +4,7 @@
 //! table after the other up to an empty one. The bytes of all keys are in one buffer, and the numbers and the instructions of all codes in two others, so
 //! that a step that is learned takes no memory of its own. All of it grows as steps are learned, up to bounds.
 ghost use Rattle.std.specs.Prelude.{◌≡◌, ◌+◌, ◌<◌, ◌≤◌, ◌^◌, ◌∷◌, ◌++◌, [], ℕ, List, false, length, slice_get, slice_range, Some, All, IsTrue, IfSome, IfOk, OnErr, vec_capacity, vec_len};
-ghost use Rattle.strips_judge.specs.Codes.{code_shown};
+ghost use Rattle.step_codes.specs.Codes.{code_shown};
 ghost use Rattle.text_judge.specs.Known.{known_at, IsEntry, IsEntryFor};
 
 use crate::memo_limits::MemoLimits;
@@ -12,7 +12,7 @@ use pddl_words::{KeyedHash, are_same};
 use std::alloc::{AllocError, Global};
 use std::hash::BuildHasher;
 use std::marker::Model;
-use strips_judge::{Instruction, StepCode};
+use step_codes::{Instruction, StepCode};
 use strips_task::Seed;
 
 /// How many slots a table has at first.

@@ -22,7 +22,8 @@ use crate::steps::{NewStep, take_new, take_remembered};
 use plan_cost::{Assessment, CostScratch, CostedTask};
 use std::alloc::{AllocError, Global};
 use std::marker::Model;
-use strips_judge::{Atom, CodeBuffer, NumberedState, Scratch, Why, judge_goal, take_step};
+use step_codes::CodeBuffer;
+use strips_judge::{Atom, NumberedState, Scratch, Why, judge_goal, take_step};
 use strips_task::{StepView, WordList};
 
 /// How many atoms besides the initial ones may have numbers that are kept from one plan to the next, with all that was learned.

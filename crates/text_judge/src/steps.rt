@@ -2,7 +2,7 @@
 ghost use Rattle.std.specs.Prelude.{◌≡◌, false, Some, None, All, IsTrue, IfOk, IfSome, OnErr};
 ghost use Rattle.strips_task.specs.Spelled.{IsSpelled, step_spelled};
 ghost use Rattle.strips_task.specs.declared.steps.StepText.{StepText};
-ghost use Rattle.strips_judge.specs.Codes.{IsCode};
+ghost use Rattle.step_codes.specs.Codes.{IsCode};
 ghost use Rattle.strips_judge.specs.NumberedState.{Grows, state_of};
 ghost use Rattle.strips_judge.specs.Statics.{KeepsStatics};
 ghost use Rattle.strips_judge.specs.Step.{after, hindrance};
@@ -12,9 +12,8 @@ ghost use Rattle.text_judge.specs.Learned.{IsAmount, IsLearned, Takes};
 use crate::indexed_task::IndexedTask;
 use crate::memo::Memo;
 use std::alloc::{AllocError, Global};
-use strips_judge::{
-    CodeBuffer, NumberedState, Scratch, TaskIndex, code_of_numbered, take_by_code, take_numbered,
-};
+use step_codes::{CodeBuffer, code_of_numbered, take_by_code, take_numbered};
+use strips_judge::{NumberedState, Scratch, TaskIndex};
 
 /// Takes the step that a key with this hash spells, if it is known and applicable, and returns what it adds to the cost. Otherwise changes nothing.
 /// The task is only there for the contract. If memory runs out, nothing is changed either.

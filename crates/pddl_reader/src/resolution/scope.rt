@@ -18,13 +18,22 @@ use std::marker::Model;
 use strips_task::{Alternatives, Seq, Term, term_fits};
 
 /// The variables that terms may name. A name that is bound several times names the innermost variable, and hides a parameter. Contracts see lists.
-#[derive(Drop)]
 pub(crate) struct Scope<'a> {
     parameters: DeclaredVariables<'a>,
     /// The names of the variables that quantifiers bind, the outermost first.
     names: Vec<Word<'a>>,
     /// The types of each of these.
     types: Vec<Alternatives>,
+}
+
+impl Drop for Scope<'_> {
+    fn drop(self) {
+        let Self {
+            parameters: _,
+            names: _,
+            types: _,
+        } = self;
+    }
 }
 
 impl<'a> Model for Scope<'a> {

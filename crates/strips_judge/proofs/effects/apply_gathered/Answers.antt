@@ -1,12 +1,11 @@
 use Rattle.std.proofs.Common.{true, false, ap, sym, ◌∙◌, subst, map, filter}
-use Rattle.strips_judge.specs.Codes.{AreNumbers}
+use Rattle.strips_judge.specs.NumberedState.{AreNumbers, state_of}
 use Rattle.strips_judge.specs.Gathered.{AreGathered, kept}
 use Rattle.strips_judge.specs.Grounding.{ground}
-use Rattle.strips_judge.specs.NumberedState.{state_of}
 use Rattle.strips_judge.specs.State.{with_all, without}
 use Rattle.strips_judge.specs.Step.{changed_by}
 use Rattle.strips_judge.proofs.ActionEffects.{after_gathered}
-use Rattle.strips_judge.proofs.CodeLaws.{numbers_kept, numbers_within}
+use Rattle.strips_judge.proofs.AtomNumbers.{numbers_kept, numbers_within}
 use Rattle.strips_judge.proofs.Gathering.{gathered_all}
 use Rattle.strips_judge.proofs.Growth.{grows_same, grows_twice}
 use Rattle.strips_judge.proofs.effects.apply_gathered.Goals as goal
@@ -30,7 +29,7 @@ set_all-requires c =
     let effects = c.args.action.now.effects in
     let gathered : AreGathered c.gather_all.new.state.atoms state (λ truth. changed_by task objects state truth effects) (kept c.gather_all.new.changes) =
     gathered_all task state objects c.clear.new.self.items effects c.as_slice.result.now c.args.state.now.atoms c.gather_all.new.state.atoms _ (kept c.gather_all.new.changes)
-    c.clear.ensures.items c.as_slice.ensures c.clear-2.ensures.items c.clear-3.ensures.items c.in_ok-gather_all.ensures.gathered in
+    c.clear.ensures.items c.as_slice.ensures c.clear-2.ensures.deleted c.clear-2.ensures.added c.in_ok-gather_all.ensures.gathered in
     let grown = grows_twice c.gather_all.new.state c.clear_all.new.state c.insert_all.new.state
     (grows_twice c.gather_all.new.state c.remove_all.new.state c.clear_all.new.state c.remove_all.ensures.grows
     (grows_same c.remove_all.new.state c.clear_all.new.state c.clear_all.ensures.initial c.clear_all.ensures.atoms)) c.insert_all.ensures.grows in
@@ -57,7 +56,7 @@ returns-clause-state c =
     let effects = c.args.action.now.effects in
     let gathered : AreGathered c.gather_all.new.state.atoms state (λ truth. changed_by task objects state truth effects) (kept c.gather_all.new.changes) =
     gathered_all task state objects c.clear.new.self.items effects c.as_slice.result.now c.args.state.now.atoms c.gather_all.new.state.atoms _ (kept c.gather_all.new.changes)
-    c.clear.ensures.items c.as_slice.ensures c.clear-2.ensures.items c.clear-3.ensures.items c.in_ok-gather_all.ensures.gathered in
+    c.clear.ensures.items c.as_slice.ensures c.clear-2.ensures.deleted c.clear-2.ensures.added c.in_ok-gather_all.ensures.gathered in
     let deleted = filter state (changed_by task objects state false effects) in
     let added = changed_by task objects state true effects in
     let clears : AreNumbers c.remove_all.new.state.atoms deleted c.as_slice-3.result.now =

@@ -4,8 +4,8 @@ use Rattle.formulas.specs.declared.atoms.Atom.{Atom}
 use Rattle.strips_task.specs.declared.steps.StepText.{StepText}
 use Rattle.strips_task.specs.declared.tasks.TaskParts.{TaskParts}
 use Rattle.strips_judge.specs.StepNumbers.{IsNumbered}
-use Rattle.strips_judge.specs.Codes.{Code, IsCode, code_shown}
-use Rattle.strips_judge.proofs.CodeLaws.{added_within}
+use Rattle.step_codes.specs.Codes.{Code, IsCode, code_shown}
+use Rattle.step_codes.proofs.CodeLaws.{added_within}
 use Rattle.strips_judge.specs.State.{State}
 use Rattle.strips_judge.specs.Statics.{KeepsStatics}
 use Rattle.strips_judge.specs.Step.{after, hindrance}

@@ -1,6 +1,6 @@
 use Rattle.strips_task.specs.Spelled.{step_spelled}
-use Rattle.strips_judge.specs.Codes.{code_shown}
-use Rattle.strips_judge.proofs.CodeLaws.{added_within}
+use Rattle.step_codes.specs.Codes.{code_shown}
+use Rattle.step_codes.proofs.CodeLaws.{added_within}
 use Rattle.text_judge.proofs.TakenLaws.{learned_at}
 use Rattle.text_judge.proofs.steps.take_remembered.Goals as goal
 

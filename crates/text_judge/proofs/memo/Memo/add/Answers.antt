@@ -1,5 +1,5 @@
 use Rattle.std.proofs.Common.{◌≡◌, ◌∷◌, ◌++◌, [], ℕ, ◌∙◌, length, subst, ap, arith}
-use Rattle.strips_judge.specs.Codes.{code_shown}
+use Rattle.step_codes.specs.Codes.{code_shown}
 use Rattle.text_judge.specs.Known.{IsEntryFor}
 use Rattle.text_judge.proofs.KnownLaws.{known_added, within_added}
 use Rattle.text_judge.proofs.memo.Memo.add.Goals as goal

@@ -1,6 +1,6 @@
 use Rattle.std.proofs.Common.{◌≡◌, ◌<◌, ◌∙◌, Some, option_map, length, slice_get, slice_range, sym, ap, arith}
 use Rattle.std.proofs.lemmas.Option.{slice_get-get_or, slice_get-map}
-use Rattle.strips_judge.specs.Codes.{code_shown}
+use Rattle.step_codes.specs.Codes.{code_shown}
 use Rattle.text_judge.specs.Known.{known_at}
 use Rattle.text_judge.proofs.memo.Memo.find.Goals as goal
 

@@ -1,9 +1,0 @@
-use Rattle.std.proofs.Common.{◌≡◌, take, List, All}
-use Rattle.formulas.specs.declared.atoms.Atom.{Atom}
-use Rattle.strips_judge.specs.Codes.{AreNumbers}
-use Rattle.strips_judge.specs.NumberedState.{state_of}
-use Rattle.strips_judge.proofs.codes.all_are.Given as goal
-
-abbrev pub invariant-loop-number : goal.invariant-loop-number
-invariant-loop-number l =
-    (ground : List Atom) → AreNumbers l.state.atoms ground l.numbers → All (λ atom. state_of l.state atom ≡ l.truth) (take l.number-index ground)
