@@ -1,4 +1,5 @@
 pub mod Cutting
+pub mod Fronts
 pub mod Outcomes
 pub mod Reading
 pub mod Refusals

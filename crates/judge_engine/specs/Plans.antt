@@ -1,9 +1,11 @@
 -- The plans of a run.
 
-use Rattle.std.specs.Prelude.{ℕ, suc, ◌<◌, ◌≤◌, List, [], ◌∷◌, ◌++◌, All, map, length, get_or, slice_range}
+use Rattle.std.specs.Global.{Vec}
+use Rattle.std.specs.Prelude.{◌≡◌, ℕ, suc, ◌<◌, ◌≤◌, List, [], ◌∷◌, ◌++◌, Option, None, Some, All, map, length, get_or, slice_range}
 use Rattle.judge_bench.specs.Submissions.{SubmissionParts}
 use Rattle.plan_text.specs.Bundle.{parts}
 use Rattle.plan_text.specs.PlanReading.{plan_of}
+use Rattle.judge_engine.specs.Answer.{most_plans}
 use Rattle.judge_engine.specs.Bundle.{BundleValue}
 use Rattle.judge_engine.specs.declared.plans.Cut.{Cut}
 
@@ -39,6 +41,13 @@ plan_of_cut bundles cut = plan_of_part cut.planner (slice_range (bytes_of bundle
 -- the plans of ranges
 abbrev pub plans_of_cuts : List BundleValue → List Cut → List SubmissionParts
 plans_of_cuts bundles cuts = map (plan_of_cut bundles) cuts
+
+-- the ranges are those of all plans of a planner's file; there are none if it alone holds too many
+abbrev pub AreCutsOfFile : List BundleValue → ℕ → Option (Vec Cut) → Type 0
+AreCutsOfFile bundles planner None = most_plans < length (parts (bytes_of bundles planner))
+AreCutsOfFile bundles planner (Some cuts) =
+    AreCutsOf bundles cuts.items
+    × (plans_of_cuts bundles cuts.items ≡ map (plan_of_part planner) (parts (bytes_of bundles planner)))
 
 -- the plans of ranges as one planner's
 abbrev pub handed_in : List BundleValue → List Cut → List SubmissionParts

@@ -18,7 +18,7 @@ use crate::bundle::Bundle;
 use crate::fault::{Input, JudgeFault};
 use crate::inlet::FILE_LIMIT;
 use crate::planner::{push_planner_line, push_plans};
-use crate::plans::{Cut, CutPlans, cut_plans};
+use crate::plans::{Cut, CutPlans, cut_side_by_side};
 use crate::report::Report;
 use judge_bench::{Findings, Gate, run};
 use pddl_reader::{Dialect, FaultKind, ReadFault};
@@ -201,7 +201,7 @@ fn judge_planners<R: Threads + Wait + Sync, G: Gate + Sync>(
     ensures counted { IfErr result (λ fault. IsOfThreads fault → plan_count input.now.bundles.now ≤ most_plans) }
     ensures held { IfErr result (λ fault. (job : ℕ) → fault ≡ Held job → G.may_hold gate.now job) }
 {
-    match cut_plans(alloc, input.bundles) {
+    match cut_side_by_side(rt, alloc, input.bundles, input.workers) {
         Ok(Some(cuts)) => report_of(rt, alloc, input, task, cuts.as_slice(), gate),
         Ok(None) => Err(JudgeFault::TooManyPlans),
         Err(AllocError) => Err(JudgeFault::OutOfMemory),

@@ -2,18 +2,21 @@
 //!
 //! A file is cut into its parts, and each part is a plan. Of each only the range of its bytes is kept. A plan is made when it is handed in: it is kept as
 //! its text, a range of the file's bytes, which are not copied, and it is read when it is judged.
-ghost use Rattle.std.specs.Prelude.{◌≡◌, ◌≤◌, ◌<◌, ◌+◌, ◌++◌, ◌∷◌, [], length, map, IfOk, OnOk, MatchBool, MatchOption};
+ghost use Rattle.std.specs.Global.{Vec as CutList};
+ghost use Rattle.std.specs.Prelude.{◌≡◌, ◌≤◌, ◌<◌, ◌+◌, ◌++◌, ◌∷◌, [], ℕ, Option, get_or, length, map, IfOk, OnOk, MatchBool, MatchOption};
 ghost use Rattle.plan_text.specs.Bundle.{parts};
 ghost use Rattle.judge_engine.specs.Answer.{plan_count, most_plans};
-ghost use Rattle.judge_engine.specs.Plans.{AreCutsOf, IsCutOf, bytes_of, handed_in, plan_of_cut, plan_of_part, plans_of_cuts, plans_of_files};
+ghost use Rattle.judge_engine.specs.Plans.{AreCutsOf, AreCutsOfFile, IsCutOf, bytes_of, handed_in, plan_of_cut, plan_of_part, plans_of_cuts, plans_of_files};
 
 use crate::bundle::Bundle;
 use crate::engine::MOST_PLANS;
 use intake_rules::SubmittedPlan;
 use judge_bench::{Intake, Submission};
 use plan_text::{PartEnd, part_from};
+use rayon::prelude::*;
 use std::alloc::{AllocError, Global};
 use std::marker::Model;
+use std::thread::Threads;
 
 /// A plan of a planner's file, as the range of its bytes.
 #[derive(Clone, Copy)]
@@ -80,6 +83,70 @@ impl<'b> Intake for CutPlans<'b> {
         self.next += 1;
         Ok(Some(Submission { planner: 0, plan }))
     }
+}
+
+/// What [`cut_plans`] gives, by at most `threads` threads: each cuts whole files.
+///
+/// Takes twelve bytes of memory more for each plan while the plans of the files are put together.
+pub(crate) fn cut_side_by_side<R: Threads + Sync>(
+    rt: &R,
+    alloc: Global,
+    bundles: &[Bundle],
+    threads: u32,
+) -> Result<Option<Vec<Cut>>, AllocError>
+    requires few { length bundles.now ≤ 64 }
+    requires threads { 1 ≤ threads }
+    ensures { IfOk result (λ found. MatchOption found (most_plans < plan_count bundles.now)
+        (λ cuts. AreCutsOf bundles.now cuts.items × (plans_of_cuts bundles.now cuts.items ≡ plans_of_files 0 bundles.now) × (plan_count bundles.now ≤ most_plans))) }
+{
+    let piece = bundles.len().div_ceil(threads as usize);
+    let files = (0..bundles.len())
+        .into_par_iter()
+        .with_min_len(piece)
+        .map(
+            |planner: usize| -> Result<Option<Vec<Cut>>, AllocError>
+                requires { (planner < length bundles.now) × (planner < 64) }
+                ensures { IfOk result (AreCutsOfFile bundles.entry.now planner) }
+            { cut_file(alloc, bundles, planner as u32) },
+        )
+        .collect::<Result<Vec<Option<Vec<Cut>>>, AllocError>>(rt, alloc)??;
+    joined(alloc, bundles, files.as_slice())
+}
+
+/// The plans of a planner's file, unless there are too many.
+fn cut_file(alloc: Global, bundles: &[Bundle], planner: u32) -> Result<Option<Vec<Cut>>, AllocError>
+    requires { planner < length bundles.now }
+    ensures { IfOk result (AreCutsOfFile bundles.now planner) }
+{
+    let mut cuts = Vec::new(alloc);
+    if push_parts(&mut cuts, bundles, planner)? {
+        return Ok(Some(cuts));
+    }
+    Ok(None)
+}
+
+/// The plans of all files, put together in their order, unless there are too many.
+fn joined(
+    alloc: Global,
+    bundles: &[Bundle],
+    files: &[Option<Vec<Cut>>],
+) -> Result<Option<Vec<Cut>>, AllocError>
+    requires count { length files.now ≡ length bundles.now }
+    requires each { (planner : ℕ) (file : Option (CutList Cut)) → planner < length bundles.now → AreCutsOfFile bundles.now planner (get_or files.now planner file) }
+    ensures { IfOk result (λ found. MatchOption found (most_plans < plan_count bundles.now)
+        (λ cuts. AreCutsOf bundles.now cuts.items × (plans_of_cuts bundles.now cuts.items ≡ plans_of_files 0 bundles.now) × (plan_count bundles.now ≤ most_plans))) }
+{
+    let mut cuts = Vec::new(alloc);
+    for planner in 0..bundles.len() {
+        let Some(more) = &files[planner] else {
+            return Ok(None);
+        };
+        if more.len() > MOST_PLANS - cuts.len() {
+            return Ok(None);
+        }
+        cuts.extend_from_slice(more.as_slice())?;
+    }
+    Ok(Some(cuts))
 }
 
 /// The plans of all files, in the order of the files and of the parts of each, unless there are too many.
