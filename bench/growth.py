@@ -43,8 +43,8 @@ TIME, MEMORY, MODEL = "#06c", "#c60", "#999"
 
 def fitted(points):
     """The serial and the parallel seconds of a run: the best fit of time = serial + parallel / workers, where each worker has a processor of its own.
-    Points are pairs of a number of workers and seconds."""
-    used = [(1 / workers, seconds) for workers, seconds in points if workers <= os.cpu_count()]
+    Points are numbers of workers with the seconds and the bytes of memory."""
+    used = [(1 / workers, seconds) for workers, seconds, _ in points if workers <= os.cpu_count()]
     middle = sum(share for share, _ in used) / len(used), sum(seconds for _, seconds in used) / len(used)
     above = sum((share - middle[0]) * (seconds - middle[1]) for share, seconds in used)
     below = sum((share - middle[0]) ** 2 for share, _ in used)
@@ -100,16 +100,16 @@ class Panel:
         return made
 
 
-def panel(x0, y0, title, points):
+def panel(x0, y0, grows, counts, points):
     """The milliseconds and the megabytes of a series, and for workers what the model says."""
     times = [(number, 1e3 * seconds) for number, seconds, _ in points]
-    sizes = [(number, bytes_ / 1e6) for number, _, bytes_ in points]
+    sizes = [(number, size / 1e6) for number, _, size in points]
     model = []
-    if title.startswith("workers"):
-        serial, parallel = fitted([(number, seconds) for number, seconds, _ in points])
+    if grows == "workers":
+        serial, parallel = fitted(points)
         model = [(number, 1e3 * (serial + parallel / number)) for number, _, _ in points]
     drawn = Panel(x0, y0, [number for number, _ in times], [value for _, value in times + sizes + model])
-    made = drawn.axes(title)
+    made = drawn.axes(counts)
     if model:
         made += drawn.line(model, MODEL, "5 4")
     return made + drawn.marks(sizes, MEMORY) + drawn.marks(times, TIME)
@@ -132,7 +132,7 @@ def drawing(measured):
     rows = (len(measured) + 2) // 2
     made = ['<svg xmlns="http://www.w3.org/2000/svg" width="%d" height="%d" font-family="sans-serif" font-size="12">' % (2 * WIDTH, rows * HEIGHT),
             '<rect width="100%" height="100%" fill="#fff"/>']
-    for index, (_, counts, points) in enumerate(measured):
-        made += panel(index % 2 * WIDTH, index // 2 * HEIGHT, counts, points)
+    for index, (grows, counts, points) in enumerate(measured):
+        made += panel(index % 2 * WIDTH, index // 2 * HEIGHT, grows, counts, points)
     made += legend(len(measured) % 2 * WIDTH, len(measured) // 2 * HEIGHT)
     return "\n".join(made + ["</svg>", ""])
