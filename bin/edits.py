@@ -14,7 +14,7 @@ import shutil
 import tempfile
 import time
 
-from programs import kit
+from programs import NAME, kit
 from rooms import PARTS, Room, below, listed, memory
 from running import Command, Progress
 
@@ -33,6 +33,13 @@ def listed_edits(names=()):
     crates = [it for it in listed().values() if not names or it.name in names]
     paths = {it: [path for part in FOLDERS for path in glob.glob(os.path.join(it.folder, part, "*.edit"))] for it in crates}
     return {it: sorted(own, key=os.path.basename) for it, own in paths.items() if own}
+
+
+def libraries_beside(names=()):
+    """The libraries on which crates with edits stand, and the program does not. Only of some crates if there are names."""
+    crates = listed()
+    found = {it.name for crate in listed_edits(names) for it in below(crates, crates[crate.name])}
+    return sorted(found - set(listed(NAME)))
 
 
 class Unusable(Exception):
