@@ -199,9 +199,10 @@ class Trials:
         return [*call(self.rooms[crate], self.crates, crate), "--incremental", kept]
 
     def begin(self):
-        """Begins edits while there is room, those of the crate first that has most to do."""
+        """Begins edits while there is room, those of the crates first of which `bin/build` has kept nothing, and of the others the one that has most to do."""
         busy = {it.crate for it in self.running}
-        free = sorted((it for it in self.waiting if self.waiting[it] and it not in busy), key=lambda it: self.lines[it] * len(self.waiting[it]))
+        is_new = lambda it: not os.path.isdir(os.path.join(it.folder, "out", "incremental"))
+        free = sorted((it for it in self.waiting if self.waiting[it] and it not in busy), key=lambda it: (is_new(it), self.lines[it] * len(self.waiting[it])))
         while free and len(self.running) < self.lanes:
             crate = free.pop()
             self.running.append(Trial(self.words(crate), crate, self.waiting[crate].pop(0), self.folder))
