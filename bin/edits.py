@@ -199,7 +199,7 @@ class Trials:
         return [*call(self.rooms[crate], self.crates, crate), "--incremental", kept]
 
     def begin(self):
-        """Begins edits while there is room, those of the crates first of which `bin/build` has kept nothing, and of the others the one that has most to do."""
+        """Begins edits while there is room: first those of crates of which `bin/build` has kept nothing, then those of the crate that has most to do."""
         busy = {it.crate for it in self.running}
         is_new = lambda it: not os.path.isdir(os.path.join(it.folder, "out", "incremental"))
         free = sorted((it for it in self.waiting if self.waiting[it] and it not in busy), key=lambda it: (is_new(it), self.lines[it] * len(self.waiting[it])))
