@@ -29,7 +29,7 @@ module _ (head : Head) (tables : Tables) (given : Given) where
     objects = head.objects;
     preds = tables.predicates;
     actions = tables.actions.actions;
-    init = given.init.atoms;
+    init = given.atoms;
     goal = given.goal;
   }
 
@@ -38,7 +38,7 @@ module _ (head : Head) (tables : Tables) (given : Given) where
       subst (λ types. IsWellFormed (parts_with types)) (same_table head.types) (subst (λ d. IsWellFormed (task_assembled d given)) (sym is) h)
 
   pub task_put_together : (domain : DomainValue) (task : TaskParts) (costs : Option Costs) → domain_assembled head tables ≡ domain → task ≡ parts_with head.types →
-      costs ≡ costs_of tables.functions tables.actions.increases given.init.values → record { task = task; costs = costs } ≡ costed_assembled domain given
+      costs ≡ costs_of tables.functions tables.actions.increases given.values → record { task = task; costs = costs } ≡ costed_assembled domain given
   task_put_together domain task costs is task_is costs_are =
       rw (← is, task_is, costs_are)
-      (ap (λ types. record { task = parts_with types; costs = costs_of tables.functions tables.actions.increases given.init.values }) (sym (same_table head.types)))
+      (ap (λ types. record { task = parts_with types; costs = costs_of tables.functions tables.actions.increases given.values }) (sym (same_table head.types)))

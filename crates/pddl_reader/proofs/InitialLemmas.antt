@@ -1,20 +1,17 @@
 -- What the initial atoms and values of a problem give, one equation for each case.
 
-use Rattle.std.proofs.Common.{◌≡◌, ℕ, ◌++◌, Bool, true, false, List, [], ◌∷◌, Option, Some, None, Result, Ok, Err, map, refl, ap, sym, ◌∙◌, append_assoc}
-use Rattle.std.proofs.lemmas.List.{append-nil}
-use Rattle.std.specs.Option.{option_and_then}
+use Rattle.std.proofs.Common.{◌≡◌, ℕ, ◌++◌, Bool, true, false, List, [], ◌∷◌, Option, Some, None, Result, Ok, Err, IfOk, IsTrue, refl}
 use Rattle.formulas.specs.declared.atoms.Atom.{Atom}
 use Rattle.strips_task.specs.declared.values.Given.TheVariants.{First, Again, Another}
 use Rattle.strips_task.specs.Values.{value_of, given_over, with_value}
 use Rattle.pddl_syntax.specs.declared.fault.ReadFault.{ReadFault}
-use Rattle.pddl_syntax.specs.Optional.{guard, through}
+use Rattle.pddl_syntax.specs.Optional.{guard}
 use Rattle.pddl_syntax.specs.Reading.{Puts}
-use Rattle.pddl_syntax.specs.Syntax.{AtomForm, ValueForm, InitialForm, initial_atom, initial_value}
+use Rattle.pddl_syntax.specs.Syntax.{AtomForm, ValueForm, initial_atom, initial_value}
 use Rattle.pddl_reader.specs.declared.resolution.initial.InitialState.{InitialState}
 use Rattle.pddl_reader.specs.Declarations.{Known, ground_of}
 use Rattle.pddl_reader.specs.Functions.{Vocabulary, is_not_another, value_given, with_value_of}
-use Rattle.pddl_reader.specs.Rows.{BeginWithAtoms}
-use Rattle.pddl_reader.specs.Problem.{no_initial, with_atom, given_atoms, given_values, with_initial, initial_of}
+use Rattle.pddl_reader.specs.Problem.{with_atom, given_atoms, given_values, with_initial}
 
 pub atom_unknown : (atoms : List Atom) (positive : Bool) (atom : Option Atom) → atom ≡ None → with_atom atoms positive atom ≡ None
 unfolding with_atom
@@ -85,36 +82,8 @@ pub value_put : (v : Vocabulary) (initial : InitialState) (value : ValueForm) (a
 value_put v initial value (Ok _) values h = one_value v initial value values h
 value_put v initial value (Err e) values h = (h.0, λ k. no_value v initial value (h.1 k))
 
-pub initial_start : (v : Vocabulary) (ls : List InitialForm) → initial_of v ls ≡ through (with_initial v) no_initial ls
-unfolding initial_of
-initial_start v ls = refl
-
-pub ruleset initial_steps = (initial_start)
-
--- one atom more is given
-with_one : (v : Vocabulary) (initial : InitialState) (form : AtomForm) (atom : Atom) → ground_of v.atoms form ≡ Some atom →
-    with_initial v initial (initial_atom true form) ≡ Some (given_atoms initial (initial.atoms ++ atom ∷ []))
-with_one v initial form atom h =
-    one_atom v initial true form (initial.atoms ++ atom ∷ []) (atom_positive initial.atoms true (ground_of v.atoms form) atom h refl)
-
--- items that are atoms give these
-through_forms : (v : Vocabulary) (initial : InitialState) (forms : List AtomForm) (atoms : List Atom) (others : List InitialForm) →
-    map (ground_of v.atoms) forms ≡ map Some atoms →
-    through (with_initial v) (given_atoms initial (initial.atoms ++ atoms)) others ≡ through (with_initial v) initial (map (initial_atom true) forms ++ others)
-unfolding through
-through_forms v initial [] [] others e = rw append-nil refl
-through_forms v initial [] (a ∷ rest) others e = cc
-through_forms v initial (f ∷ fs) [] others e = cc
-through_forms v initial (f ∷ fs) (a ∷ atoms) others e =
-    let head : ground_of v.atoms f ≡ Some a = cc in
-    let rest : map (ground_of v.atoms) fs ≡ map Some atoms = cc in
-    let next = given_atoms initial (initial.atoms ++ a ∷ []) in
-    ap (λ list. through (with_initial v) (given_atoms initial list) others) (sym (append_assoc initial.atoms (a ∷ []) atoms))
-    ∙ through_forms v next fs atoms others rest
-    ∙ ap (option_and_then (λ s. through (with_initial v) s (map (initial_atom true) fs ++ others))) (sym (with_one v initial f a head))
-
--- items that begin with atoms give these, and then what the others give
-pub through_atoms : (v : Vocabulary) (initial : InitialState) (items others : List InitialForm) (atoms : List Atom) → BeginWithAtoms v.atoms items atoms others →
-    through (with_initial v) (given_atoms initial (initial.atoms ++ atoms)) others ≡ through (with_initial v) initial items
-through_atoms v initial items others atoms begin =
-    through_forms v initial begin.forms atoms others begin.stand_for ∙ ap (through (with_initial v) initial) (sym begin.first)
+pub row_put : {E : Type 0} (v : Vocabulary) (initial : InitialState) (form : AtomForm) (answer : Result Bool E) (atoms : List Atom) →
+    IfOk answer (λ is_put. IsTrue is_put → with_atom initial.atoms true (ground_of v.atoms form) ≡ Some atoms) →
+    IfOk answer (λ is_put. IsTrue is_put → with_initial v initial (initial_atom true form) ≡ Some (given_atoms initial atoms))
+row_put v initial form (Ok is_put) atoms h = λ k. one_atom v initial true form atoms (h k)
+row_put v initial form (Err e) atoms h = h

@@ -34,5 +34,6 @@ pub mod AssembledTasks
 pub mod DomainMeaning
 pub mod ProblemMeaning
 pub mod InitialLemmas
+pub mod LookupLemmas
 pub mod TextLemmas
 pub mod DialectTexts

@@ -5,6 +5,7 @@ use Rattle.std.specs.Global.{Vec}
 use Rattle.formulas.specs.Tree.{Tree}
 use Rattle.pddl_syntax.specs.declared.syntax.ProblemSyntax.{ProblemSyntax}
 use Rattle.pddl_syntax.specs.Forms.{name_groups, problem_syntax_form}
+use Rattle.pddl_syntax.specs.Syntax.{ProblemForm}
 use Rattle.pddl_reader.specs.Parts.{part_items}
 use Rattle.pddl_syntax.specs.declared.syntax.NameGroup as groups
 use Rattle.pddl_reader.specs.declared.resolution.initial.InitialState.{InitialState}
@@ -20,11 +21,6 @@ pub meant_parts : (domain : DomainValue) (syntax : ProblemSyntax) → problem_wi
 unfolding problem_within
 meant_parts domain syntax = refl
 
-pub no_initial_meant : (domain : DomainValue) (syntax : ProblemSyntax) → initial_of (vocabulary_in domain) (unwrap_or syntax.init []) ≡ None →
-    problem_within (problem_syntax_form syntax) (Some domain) ≡ None
-unfolding task_with
-no_initial_meant domain syntax h = rw (meant_parts domain syntax, h) refl
-
 pub no_goal : (domain : DomainValue) (syntax : ProblemSyntax) (init : InitialState) → initial_of (vocabulary_in domain) (unwrap_or syntax.init []) ≡ Some init →
     conditions_of domain.types (vocabulary_in domain).atoms (outermost no_variables) syntax.goal ≡ None → problem_within (problem_syntax_form syntax) (Some domain) ≡ None
 unfolding task_with
@@ -37,7 +33,7 @@ pub problem_meant : (domain : DomainValue) (syntax : ProblemSyntax) (init : Init
 unfolding task_with
 problem_meant domain syntax init goal h e = rw (meant_parts domain syntax, h, e) refl
 
-pub ruleset problem_steps = (no_initial_meant, no_goal)
+pub ruleset problem_steps = (no_goal)
 
 pub objects_given : (syntax : ProblemSyntax) → (problem_syntax_form syntax).objects ≡ name_groups (part_items syntax.objects)
 unfolding part_items name_groups
@@ -47,14 +43,7 @@ objects_given syntax = by syntax.objects
     by None = refl
     by (Some v) = refl
 
-pub not_extended : (domain : DomainValue) (syntax : ProblemSyntax) → domain_extended domain (name_groups (part_items syntax.objects)) ≡ None →
-    problem_of domain (problem_syntax_form syntax) ≡ None
-unfolding problem_of problem_within
-not_extended domain syntax h = rw (objects_given syntax, h) refl
-
-pub when_extended : (domain more : DomainValue) (syntax : ProblemSyntax) → domain_extended domain (name_groups (part_items syntax.objects)) ≡ Some more →
-    problem_of domain (problem_syntax_form syntax) ≡ problem_within (problem_syntax_form syntax) (Some more)
+pub when_extended : (domain more : DomainValue) (problem : ProblemForm) → domain_extended domain problem.objects ≡ Some more →
+    problem_of domain problem ≡ problem_within problem (Some more)
 unfolding problem_of
-when_extended domain more syntax h = rw (objects_given syntax, h) refl
-
-pub ruleset extended_steps = (not_extended, when_extended)
+when_extended domain more problem h = rw h refl

@@ -1,6 +1,6 @@
 -- Rows of names: the numbers of one word more, and the atoms that rows stand for.
 
-use Rattle.std.proofs.Common.{◌≡◌, ℕ, suc, true, false, List, [], ◌∷◌, ◌++◌, Some, length, map, refl, ap, sym, ◌∙◌, append_assoc, arith}
+use Rattle.std.proofs.Common.{◌≡◌, ℕ, suc, true, false, List, [], ◌∷◌, ◌++◌, Some, length, map, refl, ap, sym, ◌∙◌, arith}
 use Rattle.std.proofs.lemmas.Bool.{eq-eqb}
 use Rattle.std.proofs.lemmas.List.{map-append}
 use Rattle.std.specs.List.{list_all, slice_get, zip}
@@ -8,16 +8,14 @@ use Rattle.std.specs.Map.{values_of}
 use Rattle.pddl_words.specs.SpacedWords.{words_of}
 use Rattle.pddl_words.specs.Words.{folded}
 use Rattle.formulas.specs.declared.terms.Term.TheVariants.{Object}
-use Rattle.formulas.specs.declared.atoms.Atom.{Atom}
 use Rattle.strips_task.specs.Names.{number_named}
 use Rattle.strips_task.specs.WellFormed.{is_fitting, term_types}
 use Rattle.strips_task.proofs.AtomEquality.{both_hold}
 use Rattle.strips_task.proofs.NamedRows.{none_yet}
 use Rattle.pddl_syntax.specs.Optional.{guard, followed_by}
 use Rattle.pddl_syntax.specs.Rows.{atom_of_words, atom_spelled}
-use Rattle.pddl_syntax.specs.Syntax.{AtomForm, InitialForm, initial_atom}
 use Rattle.pddl_reader.specs.Declarations.{Known, fitted_all, fitted_arguments, fitting_object, ground_by, ground_of, object_number, predicate_number, predicate_taking, takes_terms}
-use Rattle.pddl_reader.specs.Rows.{BeginWithAtoms, row_number, row_numbers}
+use Rattle.pddl_reader.specs.Rows.{row_number, row_numbers}
 use Rattle.pddl_reader.proofs.TermLemmas.{object_fit}
 
 module _ (known : Known) where
@@ -90,19 +88,3 @@ module _ (known : Known) where
       ground_of known (atom_spelled row) ≡ Some (record { pred = pred; args = objects })
   unfolding atom_spelled
   row_ground row pred objects argument_types = words_ground (words_of row) pred objects argument_types
-
-  -- one atom
-  pub one_atom : (items others : List InitialForm) (form : AtomForm) (atom : Atom) → items ≡ initial_atom true form ∷ others →
-      ground_of known form ≡ Some atom → BeginWithAtoms known items (atom ∷ []) others
-  one_atom items others form atom first stands = record { forms = form ∷ []; first = first; stand_for = ap (λ o. o ∷ []) stands }
-
-  -- one atom more
-  pub atoms_more : (items others rest : List InitialForm) (atoms more : List Atom) → BeginWithAtoms known items atoms others →
-      BeginWithAtoms known others more rest → BeginWithAtoms known items (atoms ++ more) rest
-  atoms_more items others rest atoms more before after = record {
-    forms = before.forms ++ after.forms;
-    first = before.first ∙ ap (λ ls. map (initial_atom true) before.forms ++ ls) after.first
-        ∙ sym (append_assoc (map (initial_atom true) before.forms) (map (initial_atom true) after.forms) rest)
-        ∙ ap (λ ls. ls ++ rest) (sym (map-append (initial_atom true) before.forms after.forms));
-    stand_for = map-append (ground_of known) before.forms after.forms ∙ (λ j. before.stand_for j ++ after.stand_for j) ∙ sym (map-append Some atoms more);
-  }

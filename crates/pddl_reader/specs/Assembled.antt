@@ -15,11 +15,11 @@ domain_assembled head tables = domain_value head tables.predicates tables.functi
 
 -- a task of a domain and what a problem gives
 abbrev pub task_assembled : DomainValue → Given → TaskParts
-task_assembled domain given = task_named domain given.problem given.init.atoms given.goal
+task_assembled domain given = task_named domain given.problem given.atoms given.goal
 
 -- the same, with what it says about costs
 abbrev pub costed_assembled : DomainValue → Given → CostedTask
 costed_assembled domain given = record {
   task = task_assembled domain given;
-  costs = costs_of domain.functions domain.increases given.init.values;
+  costs = costs_of domain.functions domain.increases given.values;
 }

@@ -14,6 +14,7 @@ pub mod Rows
 pub mod Domain
 pub mod DomainTables
 pub mod Problem
+pub mod Lookups
 pub mod Texts
 pub mod Assembled
 pub mod DialectLaws

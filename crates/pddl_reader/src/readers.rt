@@ -7,6 +7,7 @@ ghost use Rattle.pddl_reader.specs.Texts.{domain_in_text, domain_of_text, proble
 ghost use Rattle.pddl_syntax.specs.Trees.{text_fault};
 
 use crate::resolution::domain::{Domain, resolve_domain};
+use crate::resolution::initial::Lookup;
 use crate::resolution::problem::resolve_problem;
 use pddl_syntax::{Dialect, ReadFault, check_text, domain_text, problem_text};
 use std::alloc::Global;
@@ -65,6 +66,9 @@ pub fn read_problem_in(
     ensures fault { (e : read_fault.ReadFault) → text_fault text.now ≡ Some e → result ≡ Err e }
 {
     check_text(text)?;
-    let syntax = problem_text(alloc, dialect, text)?;
-    resolve_problem(alloc, domain, &syntax, text.len())
+    let mut lookup = Lookup::Waiting(domain, text.len());
+    let syntax = problem_text(alloc, dialect, text, &mut lookup)?;
+    lookup.take_all(alloc, &syntax)?;
+    let (domain, initial) = lookup.finish()?;
+    resolve_problem(alloc, domain, initial, &syntax)
 }

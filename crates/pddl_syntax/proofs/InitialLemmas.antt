@@ -1,24 +1,19 @@
 -- The initial atoms and values, one equation for each case.
 
-use Rattle.std.proofs.Common.{◌≡◌, ◌≢◌, ℕ, ◌&&◌, Bool, true, false, List, [], ◌∷◌, Option, Some, None, Result, Ok, Err, IsSome, is_some, unwrap_or, refl, sym}
+use Rattle.std.proofs.Common.{◌≡◌, ℕ, ◌<◌, Bool, true, false, List, [], Option, Some, None, IsSome, unwrap_or, refl, sym, ap, ◌∙◌, arith}
 use Rattle.std.specs.Option.{option_map}
 use Rattle.pddl_syntax.specs.declared.dialect.Dialect.{Dialect}
-use Rattle.pddl_syntax.specs.declared.fault.ReadFault.{ReadFault}
 use Rattle.pddl_syntax.specs.declared.heads.Context.TheVariants as context
 use Rattle.pddl_syntax.specs.declared.heads.ListHead.{ListHead}
 use Rattle.pddl_syntax.specs.declared.heads.ListHead.TheVariants as head
-use Rattle.pddl_syntax.specs.declared.syntax.InitialSyntax.{InitialSyntax}
-use Rattle.pddl_syntax.specs.Forms.{initial_form}
 use Rattle.pddl_syntax.specs.Heads.{is_term, list_head, scope_at}
-use Rattle.pddl_syntax.specs.Levels.{here, levels}
+use Rattle.pddl_syntax.specs.Initial.{GivesItem, given_all, given_in}
+use Rattle.pddl_syntax.specs.Levels.{Levels}
 use Rattle.pddl_syntax.specs.Optional.{followed_by}
-use Rattle.pddl_tokens.specs.Tokens.{pieces, pieces_from}
-use Rattle.pddl_syntax.specs.Trees.{Trees, none, word, list, begins_with_list, fault_from, text_fault}
-use Rattle.pddl_syntax.specs.Syntax.{AtomForm, ValueForm, InitialForm, initial_atom, initial_value, atom_of, negated_atom_of, value_of, are_initial, is_init_item, init_item_in, initial_in, lists_of}
-use Rattle.pddl_syntax.specs.Initial.{ReadsNext, TakesNext}
+use Rattle.pddl_syntax.specs.Sizes.{size}
+use Rattle.pddl_syntax.specs.Trees.{Trees, none, word, list, begins_with_list}
+use Rattle.pddl_syntax.specs.Syntax.{AtomForm, ValueForm, InitialForm, initial_atom, initial_value, atom_of, negated_atom_of, value_of, init_item_in, initial_in, lists_of}
 use Rattle.pddl_syntax.proofs.AtomLemmas.{atom_named}
-use Rattle.pddl_syntax.proofs.LevelLemmas.{list_steps}
-use Rattle.pddl_syntax.proofs.Memory.{only_memory}
 
 pub item_none : (dialect : Dialect) → init_item_in dialect none ≡ None
 unfolding init_item_in
@@ -99,46 +94,62 @@ pub ruleset item_steps = (
   item_refused,
 )
 
-is_some-followed_by : (item : Option InitialForm) (others : Option (List InitialForm)) → is_some (followed_by item others) ≡ is_some item && is_some others
-unfolding followed_by
-is_some-followed_by None others = refl
-is_some-followed_by (Some i) None = refl
-is_some-followed_by (Some i) (Some is) = refl
+module _ {T : Type 0} (given : T → InitialForm → T) (dialect : Dialect) (taker : T) where
+  pub given_end : given_in given dialect taker none ≡ Some taker
+  unfolding given_in initial_in lists_of
+  given_end = refl
 
-items_first : (dialect : Dialect) (k f : Trees) → are_initial dialect (list k f) ≡ is_init_item dialect k && are_initial dialect f
-unfolding are_initial is_init_item initial_in lists_of
-items_first dialect k f = is_some-followed_by (init_item_in dialect k) (lists_of (init_item_in dialect) f)
+  pub given_word : (w : List ℕ) (f : Trees) → given_in given dialect taker (word w f) ≡ None
+  unfolding given_in initial_in lists_of
+  given_word w f = refl
 
-pub items_end : (dialect : Dialect) → are_initial dialect none ≡ true
-unfolding are_initial initial_in lists_of
-items_end dialect = refl
+  first_given : (item : InitialForm) (others : Option (List InitialForm)) → option_map (given_all given taker) (followed_by (Some item) others) ≡ option_map (given_all given (given taker item)) others
+  unfolding followed_by
+  first_given item None = refl
+  first_given item (Some items) = refl
 
-pub items_word : (dialect : Dialect) (w : List ℕ) (f : Trees) → are_initial dialect (word w f) ≡ false
-unfolding are_initial initial_in lists_of
-items_word dialect w f = refl
+  pub given_some : (k f : Trees) (item : InitialForm) → init_item_in dialect k ≡ Some item → given_in given dialect taker (list k f) ≡ given_in given dialect (given taker item) f
+  unfolding given_in initial_in lists_of
+  given_some k f item h = ap (λ (i : Option InitialForm). option_map (given_all given taker) (followed_by i (lists_of (init_item_in dialect) f))) h ∙ first_given item (lists_of (init_item_in dialect) f)
 
-pub initial_first : (dialect : Dialect) (k f : Trees) → is_init_item dialect k ≡ true → are_initial dialect (list k f) ≡ are_initial dialect f
-initial_first dialect k f h = rw (items_first dialect k f, h) refl
+  pub given_none : (k f : Trees) → init_item_in dialect k ≡ None → given_in given dialect taker (list k f) ≡ None
+  unfolding given_in initial_in lists_of followed_by
+  given_none k f h = rw h refl
 
-pub items_some : (dialect : Dialect) (k f : Trees) (i : InitialForm) → init_item_in dialect k ≡ Some i → are_initial dialect (list k f) ≡ are_initial dialect f
-unfolding is_init_item
-items_some dialect k f i h = initial_first dialect k f (rw h refl)
+  -- after an item that is given, the others are left
+  pub item_given : (old new : Levels) (after : T) → GivesItem given old new taker after → given_in given dialect taker old.top ≡ given_in given dialect after new.top
+  item_given old new after (inside, item, first, is, below, taken) =
+      ap (given_in given dialect taker) first ∙ given_some inside new.top item (is dialect) ∙ ap (λ (t : T). given_in given dialect t new.top) (sym taken)
 
-pub items_none : (dialect : Dialect) (k f : Trees) → init_item_in dialect k ≡ None → are_initial dialect (list k f) ≡ false
-unfolding is_init_item
-items_none dialect k f h =
-    let e : is_init_item dialect k ≡ false = rw h refl in
-    rw (items_first dialect k f, e) refl
+  by_items : (items : Option (List InitialForm)) (after : T) → option_map (given_all given taker) items ≡ Some after → IsSome items
+  by_items None after e = let clash : ◌≡◌ {A = Option T} None (Some after) = e in cc
+  by_items (Some is) after e = refl
 
-pub ruleset items_steps = (items_end, items_word, items_some, items_none)
+  -- where items were given, there are items
+  pub items_there : (f : Trees) (after : T) → given_in given dialect taker f ≡ Some after → IsSome (initial_in dialect f)
+  unfolding given_in
+  items_there f after e = by_items (initial_in dialect f) after e
 
-pub empty_text : text_fault [] ≡ None
-unfolding text_fault fault_from pieces pieces_from
-empty_text = refl
+  none_by : (items : Option (List InitialForm)) → option_map (given_all given taker) items ≡ None → items ≡ None
+  none_by None e = refl
+  none_by (Some is) e = let clash : ◌≡◌ {A = Option T} (Some (given_all given taker is)) None = e in cc
 
-pub nothing_there : (dialect : Dialect) → initial_in dialect (here (pieces [])).top ≡ Some []
-unfolding pieces pieces_from here levels initial_in lists_of
-nothing_there dialect = refl
+  pub no_items : (f : Trees) → given_in given dialect taker f ≡ None → initial_in dialect f ≡ None
+  unfolding given_in
+  no_items f e = none_by (initial_in dialect f) e
+
+  -- and these are the ones
+  pub those_given : (f : Trees) (items : List InitialForm) (after : T) → given_in given dialect taker f ≡ Some after → initial_in dialect f ≡ Some items → after ≡ given_all given taker items
+  unfolding given_in
+  those_given f items after e is = let same : ◌≡◌ {A = Option T} (Some (given_all given taker items)) (Some after) = sym (ap (option_map (given_all given taker)) is) ∙ e in cc
+
+pub smaller_after : {T : Type 0} (given : T → InitialForm → T) (old new : Levels) (before after : T) → GivesItem given old new before after → size new.top < size old.top
+smaller_after given old new before after (inside, item, first, is, below, taken) = omega (arith, ap size first)
+
+pub below_given : {T : Type 0} (given : T → InitialForm → T) (old new : Levels) (before after : T) → GivesItem given old new before after → new.below ≡ old.below
+below_given given old new before after (inside, item, first, is, below, taken) = below
+
+pub ruleset items_steps = (given_end, given_word, given_some, given_none, item_given, smaller_after, below_given)
 
 pub starts_so : (dialect : Dialect) (f : Trees) → IsSome (initial_in dialect f) → initial_in dialect f ≡ Some (unwrap_or (initial_in dialect f) [])
 starts_so dialect f h = by (initial_in dialect f) h
@@ -147,63 +158,6 @@ starts_so dialect f h = by (initial_in dialect f) h
     by None h = cc
     by (Some is) h = refl
 
-pub ruleset start_steps = (empty_text, nothing_there, starts_so)
+pub ruleset start_steps = (starts_so)
 
-pub none_left : (dialect : Dialect) (f : Trees) → begins_with_list f ≡ false → IsSome (initial_in dialect f) → initial_in dialect f ≡ Some []
-unfolding begins_with_list initial_in lists_of
-none_left dialect none e h = refl
-none_left dialect (word w f) e h = cc
-none_left dialect (list k f) e h = cc
-
-pub first_of_list : (dialect : Dialect) (k f : Trees) → initial_in dialect (list k f) ≡ followed_by (init_item_in dialect k) (initial_in dialect f)
-unfolding initial_in lists_of
-first_of_list dialect k f = refl
-
-pub item_there : (dialect : Dialect) (k f : Trees) → IsSome (initial_in dialect (list k f)) → IsSome (init_item_in dialect k)
-unfolding initial_in lists_of followed_by
-item_there dialect k f h = by (init_item_in dialect k) h
-  where
-    by : (item : Option InitialForm) → IsSome (followed_by item (lists_of (init_item_in dialect) f)) → IsSome item
-    by None h = cc
-    by (Some i) h = refl
-
-pub ruleset reading_steps = (list_steps, empty_text, nothing_there, none_left, first_of_list, item_there, only_memory)
-
-pub still_there : (result : Result (Option InitialSyntax) ReadFault) (old new : Option (List InitialForm)) → IsSome old → ReadsNext result old new → IsSome new
-unfolding followed_by
-still_there (Ok (Some i)) old None h e = cc
-still_there (Ok (Some i)) old (Some is) h e = refl
-still_there (Ok None) old new h e = rw e.1 refl
-still_there (Err e) old new h f = rw f.1 refl
-
-pub next_one : (i : InitialForm) (old new : Option (List InitialForm)) → IsSome old → old ≡ followed_by (Some i) new → unwrap_or old [] ≡ i ∷ unwrap_or new []
-unfolding followed_by
-next_one i old None h e = cc
-next_one i old (Some is) h e = rw e refl
-
--- what is read of initial atoms that may be there is taken where they are
-pub taken : (result : Result (Option InitialSyntax) ReadFault) (old new : Option (List InitialForm)) → IsSome old → ReadsNext result old new →
-    TakesNext result (unwrap_or old []) (unwrap_or new [])
-taken (Ok (Some i)) old new h e = next_one (initial_form i) old new h e
-taken (Ok None) old new h e = (rw e.0 refl, rw e.1 refl)
-taken (Err e) old new h f = (f.0, rw f.1 refl)
-
-pub ruleset next_steps = (still_there)
-
-pub items_kept : (dialect : Dialect) (f : Trees) → are_initial dialect f ≡ true → IsSome (initial_in dialect f)
-unfolding are_initial
-items_kept dialect f h = by (initial_in dialect f) h
-  where
-    by : (items : Option (List InitialForm)) → is_some items ≡ true → IsSome items
-    by None h = cc
-    by (Some is) h = refl
-
-pub no_items : (dialect : Dialect) (f : Trees) → are_initial dialect f ≡ false → initial_in dialect f ≡ None
-unfolding are_initial
-no_items dialect f h = by (initial_in dialect f) h
-  where
-    by : (items : Option (List InitialForm)) → is_some items ≡ false → items ≡ None
-    by None h = refl
-    by (Some is) h = cc
-
-pub ruleset kept_steps = (items_kept, no_items)
+pub ruleset kept_steps = (items_there, no_items, those_given)

@@ -15,6 +15,7 @@ pub mod WordLemmas
 pub mod VariableLemmas
 pub mod DomainLemmas
 pub mod ProblemLemmas
+mod TakenSections
 pub mod TextLemmas
 pub mod Spelling
 pub mod Balanced
@@ -23,6 +24,5 @@ pub mod InitialLemmas
 pub mod Memory
 pub mod FunctionLemmas
 pub mod DialectLaws
-pub mod AtomRows
 pub mod RowLemmas
 pub mod ReservedWords

@@ -1,9 +1,8 @@
 -- Atoms that are written as words with a single space between each two.
 
-use Rattle.std.proofs.Common.{◌≡◌, ◌≢◌, ℕ, suc, ◌+◌, ◌<◌, ◌++◌, Bool, true, false, List, [], ◌∷◌, take, length, Option, Some, None, IsSome, is_some, refl, sym, ap, ◌∙◌, subst, arith, unwrap_or}
+use Rattle.std.proofs.Common.{◌≡◌, ◌≢◌, ℕ, suc, ◌+◌, ◌<◌, ◌++◌, Bool, true, false, List, [], ◌∷◌, take, length, Option, Some, None, IsSome, refl, sym, ap, ◌∙◌, subst, arith}
 use Rattle.std.specs.Prelude.{not, ◌&&◌, if◌then◌else◌}
 use Rattle.std.specs.List.{list_all, onto_first, prefix_len}
-use Rattle.std.specs.Option.{option_map}
 use Rattle.std.proofs.lemmas.Bool.{and_parts}
 use Rattle.pddl_words.specs.SpacedWords as spaced
 use Rattle.pddl_words.specs.SpacedWords.{is_space}
@@ -24,15 +23,15 @@ use Rattle.pddl_syntax.specs.declared.heads.ListHead.TheVariants as head
 use Rattle.pddl_syntax.specs.declared.heads.Scope.{Scope}
 use Rattle.pddl_syntax.specs.Heads.{formula_head, has_changes, has_functions, is_term, list_head, scope_at}
 use Rattle.pddl_syntax.specs.Keywords.{is_change}
+use Rattle.pddl_syntax.specs.Initial.{GivesItem}
 use Rattle.pddl_syntax.specs.Levels.{Levels, levels, or_end, here}
 use Rattle.pddl_syntax.specs.Optional.{followed_by, guard}
-use Rattle.pddl_syntax.specs.Rows.{AreNames, ComesNext, PassesAtom, PassesRow, is_in_word, is_name_head, atom_of_words, atom_spelled, heads_atom, word_trees}
+use Rattle.pddl_syntax.specs.Rows.{AreNames, ComesNext, PassesRow, is_in_word, is_name_head, atom_of_words, atom_spelled, heads_atom, word_trees}
 use Rattle.pddl_syntax.specs.Sizes.{size, sizes, ahead}
-use Rattle.pddl_syntax.specs.Syntax.{InitialForm, initial_atom, are_initial, is_init_item, atom_of, atom_with, init_item_in, initial_in, words_of}
-use Rattle.pddl_syntax.specs.Trees.{Trees, word, list, begins_with_list}
-use Rattle.pddl_syntax.proofs.AtomRows.{first_of_atom_row, name_is_term, names_are_atom_row}
+use Rattle.pddl_syntax.specs.Syntax.{InitialForm, initial_atom, atom_of, atom_with, init_item_in, words_of}
+use Rattle.pddl_syntax.specs.Trees.{word, list, begins_with_list}
 use Rattle.pddl_syntax.proofs.AtomLemmas.{atom_some}
-use Rattle.pddl_syntax.proofs.InitialLemmas.{first_of_list, initial_first, item_atom_some, item_there, next_one}
+use Rattle.pddl_syntax.proofs.InitialLemmas.{item_atom_some}
 use Rattle.pddl_syntax.proofs.LevelLemmas.{some_behind_token}
 
 first_of_parts : (b : ℕ) (bytes : List ℕ) (parts : List (List ℕ)) → parts ≢ [] → take (prefix_len is_in_word bytes) bytes ≡ (atom_of_words parts).predicate → b ∷ take (prefix_len is_in_word bytes) bytes ≡ (atom_of_words (onto_first b parts)).predicate
@@ -97,17 +96,14 @@ passes_next pieces range some next plain =
 pub less_ahead : (row : List ℕ) (old new : Levels) → PassesRow row old new → ahead new < ahead old
 less_ahead row old new passes = omega (arith, ap size passes.0, ap sizes passes.1)
 
--- where words are read, all of them are
-read_whole : (test : List ℕ → Bool) (words : List (List ℕ)) → IsSome (words_of test (word_trees words)) → words_of test (word_trees words) ≡ Some words
-unfolding words_of word_trees guard followed_by
-read_whole test [] some = refl
-read_whole test (w ∷ words) some = by (test w) (words_of test (word_trees words)) (read_whole test words) some
-  where
-    by : (passes : Bool) (read : Option (List (List ℕ))) → (IsSome read → read ≡ Some words) →
-        IsSome (followed_by (guard passes (Some w)) read) → followed_by (guard passes (Some w)) read ≡ Some (w ∷ words)
-    by true None whole some = cc
-    by true (Some others) whole some = cc (whole refl)
-    by false read whole some = cc
+-- a name may be a term anywhere
+name_is_term : (context : Context) (w : List ℕ) → is_name w ≡ true → is_term context w ≡ true
+unfolding is_term
+name_is_term context.Condition w is = rw is refl
+name_is_term context.Goal w is = is
+name_is_term context.Effect w is = rw is refl
+name_is_term context.InnerEffect w is = rw is refl
+name_is_term context.Initial w is = is
 
 names_read : (context : Context) (words : List (List ℕ)) → list_all is_name words ≡ true → words_of (is_term context) (word_trees words) ≡ Some words
 unfolding word_trees words_of guard followed_by
@@ -138,96 +134,41 @@ heads_by : (scope : Scope) (w : List ℕ) (terms : List (List ℕ)) → formula_
 unfolding list_head
 heads_by scope w terms is = rw (no_list_first terms, is, no_change (has_functions scope.dialect && has_changes scope.context) (is_change w)) refl
 
-item_by : (dialect : Dialect) (words : List (List ℕ)) → words ≢ [] → is_name_head (formula_head (atom_of_words words).predicate) ≡ true → list_all is_name words ≡ true → is_init_item dialect (word_trees words) ≡ true
-unfolding word_trees is_init_item
+item_by : (dialect : Dialect) (words : List (List ℕ)) → words ≢ [] → is_name_head (formula_head (atom_of_words words).predicate) ≡ true → list_all is_name words ≡ true →
+    init_item_in dialect (word_trees words) ≡ Some (initial_atom true (atom_of_words words))
+unfolding word_trees
 item_by dialect [] some heads names = absurd (some refl)
 item_by dialect (w ∷ words) some heads names =
     let (_, others) = and_parts (is_name w) (list_all is_name words) names in
     let found = names_read context.Initial words others in
     let head = heads_by (scope_at dialect context.Initial) w words (name_by_head (formula_head w) heads) in
     let atom : atom_of (is_term context.Initial) w (word_trees words) ≡ Some (atom_with w words) = atom_some (is_term context.Initial) w (word_trees words) words found in
-    ap is_some (item_atom_some dialect w (word_trees words) (atom_with w words) head atom)
+    item_atom_some dialect w (word_trees words) (atom_with w words) head atom
 
--- a row of names that heads an atom is an initial atom
-row_is_item : (dialect : Dialect) (row : List ℕ) → heads_atom row ≡ true → AreNames row → is_init_item dialect (word_trees (spaced.words_of row)) ≡ true
+-- a row of names that heads an atom is the initial atom that it spells
+row_is_item : (dialect : Dialect) (row : List ℕ) → heads_atom row ≡ true → AreNames row → init_item_in dialect (word_trees (spaced.words_of row)) ≡ Some (initial_atom true (atom_spelled row))
 unfolding heads_atom atom_spelled
 row_is_item dialect row heads names = item_by dialect (spaced.words_of row) (row_has_words row) heads names
 
-some_mapped : {A B : Type 0} (f : A → B) (read : Option A) → IsSome (option_map f read) → IsSome read
-some_mapped f None some = cc
-some_mapped f (Some x) some = refl
+first_named : (words : List (List ℕ)) → words ≢ [] → list_all is_name words ≡ true → is_name (atom_of_words words).predicate ≡ true
+first_named [] some names = absurd (some refl)
+first_named (w ∷ words) some names = (and_parts (is_name w) (list_all is_name words) names).0
 
--- an initial atom of words whose first word heads an atom has that atom, if the others may be its terms
-item_read : (dialect : Dialect) (w : List ℕ) (terms : List (List ℕ)) → formula_head w ≡ formula.Name → init_item_in dialect (word w (word_trees terms)) ≡
-    option_map (initial_atom true) (option_map (atom_with w) (words_of (is_term context.Initial) (word_trees terms)))
-unfolding init_item_in atom_of
-item_read dialect w terms is = rw (heads_by (scope_at dialect context.Initial) w terms is) refl
+-- the first word of a row of names is a name
+first_is_name : (row : List ℕ) → AreNames row → is_name (atom_spelled row).predicate ≡ true
+unfolding atom_spelled
+first_is_name row names = first_named (spaced.words_of row) (row_has_words row) names
 
-words_spell : (dialect : Dialect) (words : List (List ℕ)) → words ≢ [] → is_name_head (formula_head (atom_of_words words).predicate) ≡ true →
-    IsSome (init_item_in dialect (word_trees words)) → init_item_in dialect (word_trees words) ≡ Some (initial_atom true (atom_of_words words))
-unfolding word_trees
-words_spell dialect [] some heads there = absurd (some refl)
-words_spell dialect (w ∷ terms) some heads there =
-    let read = words_of (is_term context.Initial) (word_trees terms) in
-    let is = item_read dialect w terms (name_by_head (formula_head w) heads) in
-    let atom : IsSome (option_map (initial_atom true) (option_map (atom_with w) read)) = subst IsSome is there in
-    let whole : read ≡ Some terms = read_whole (is_term context.Initial) terms (some_mapped (atom_with w) read (some_mapped (initial_atom true) _ atom)) in
-    is ∙ ap (λ (found : Option (List (List ℕ))). option_map (initial_atom true) (option_map (atom_with w) found)) whole
+-- a row of names that a walk steps over is an item, where the first of them is found to head an atom
+pub row_given : {T : Type 0} (given : T → InitialForm → T) (row : List ℕ) (old new : Levels) (before after : T) (heads : Bool) → PassesRow row old new → AreNames row →
+    (is_name (atom_spelled row).predicate ≡ true → heads ≡ heads_atom row) → heads ≡ true → after ≡ given before (initial_atom true (atom_spelled row)) → GivesItem given old new before after
+row_given given row old new before after heads passes names is found taken = (
+  word_trees (spaced.words_of row),
+  initial_atom true (atom_spelled row),
+  passes.0,
+  λ dialect. row_is_item dialect row (sym (is (first_is_name row names)) ∙ found) names,
+  passes.1,
+  taken,
+)
 
--- a row that heads an atom spells it, if it is an initial atom
-row_spells : (dialect : Dialect) (row : List ℕ) → heads_atom row ≡ true → IsSome (init_item_in dialect (word_trees (spaced.words_of row))) →
-    init_item_in dialect (word_trees (spaced.words_of row)) ≡ Some (initial_atom true (atom_spelled row))
-unfolding heads_atom atom_spelled
-row_spells dialect row heads there = words_spell dialect (spaced.words_of row) (row_has_words row) heads there
-
--- what is left after a row is what is left before it, but for the atom that the row spells
-row_left : (dialect : Dialect) (row : List ℕ) (old new : Levels) → heads_atom row ≡ true → PassesRow row old new → IsSome (initial_in dialect old.top) →
-    initial_in dialect old.top ≡ followed_by (Some (initial_atom true (atom_spelled row))) (initial_in dialect new.top)
-row_left dialect row old new heads passes some =
-    let k = word_trees (spaced.words_of row) in
-    let there : IsSome (initial_in dialect (list k new.top)) = subst (λ (f : Trees). IsSome (initial_in dialect f)) passes.0 some in
-    let item = row_spells dialect row heads (item_there dialect k new.top there) in
-    ap (initial_in dialect) passes.0 ∙ first_of_list dialect k new.top ∙ ap (λ (item : Option InitialForm). followed_by item (initial_in dialect new.top)) item
-
-left_after : (i : InitialForm) (old new : Option (List InitialForm)) → old ≡ followed_by (Some i) new → IsSome old → IsSome new
-unfolding followed_by
-left_after i old None is some = cc
-left_after i old (Some is) same some = refl
-
--- there are initial atoms after a row
-pub row_goes_on : (dialect : Dialect) (row : List ℕ) (old new : Levels) → heads_atom row ≡ true → PassesRow row old new → IsSome (initial_in dialect old.top) → IsSome (initial_in dialect new.top)
-row_goes_on dialect row old new heads passes some =
-    left_after _ (initial_in dialect old.top) _ (row_left dialect row old new heads passes some) some
-
--- a row is the first of the initial atoms
-pub row_first : (dialect : Dialect) (row : List ℕ) (old new : Levels) → heads_atom row ≡ true → PassesRow row old new → IsSome (initial_in dialect old.top) →
-    unwrap_or (initial_in dialect old.top) [] ≡ initial_atom true (atom_spelled row) ∷ unwrap_or (initial_in dialect new.top) []
-row_first dialect row old new heads passes some =
-    next_one _ (initial_in dialect old.top) _ some (row_left dialect row old new heads passes some)
-
--- a row of names is an initial atom in every dialect
-pub passes_atom : (row : List ℕ) (old new : Levels) → heads_atom row ≡ true → AreNames row → PassesRow row old new → PassesAtom old new
-passes_atom row old new heads names passes = record {
-  inside = word_trees (spaced.words_of row);
-  first = passes.0;
-  atom = λ dialect. row_is_item dialect row heads names;
-  below = passes.1;
-}
-
--- where the first of them is found to head an atom
-pub names_passed : (row : List ℕ) (old new : Levels) (heads : Bool) → PassesRow row old new → list_all is_name (spaced.words_of row) ≡ true →
-    (is_name (atom_spelled row).predicate ≡ true → heads ≡ heads_atom row) → heads ≡ true → PassesAtom old new
-names_passed row old new heads passes names is found = passes_atom row old new (sym (is (first_of_atom_row row (names_are_atom_row row names))) ∙ found) names passes
-
-pub ruleset row_steps = (names_passed, names_are_plain)
-
-pub atom_passed : (dialect : Dialect) (old new : Levels) → PassesAtom old new → are_initial dialect old.top ≡ are_initial dialect new.top
-atom_passed dialect old new passes = ap (are_initial dialect) passes.first ∙ initial_first dialect passes.inside new.top (passes.atom dialect)
-
-pub smaller_after : (old new : Levels) → PassesAtom old new → size new.top < size old.top
-smaller_after old new passes = omega (arith, ap size passes.first)
-
-pub below_passed : (old new : Levels) → PassesAtom old new → new.below ≡ old.below
-below_passed old new passes = passes.below
-
-pub ruleset atom_steps = (atom_passed, smaller_after, below_passed)
+pub ruleset row_steps = (names_are_plain)

@@ -1,21 +1,50 @@
--- The initial atoms and values that are left, from a point among them.
+-- The initial atoms and values, given one by one to what takes them.
 
-use Rattle.std.specs.Prelude.{◌≡◌, List, [], ◌∷◌, Option, Some, None, Result, Ok, Err}
-use Rattle.pddl_syntax.specs.declared.fault.ReadFault.{ReadFault}
-use Rattle.pddl_syntax.specs.declared.syntax.InitialSyntax.{InitialSyntax}
-use Rattle.pddl_syntax.specs.ReadFault.{out_of_memory}
-use Rattle.pddl_syntax.specs.Optional.{followed_by}
-use Rattle.pddl_syntax.specs.Forms.{initial_form}
-use Rattle.pddl_syntax.specs.Syntax.{InitialForm}
+use Rattle.std.specs.Prelude.{◌≡◌, ◌⊎◌, List, [], ◌∷◌, Option, Some, None}
+use Rattle.std.specs.Option.{option_map}
+use Rattle.pddl_syntax.specs.declared.dialect.Dialect.{Dialect}
+use Rattle.pddl_syntax.specs.Levels.{Levels}
+use Rattle.pddl_syntax.specs.Syntax.{InitialForm, NameGroup, ProblemForm, ProblemSections, init_item_in, initial_in}
+use Rattle.pddl_syntax.specs.Trees.{Trees, list}
 
--- the next of the initial atoms and values that are left is read, or there is none, or memory ran out and no more are read
-abbrev pub ReadsNext : Result (Option InitialSyntax) ReadFault → Option (List InitialForm) → Option (List InitialForm) → Type 0
-ReadsNext (Ok (Some i)) old new = old ≡ followed_by (Some (initial_form i)) new
-ReadsNext (Ok None) old new = (old ≡ Some []) × (new ≡ Some [])
-ReadsNext (Err e) old new = (e ≡ out_of_memory) × (new ≡ Some [])
+-- a taker with all of these items
+abbrev pub given_all : {T : Type 0} → (T → InitialForm → T) → T → List InitialForm → T
+given_all given taker [] = taker
+given_all given taker (item ∷ items) = given_all given (given taker item) items
 
--- as `ReadsNext`, if it is known that there are initial atoms and values
-abbrev pub TakesNext : Result (Option InitialSyntax) ReadFault → List InitialForm → List InitialForm → Type 0
-TakesNext (Ok (Some i)) old new = old ≡ initial_form i ∷ new
-TakesNext (Ok None) old new = (old ≡ []) × (new ≡ [])
-TakesNext (Err e) old new = (e ≡ out_of_memory) × (new ≡ [])
+-- a taker with the initial atoms and values in what is left of their list
+unfoldable pub given_in : {T : Type 0} → (T → InitialForm → T) → Dialect → T → Trees → Option T
+given_in given dialect taker trees = option_map (given_all given taker) (initial_in dialect trees)
+
+-- the walk steps over an item, which is given to a taker
+abbrev pub GivesItem : {T : Type 0} → (T → InitialForm → T) → Levels → Levels → T → T → Type 0
+GivesItem given old new before after =
+    (inside : Trees)
+    × (item : InitialForm)
+    × (old.top ≡ list inside new.top)
+    × ((dialect : Dialect) → init_item_in dialect inside ≡ Some item)
+    × (new.below ≡ old.below)
+    × (after ≡ given before item)
+
+-- a taker is as it was, or else it has begun with the objects, and has been given all items
+abbrev pub HasTaken : {T : Type 0} → (T → List NameGroup → T) → (T → InitialForm → T) → T → T → Option (List NameGroup) → Option (List InitialForm) → Type 0
+HasTaken begun given before after objects init =
+    (after ≡ before)
+    ⊎ ((groups : List NameGroup) × (items : List InitialForm) × (objects ≡ Some groups) × (init ≡ Some items) × (after ≡ given_all given (begun before groups) items))
+
+-- the same of a whole problem
+abbrev pub HasTakenAll : {T : Type 0} → (T → List NameGroup → T) → (T → InitialForm → T) → T → T → ProblemForm → Type 0
+HasTakenAll begun given before after problem = (after ≡ before) ⊎ (after ≡ given_all given (begun before problem.objects) problem.init)
+
+-- the objects and the items that were given still are
+abbrev pub KeepsGiven : ProblemSections → ProblemSections → Type 0
+KeepsGiven old new =
+    ((groups : List NameGroup) → old.objects ≡ Some groups → new.objects ≡ Some groups)
+    × ((items : List InitialForm) → old.init ≡ Some items → new.init ≡ Some items)
+
+-- what a section does to a taker: nothing, unless it is the one of the items, and the objects are given already
+abbrev pub TakesSection : {T : Type 0} → (T → List NameGroup → T) → (T → InitialForm → T) → ProblemSections → ProblemSections → T → T → Type 0
+TakesSection begun given old new before after =
+    KeepsGiven old new
+    × ((after ≡ before)
+    ⊎ ((groups : List NameGroup) × (items : List InitialForm) × (old.init ≡ None) × (old.objects ≡ Some groups) × (new.init ≡ Some items) × (after ≡ given_all given (begun before groups) items)))

@@ -385,14 +385,6 @@ init_item_in dialect (list inside others) = None
 unfoldable pub initial_in : Dialect → Trees → Option (List InitialForm)
 initial_in dialect trees = lists_of (init_item_in dialect) trees
 
--- whether there is an initial atom or value
-unfoldable pub is_init_item : Dialect → Trees → Bool
-is_init_item dialect trees = is_some (init_item_in dialect trees)
-
--- whether there are initial atoms and values
-unfoldable pub are_initial : Dialect → Trees → Bool
-are_initial dialect trees = is_some (initial_in dialect trees)
-
 -- a formula with `not` before it: that is the sign of an atom or an equality, and negates any other formula
 abbrev pub opposite : FormulaForm → FormulaForm
 opposite (atom_formula true atom) = atom_formula false atom

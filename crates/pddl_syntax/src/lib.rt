@@ -4,7 +4,7 @@
 //! ```text
 //! check_text(text)?;                                    // bad bytes and wrong parentheses, in one pass that takes no memory
 //! let domain = domain_text(alloc, dialect, text)?;      // a DomainSyntax, or the first fault of the grammar
-//! let problem = problem_text(alloc, dialect, text)?;    // a ProblemSyntax
+//! let problem = problem_text(alloc, dialect, text, &mut Passed)?;    // a ProblemSyntax
 //! ```
 //!
 //! Call [`check_text`] first: the two readers take only texts that it accepts. They work by recursive descent, at most as deep as it lets lists
@@ -24,7 +24,7 @@ pub use dialect::Dialect;
 pub use fault::{FaultKind, ReadFault};
 pub use heads::is_variable;
 pub use syntax::domain::domain_text;
-pub use syntax::initial::{AtomRow, InitialItems};
+pub use syntax::initial::{InitialItems, InitialTaker, Passed};
 pub use syntax::problem::problem_text;
 pub use syntax::trees::{EffectNode, EffectSyntax, FormulaNode, FormulaSyntax};
 pub use syntax::variables::VariableList;

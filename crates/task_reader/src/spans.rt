@@ -6,8 +6,8 @@ ghost use Rattle.pddl_syntax.specs.Trees.{text_fault};
 
 use pddl_reader::{Dialect, FaultKind, ReadFault};
 use pddl_syntax::{
-    ActionParts, EffectNode, EffectSyntax, FormulaNode, FormulaSyntax, VariableGroup, domain_text,
-    problem_text,
+    ActionParts, EffectNode, EffectSyntax, FormulaNode, FormulaSyntax, Passed, VariableGroup,
+    domain_text, problem_text,
 };
 use pddl_tokens::Span;
 use std::alloc::Global;
@@ -42,7 +42,7 @@ pub(crate) fn goal_fault(
     requires { text_fault problem.now ≡ None }
     ensures { result.kind ≢ FaultKind.OutOfMemory → result.kind ≡ FaultKind.TooMany }
 {
-    match problem_text(alloc, dialect, problem) {
+    match problem_text(alloc, dialect, problem, &mut Passed) {
         Ok(syntax) => fault_at(in_formula(&syntax.goal, variable)),
         Err(_) => ReadFault::at(FaultKind::OutOfMemory, 0, 0),
     }

@@ -80,6 +80,11 @@ impl Domain {
         &head.types
     }
 
+    /// The seed that its tables hash with.
+    pub(crate) fn seed(&self) -> Seed {
+        self.head.objects.seed()
+    }
+
     /// What the initial atoms, the values and the goal of a problem may name.
     pub(crate) fn vocabulary(&self) -> Vocabulary<'_>
         ensures known { vocabulary_form result ≡ vocabulary_in self.now }

@@ -5,7 +5,7 @@ ghost use Rattle.pddl_syntax.specs.Forms.{variable_groups};
 ghost use Rattle.pddl_syntax.specs.Reading.{GivesAgain};
 ghost use Rattle.pddl_reader.specs.Parts.{part_items};
 
-use pddl_syntax::{InitialItems, ReadFault, VariableGroup, VariableList};
+use pddl_syntax::{ReadFault, VariableGroup, VariableList};
 use std::alloc::Global;
 
 /// What a part or a section holds, which is nothing if it is not given.
@@ -16,16 +16,6 @@ pub(crate) fn part_items<T>(part: &Option<Vec<T>>) -> &[T]
     match part {
         Some(found) => found.as_slice(),
         None => &[],
-    }
-}
-
-/// The initial atoms and values of a problem, none if they are not given.
-pub(crate) fn part_initial<'a>(part: &Option<InitialItems<'a>>) -> InitialItems<'a>
-    ensures { result ≡ unwrap_or part.now [] }
-{
-    match part {
-        Some(found) => found.again(),
-        None => InitialItems::none(),
     }
 }
 

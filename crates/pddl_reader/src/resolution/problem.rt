@@ -2,28 +2,28 @@
 
 ghost use Rattle.std.specs.Prelude.{◌≤◌, ◌≡◌, length, IfOk, Some};
 ghost use Rattle.pddl_syntax.specs.Forms.{problem_syntax_form};
-ghost use Rattle.pddl_reader.specs.Problem.{problem_of, problem_within};
+ghost use Rattle.pddl_reader.specs.Problem.{initial_of, problem_within, vocabulary_in};
 ghost use Rattle.pddl_syntax.specs.Reading.{Gives};
 ghost use Rattle.strips_task.specs.WellFormed.{IsWellFormed, most_predicates};
 ghost use Rattle.pddl_reader.specs.Assembled.{costed_assembled, task_assembled};
 
 use crate::resolution::actions::ActionTables;
 use crate::resolution::conditions::conditions;
-use crate::resolution::domain::{Domain, Head, Tables, extended};
+use crate::resolution::domain::{Domain, Head, Tables};
 use crate::resolution::functions::costs;
-use crate::resolution::initial::{InitialState, initial};
+use crate::resolution::initial::InitialState;
 use crate::resolution::names::name;
-use crate::resolution::parts::{part_initial, part_items};
 use crate::resolution::scope::Scope;
 use pddl_syntax::{ProblemSyntax, ReadFault};
 use std::alloc::Global;
-use strips_task::{CostedTask, Formula, Name, Seq, Task, TaskParts};
+use strips_task::{CostedTask, Formula, FunctionValues, InitialAtoms, Name, Seq, Task, TaskParts};
 
-/// What a problem gives besides its objects: its name, the initial state and the goal.
+/// What a problem gives besides its objects: its name, the initial atoms, the values of functions and the goal.
 #[derive(Drop)]
 struct Given {
     problem: Name,
-    init: InitialState,
+    atoms: InitialAtoms,
+    values: FunctionValues,
     goal: Seq<Formula>,
 }
 
@@ -48,10 +48,10 @@ fn assemble(domain: Domain, given: Given) -> CostedTask
     let ActionTables { actions, increases } = actions;
     let Given {
         problem,
-        init,
+        atoms,
+        values,
         goal,
     } = given;
-    let InitialState { atoms, values } = init;
     let task = Task::make(TaskParts {
         domain: name,
         problem,
@@ -69,42 +69,45 @@ fn assemble(domain: Domain, given: Given) -> CostedTask
     }
 }
 
-/// What the syntax of a problem of `size` bytes stands for, given its domain.
+/// What the syntax of a problem stands for, given its domain and what is given initially.
 #[tactic(auto, using(crate::proofs::ProblemMeaning::problem_steps))]
 fn resolve_given(
     alloc: Global,
     domain: &Domain,
     syntax: &ProblemSyntax<'_>,
-    size: usize,
+    initial: InitialState,
 ) -> Result<Given, ReadFault>
+    requires { initial_of (vocabulary_in domain.now) (problem_syntax_form syntax.now).init ≡ Some initial }
     ensures meaning { Gives (costed_assembled domain.now) result (problem_within (problem_syntax_form syntax.now) (Some domain.now)) }
     ensures well_formed { IfOk result (λ given. IsWellFormed (task_assembled domain.now given)) }
     ensures few_functions { length domain.now.functions ≤ most_predicates }
 {
     let vocabulary = domain.vocabulary();
-    let init = initial(alloc, &vocabulary, part_initial(&syntax.init), size)?;
     let mut scope = Scope::none(alloc);
     let types = domain.types();
     let goal = conditions(alloc, types, &vocabulary.atoms, &mut scope, &syntax.goal)?;
     let problem = name(alloc, syntax.name)?;
+    let InitialState { atoms, values } = initial;
+    let atoms = atoms.finish()?;
     Ok(Given {
         problem,
-        init,
+        atoms,
+        values,
         goal,
     })
 }
 
-/// The task that a domain and the syntax of a problem of `size` bytes stand for. If the problem is refused, the domain is dropped.
-#[tactic(auto, using(crate::proofs::ProblemMeaning::extended_steps))]
+/// The task that the syntax of a problem stands for, given its domain with its objects, and what is given initially. If the problem is refused, the domain is
+/// dropped.
 pub(crate) fn resolve_problem(
     alloc: Global,
     domain: Domain,
+    initial: InitialState,
     syntax: &ProblemSyntax<'_>,
-    size: usize,
 ) -> Result<CostedTask, ReadFault>
-    ensures { Gives (λ task. task) result (problem_of domain (problem_syntax_form syntax.now)) }
+    requires { initial_of (vocabulary_in domain) (problem_syntax_form syntax.now).init ≡ Some initial }
+    ensures { Gives (λ task. task) result (problem_within (problem_syntax_form syntax.now) (Some domain)) }
 {
-    let domain = extended(alloc, domain, part_items(&syntax.objects))?;
-    let given = resolve_given(alloc, &domain, syntax, size)?;
+    let given = resolve_given(alloc, &domain, syntax, initial)?;
     Ok(assemble(domain, given))
 }

@@ -3,7 +3,7 @@
 //! Nearly all of them are, and a problem may have hundreds of thousands. They are not read word by word: the names of such a row are looked
 //! up as they are written, and a word that is found is a name. Any other is read as its syntax, and so is one with a fault.
 
-ghost use Rattle.std.specs.Prelude.{◌≡◌, ◌++◌, [], ◌∷◌, ◌&&◌, nat_eq, length, map, true, false, All, IfNone, IfOk, IfSome, IsTrue, List, OnOk, Some, ℕ};
+ghost use Rattle.std.specs.Prelude.{◌≡◌, ◌++◌, [], ◌∷◌, ◌&&◌, nat_eq, length, map, true, false, All, IfOk, IfSome, IsTrue, List, OnOk, Some, ℕ};
 ghost use Rattle.std.specs.List.{list_all, zip};
 ghost use Rattle.pddl_words.specs.SpacedWords.{words_of};
 ghost use Rattle.pddl_words.specs.Words.{is_name};
@@ -13,15 +13,16 @@ ghost use Rattle.strips_task.specs.WellFormed.{is_fitting, term_types};
 ghost use Rattle.pddl_syntax.specs.Rows.{AreNames, atom_spelled};
 ghost use Rattle.pddl_reader.specs.Declarations.{ground_of};
 ghost use Rattle.pddl_reader.specs.Resolved.{known_form};
-ghost use Rattle.pddl_reader.specs.Rows.{BeginWithAtoms, row_number, row_numbers};
+ghost use Rattle.pddl_reader.specs.Problem.{with_atom};
+ghost use Rattle.pddl_reader.specs.Rows.{row_number, row_numbers};
 
 use crate::resolution::tables::Declared;
-use pddl_syntax::InitialItems;
 use pddl_words::RowWords;
 use std::alloc::{AllocError, Global};
-use strips_task::{Alternatives, Atom, AtomKey, InitialAtoms, ShortSeq, object_fits};
+use std::marker::Model;
+use strips_task::{Alternatives, Atom, AtomKey, InitialAtoms, Seed, object_fits};
 
-/// How many rows are read before their atoms are added.
+/// How many rows are looked up before their atoms are added.
 const BATCH: usize = 32;
 
 /// Into how many parts the atoms that are expected are divided, and each part again.
@@ -148,99 +149,10 @@ fn row_key(
     Ok(AtomKey::with(pred, objects))
 }
 
-/// The atom that a row stands for, if its words are known names as they are written and its objects fit. The last argument is room for numbers.
-fn row_atom(
-    alloc: Global,
-    known: &Declared<'_>,
-    row: &[u8],
-    numbers: &mut Vec<u16>,
-) -> Result<Option<Atom>, AllocError>
-    ensures names { IfOk result (λ found. IfSome found (λ _. AreNames row.now)) }
-    ensures atom { IfOk result (λ found. IfSome found (λ atom. ground_of (known_form known.now) (atom_spelled row.now) ≡ Some atom)) }
-{
-    if !find_numbers(known, row, numbers)? {
-        return Ok(None);
-    }
-    let Some((pred, objects)) = fitting(known, numbers.as_slice()) else {
-        return Ok(None);
-    };
-    Ok(Some(Atom {
-        pred,
-        args: ShortSeq::from_slice(alloc, objects)?,
-    }))
-}
-
-/// The atom that the next item stands for, if it is written as a row and has no fault. Otherwise no item is passed.
-#[tactic(auto, using(pddl_syntax::proofs::AtomRows::names_are_atom_row))]
-pub(crate) fn next_atom(
-    alloc: Global,
-    known: &Declared<'_>,
-    items: &mut InitialItems<'_>,
-    numbers: &mut Vec<u16>,
-) -> Result<Option<Atom>, AllocError>
-    ensures taken { IfOk result (λ found. IfSome found (λ atom. BeginWithAtoms (known_form known.now) items.old (atom ∷ []) items.new)) }
-    ensures not { IfOk result (λ found. IfNone found (items.new ≡ items.old)) }
-{
-    let Some(row) = items.row() else {
-        return Ok(None);
-    };
-    let Some(atom) = row_atom(alloc, known, row.bytes(), numbers)? else {
-        return Ok(None);
-    };
-    items.pass(row);
-    Ok(Some(atom))
-}
-
-/// The key of the atom that the next item stands for, if it is written as a row, has no fault and at most four objects. Otherwise no item is passed.
-#[tactic(auto, using(pddl_syntax::proofs::AtomRows::names_are_atom_row))]
-#[inline(always)]
-fn next_key(
-    known: &Declared<'_>,
-    items: &mut InitialItems<'_>,
-    numbers: &mut Vec<u16>,
-) -> Result<Option<AtomKey>, AllocError>
-    ensures taken { IfOk result (λ found. IfSome found (λ key. BeginWithAtoms (known_form known.now) items.old (atom_of key ∷ []) items.new)) }
-    ensures key { IfOk result (λ found. IfSome found (λ key. IsKeyOf (atom_of key) key)) }
-    ensures not { IfOk result (λ found. IfNone found (items.new ≡ items.old)) }
-{
-    let Some(row) = items.row() else {
-        return Ok(None);
-    };
-    let Some(key) = row_key(known, row.bytes(), numbers)? else {
-        return Ok(None);
-    };
-    items.pass(row);
-    Ok(Some(key))
-}
-
-/// The keys of the atoms that the next items stand for, as long as these are written as rows, have no fault and at most four objects, up to a batch.
-pub(crate) fn next_keys(
-    alloc: Global,
-    known: &Declared<'_>,
-    items: &mut InitialItems<'_>,
-    numbers: &mut Vec<u16>,
-) -> Result<Vec<AtomKey>, AllocError>
-    ensures atoms { IfOk result (λ keys. BeginWithAtoms (known_form known.now) items.old (map atom_of keys.items) items.new) }
-    ensures keys { IfOk result (λ keys. All (λ key. IsKeyOf (atom_of key) key) keys.items) }
-{
-    let mut keys = Vec::with_capacity(alloc, BATCH)?;
-    'rows: for _ in 0..BATCH {
-        match next_key(known, items, numbers)? {
-            Some(key) => keys.push(key)?,
-            None => return Ok(keys),
-        }
-    }
-    Ok(keys)
-}
-
 /// Adds the atoms of keys to a list. First it asks how many are surely new, one right after the other, so that the processor waits for several reads of the
 /// table at once. Atoms that are pushed right afterwards find their part of the table in the cache. The text has room for about `expected` atoms in
 /// all, on which no answer depends.
-pub(crate) fn put_keys(
-    list: &mut InitialAtoms,
-    keys: &[AtomKey],
-    expected: usize,
-) -> Result<(), AllocError>
+fn put_keys(list: &mut InitialAtoms, keys: &[AtomKey], expected: usize) -> Result<(), AllocError>
     requires { All (λ key. IsKeyOf (atom_of key) key) keys.now }
     ensures { OnOk result (list.new ≡ list.old ++ map atom_of keys.now) }
 {
@@ -249,6 +161,22 @@ pub(crate) fn put_keys(
     for key in keys {
         list.push_packed(*key)?;
     }
+    Ok(())
+}
+
+/// Adds the atoms of keys to a list, after which there are no keys.
+fn add_keys(
+    list: &mut InitialAtoms,
+    keys: &mut Vec<AtomKey>,
+    expected: usize,
+) -> Result<(), AllocError>
+    requires { All (λ key. IsKeyOf (atom_of key) key) keys.old.items }
+    ensures list { OnOk result (list.new ≡ list.old ++ map atom_of keys.old.items) }
+    ensures keys { OnOk result (keys.new.items ≡ []) }
+    ensures kept { All (λ key. IsKeyOf (atom_of key) key) keys.new.items }
+{
+    put_keys(list, keys.as_slice(), expected)?;
+    keys.clear();
     Ok(())
 }
 
@@ -266,4 +194,94 @@ fn room_for(distinct: usize, new: usize, expected: usize) -> usize {
         expected
     };
     new.max(wanted.saturating_sub(distinct))
+}
+
+/// Initial atoms, in the order of the text. Those of the last rows are only kept as keys, since many are added to the list at once. Contracts see all of
+/// them.
+#[derive(Drop)]
+pub(crate) struct AtomsOfRows {
+    list: InitialAtoms,
+    keys: Vec<AtomKey>,
+    /// Room for the numbers of a row.
+    numbers: Vec<u16>,
+    /// For how many atoms the text has room. No answer depends on it.
+    expected: usize,
+}
+
+impl Model for AtomsOfRows {
+    ghost use Rattle.std.specs.Prelude.{◌++◌, All, List, map};
+    ghost use Rattle.formulas.specs.declared.atoms.Atom.{Atom};
+    ghost use Rattle.strips_task.specs.AtomKeys.{IsKeyOf, atom_of};
+
+    ghost Value = { List Atom };
+
+    ghost view = { λ r. r.list ++ map atom_of r.keys.items };
+
+    ghost invariant = { λ r. All (λ key. IsKeyOf (atom_of key) key) r.keys.items };
+}
+
+impl AtomsOfRows {
+    /// No atoms, of a text that has room for about `expected`. The list hashes with the seed.
+    pub(crate) fn new(alloc: Global, seed: Seed, expected: usize) -> Self
+        ensures { result ≡ [] }
+    {
+        AtomsOfRows {
+            list: InitialAtoms::new(alloc, seed),
+            keys: Vec::new(alloc),
+            numbers: Vec::new(alloc),
+            expected,
+        }
+    }
+
+    /// Adds the atom that a row stands for, if its words are known names as they are written, and its objects fit and are at most four. Returns whether
+    /// it did.
+    #[tactic(auto, using(crate::proofs::InitialLemmas::atom_steps))]
+    #[inline(always)]
+    pub(crate) fn push_row(&mut self, known: &Declared<'_>, row: &[u8]) -> Result<bool, AllocError>
+        ensures names { IfOk result (λ is_added. IsTrue is_added → AreNames row.now) }
+        ensures added { IfOk result (λ is_added. IsTrue is_added → with_atom self.old true (ground_of (known_form known.now) (atom_spelled row.now)) ≡ Some self.new) }
+        ensures left { IfOk result (λ is_added. is_added ≡ false → self.new ≡ self.old) }
+    {
+        let Some(key) = row_key(known, row, &mut self.numbers)? else {
+            return Ok(false);
+        };
+        self.push_key(key)?;
+        Ok(true)
+    }
+
+    /// Adds the atom of a key.
+    #[inline(always)]
+    fn push_key(&mut self, key: AtomKey) -> Result<(), AllocError>
+        requires { IsKeyOf (atom_of key) key }
+        ensures { OnOk result (self.new ≡ self.old ++ atom_of key ∷ []) }
+    {
+        if self.keys.len() == BATCH {
+            add_keys(&mut self.list, &mut self.keys, self.expected)?;
+        }
+        self.keys.push(key)?;
+        Ok(())
+    }
+
+    /// Adds an atom.
+    pub(crate) fn push(&mut self, atom: Atom) -> Result<(), AllocError>
+        ensures { OnOk result (self.new ≡ self.old ++ atom ∷ []) }
+    {
+        add_keys(&mut self.list, &mut self.keys, self.expected)?;
+        self.list.push(atom)?;
+        Ok(())
+    }
+
+    /// The list of all.
+    pub(crate) fn finish(mut self) -> Result<InitialAtoms, AllocError>
+        ensures { IfOk result (λ list. list ≡ self) }
+    {
+        add_keys(&mut self.list, &mut self.keys, self.expected)?;
+        let AtomsOfRows {
+            list,
+            keys: _,
+            numbers: _,
+            expected: _,
+        } = self;
+        Ok(list)
+    }
 }

@@ -1,17 +1,13 @@
 //! Atoms, functions and equalities.
 
-ghost use Rattle.std.specs.Prelude.{◌≡◌, false, IsTrue};
 ghost use Rattle.pddl_syntax.specs.Levels.{here};
 ghost use Rattle.pddl_syntax.specs.Reading.{ReadsList, TakesWord};
 ghost use Rattle.pddl_syntax.specs.Heads.{is_term};
-ghost use Rattle.pddl_syntax.specs.Rows.{PassesAtom};
 ghost use Rattle.pddl_syntax.specs.Forms.{atom_form, equality_form, word_forms};
 ghost use Rattle.pddl_syntax.specs.Syntax.{atom_of, equality_of, function_in, negated_atom_in, negated_atom_of, words_of};
 
 use crate::fault::{FaultKind, ReadFault};
-use crate::heads::{
-    Context, FormulaHead, ListHead, Scope, formula_head, heads_atom, is_term, list_head,
-};
+use crate::heads::{Context, FormulaHead, ListHead, Scope, formula_head, is_term, list_head};
 use crate::syntax::lists::{enter_list, leave_list};
 use crate::syntax::refusals::function_fault;
 use crate::syntax::{AtomSyntax, EqualitySyntax, Terms};
@@ -140,22 +136,4 @@ pub(crate) fn negated_atom<'a>(
     let atom = negated_atom_in(alloc, walk, scope)?;
     leave_list(walk)?;
     Ok(atom)
-}
-
-/// Steps over the atom that follows, if it is written as names with a single space between each two, of which the first is not reserved. Returns
-/// whether it is.
-#[tactic(auto, using(crate::proofs::RowLemmas::row_steps))]
-#[inline(always)]
-pub(crate) fn pass_row(walk: &mut Walk<'_>) -> bool
-    ensures passed { IsTrue result → PassesAtom (here walk.old.cursor) (here walk.new.cursor) }
-    ensures other { result ≡ false → here walk.new.cursor ≡ here walk.old.cursor }
-{
-    let Some(range) = walk.next_range() else {
-        return false;
-    };
-    if !range.are_names() || !heads_atom(range.key) {
-        return false;
-    }
-    walk.pass(range);
-    true
 }

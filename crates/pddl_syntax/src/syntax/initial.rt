@@ -1,25 +1,74 @@
-//! The initial atoms and the values of functions. Only where they begin is kept, once all of them have been read, and they are read again one by one.
+//! The initial atoms and the values of functions. They are not kept, but given to a taker while they are read. If the objects that they name come behind
+//! them in the text, the place where they begin is kept, and they are read once more.
 
-ghost use Rattle.std.specs.Prelude.{◌≡◌, [], ◌∷◌, true, IfSome, IsSome, Some};
+ghost use Rattle.std.specs.Prelude.{◌≡◌, false, true, IfErr, IfOk, IsSome, IsTrue, List, OnOk, Some};
 ghost use Rattle.pddl_syntax.specs.Levels.{here};
-ghost use Rattle.pddl_syntax.specs.Reading.{PassesList, ReadsList};
-ghost use Rattle.pddl_syntax.specs.Forms.{initial_form};
-ghost use Rattle.pddl_syntax.specs.Initial.{ReadsNext, TakesNext};
-ghost use Rattle.pddl_syntax.specs.Syntax.{are_initial, init_item_in, initial_atom, initial_in};
-ghost use Rattle.pddl_syntax.specs.Rows.{atom_spelled, is_atom_row};
+ghost use Rattle.pddl_syntax.specs.Reading.{ReadsInto, ReadsList};
+ghost use Rattle.pddl_syntax.specs.ReadFault.{out_of_memory};
+ghost use Rattle.pddl_syntax.specs.Forms.{initial_form, name_groups};
+ghost use Rattle.pddl_syntax.specs.Initial.{GivesItem, given_all, given_in};
+ghost use Rattle.pddl_syntax.specs.Syntax.{InitialForm, init_item_in, initial_atom, initial_in};
+ghost use Rattle.pddl_syntax.specs.Syntax as syntax;
+ghost use Rattle.pddl_syntax.specs.Rows.{AreNames, atom_spelled};
 
 use crate::dialect::Dialect;
 use crate::fault::{FaultKind, ReadFault};
 use crate::heads::{Context, ListHead, Scope, heads_atom, list_head};
-use crate::syntax::InitialSyntax;
-use crate::syntax::atoms::{atom, negated_atom, pass_row};
+use crate::syntax::atoms::{atom, negated_atom};
 use crate::syntax::costs::value;
+use crate::syntax::{InitialSyntax, NameGroup};
 use crate::walk::{Item, NameWord, Walk};
-use pddl_tokens::ParenRange;
-use std::alloc::Global;
+use pddl_words::are_names;
+use std::alloc::{AllocError, Global};
 use std::marker::Model;
 
-/// The initial atoms and the values of functions that are left, in text order. It takes no memory of its own.
+/// What takes the initial atoms and the values of functions of a problem, one by one, in text order.
+pub trait InitialTaker {
+    // What it is once it has begun with these objects.
+    ghost begun: { Self → List syntax.NameGroup → Self };
+
+    // What it is with one item more.
+    ghost given: { Self → InitialForm → Self };
+
+    /// Begins, with the objects that the problem declares.
+    fn begin(&mut self, alloc: Global, objects: &[NameGroup<'_>]) -> Result<(), AllocError>
+        ensures { OnOk result (self.new ≡ begun self.old (name_groups objects.now)) };
+
+    /// Takes an atom as a row of bytes, if these are names with a single space between each two. It may also leave it, to be read as an item. Returns
+    /// whether it took it.
+    fn take_row(&mut self, row: &[u8]) -> Result<bool, AllocError>
+        ensures names { IfOk result (λ is_taken. IsTrue is_taken → AreNames row.now) }
+        ensures given { IfOk result (λ is_taken. IsTrue is_taken → self.new ≡ given self.old (initial_atom true (atom_spelled row.now))) }
+        ensures left { IfOk result (λ is_taken. is_taken ≡ false → self.new ≡ self.old) };
+
+    /// Takes an item.
+    fn take(&mut self, alloc: Global, item: &InitialSyntax<'_>) -> Result<(), AllocError>
+        ensures { OnOk result (self.new ≡ given self.old (initial_form item.now)) };
+}
+
+/// Takes the items of a problem whose syntax alone is wanted, and keeps nothing.
+#[derive(Drop)]
+pub struct Passed;
+
+impl InitialTaker for Passed {
+    ghost begun = { λ p _. p };
+
+    ghost given = { λ p _. p };
+
+    fn begin(&mut self, _alloc: Global, _objects: &[NameGroup<'_>]) -> Result<(), AllocError> {
+        Ok(())
+    }
+
+    fn take_row(&mut self, row: &[u8]) -> Result<bool, AllocError> {
+        Ok(are_names(row))
+    }
+
+    fn take(&mut self, _alloc: Global, _item: &InitialSyntax<'_>) -> Result<(), AllocError> {
+        Ok(())
+    }
+}
+
+/// The initial atoms and the values of functions, in text order: where they begin. It takes no memory of its own.
 #[derive(Drop)]
 pub struct InitialItems<'a> {
     walk: Walk<'a>,
@@ -41,17 +90,6 @@ impl<'a> Model for InitialItems<'a> {
 }
 
 impl<'a> InitialItems<'a> {
-    /// No initial atoms.
-    #[tactic(auto, using(crate::proofs::InitialLemmas::start_steps))]
-    pub fn none() -> Self
-        ensures { result ≡ [] }
-    {
-        InitialItems {
-            walk: Walk::new(b""),
-            dialect: Dialect::Strips,
-        }
-    }
-
     /// What is left of the list that the walk is in.
     #[tactic(auto, using(crate::proofs::InitialLemmas::start_steps))]
     fn within(walk: Walk<'a>, dialect: Dialect) -> Self
@@ -61,122 +99,14 @@ impl<'a> InitialItems<'a> {
         InitialItems { walk, dialect }
     }
 
-    /// The same once more.
-    pub fn again(&self) -> Self
-        ensures { result ≡ self.now }
+    /// Gives all of them to a taker. The only fault is running out of memory.
+    #[tactic(auto, using(crate::proofs::InitialLemmas::kept_steps))]
+    pub fn give<T: InitialTaker>(&self, alloc: Global, taker: &mut T) -> Result<(), ReadFault>
+        ensures given { OnOk result (taker.new ≡ given_all T.given taker.old self.now) }
+        ensures fault { IfErr result (λ e. e ≡ out_of_memory) }
     {
-        InitialItems {
-            walk: self.walk.fork(),
-            dialect: self.dialect,
-        }
-    }
-
-    /// The next one as a row of bytes, if it may be an atom that is written as words with a single space between each two.
-    #[inline(always)]
-    pub fn row(&self) -> Option<AtomRow<'a>>
-        ensures { IfSome result (λ row. row.before ≡ self.now) }
-    {
-        let range = self.walk.next_range()?;
-        if !heads_atom(range.key) {
-            return None;
-        }
-        Some(AtomRow {
-            walk: self.walk.fork(),
-            dialect: self.dialect,
-            range,
-        })
-    }
-
-    /// Passes the next one, which the words of its row must spell: the first is a name, and each other one a name or a variable.
-    #[inline(always)]
-    pub fn pass(&mut self, row: AtomRow<'a>)
-        requires next { row.before ≡ self.old }
-        requires spelled { is_atom_row row.bytes ≡ true }
-        ensures { self.old ≡ initial_atom true (atom_spelled row.entry.bytes) ∷ self.new }
-    {
-        *self = row.items_after();
-    }
-
-    /// The next one, or `None` if none follows. The only fault is running out of memory, and none follows it.
-    #[tactic(auto, using(crate::proofs::InitialLemmas::next_steps))]
-    pub fn next(&mut self, alloc: Global) -> Result<Option<InitialSyntax<'a>>, ReadFault>
-        ensures { TakesNext result self.old self.new }
-    {
-        next_item(alloc, self.dialect, &mut self.walk)
-    }
-}
-
-/// The bytes between the parentheses of an initial atom, which may be words with a single space between each two.
-///
-/// If the first word is a name, and each other one a name or a variable, the first is the predicate of an atom and the others are its terms.
-#[derive(Drop)]
-pub struct AtomRow<'a> {
-    walk: Walk<'a>,
-    dialect: Dialect,
-    range: ParenRange<'a>,
-}
-
-impl<'a> Model for AtomRow<'a> {
-    ghost use Rattle.std.specs.Prelude.{◌≡◌, [], true, IsSome, unwrap_or};
-    ghost use Rattle.pddl_words.specs.Words.{is_name};
-    ghost use Rattle.pddl_syntax.specs.Levels.{here};
-    ghost use Rattle.pddl_syntax.specs.Syntax.{initial_in};
-    ghost use Rattle.pddl_syntax.specs.Rows.{ComesNext, RowAhead, atom_spelled, heads_atom};
-
-    ghost Value = { RowAhead };
-
-    ghost view = { λ r. record { bytes = r.range.key.now; before = unwrap_or (initial_in r.dialect (here r.walk.cursor).top) [] } };
-
-    ghost invariant = { λ r. IsSome (initial_in r.dialect (here r.walk.cursor).top) × ComesNext r.walk.cursor r.range
-        × (is_name (atom_spelled r.range.key.now).predicate ≡ true → heads_atom r.range.key.now ≡ true) };
-}
-
-impl<'a> AtomRow<'a> {
-    /// The bytes.
-    #[inline(always)]
-    pub fn bytes(&self) -> &'a [u8]
-        ensures { result.now ≡ self.now.bytes }
-    {
-        self.range.key
-    }
-
-    /// What follows it, if its words spell it.
-    #[inline(always)]
-    fn items_after(self) -> InitialItems<'a>
-        requires { is_atom_row self.bytes ≡ true }
-        ensures { self.entry.before ≡ initial_atom true (atom_spelled self.entry.bytes) ∷ result }
-    {
-        let mut walk = self.walk;
-        walk.pass(self.range);
-        InitialItems {
-            walk,
-            dialect: self.dialect,
-        }
-    }
-}
-
-/// Reads the next initial atom or value, which is known to be one if there is a list. After a fault nothing is left.
-#[tactic(auto, using(crate::proofs::InitialLemmas::reading_steps))]
-fn next_item<'a>(
-    alloc: Global,
-    dialect: Dialect,
-    walk: &mut Walk<'a>,
-) -> Result<Option<InitialSyntax<'a>>, ReadFault>
-    requires { IsSome (initial_in dialect (here walk.old.cursor).top) }
-    ensures { ReadsNext result (initial_in dialect (here walk.old.cursor).top) (initial_in dialect (here walk.new.cursor).top) }
-{
-    if !walk.begins_with_list() {
-        return Ok(None);
-    }
-    let Item::Open(_) = walk.next() else {
-        unreachable!()
-    };
-    match item(alloc, dialect, walk) {
-        Ok(item) => Ok(Some(item)),
-        Err(fault) => {
-            *walk = Walk::new(b"");
-            Err(fault)
-        }
+        let mut walk = self.walk.fork();
+        give_items(alloc, self.dialect, &mut walk, taker)
     }
 }
 
@@ -210,35 +140,61 @@ fn item<'a>(
     }
 }
 
-/// Steps over the initial atoms and values.
-#[tactic(auto, using(crate::proofs::InitialLemmas::items_steps, crate::proofs::RowLemmas::atom_steps))]
-fn pass_items(alloc: Global, dialect: Dialect, walk: &mut Walk<'_>) -> Result<(), ReadFault>
-    ensures { PassesList result (are_initial dialect) (here walk.old.cursor) (here walk.new.cursor) }
+/// Gives the next item to a taker as a row of bytes, if it is an atom that is written as names with a single space between each two, and the taker takes
+/// it. Returns whether it did.
+#[tactic(auto, using(crate::proofs::RowLemmas::row_steps))]
+#[inline(always)]
+fn give_row<T: InitialTaker>(walk: &mut Walk<'_>, taker: &mut T) -> Result<bool, AllocError>
+    ensures given { IfOk result (λ is_taken. IsTrue is_taken → GivesItem T.given (here walk.old.cursor) (here walk.new.cursor) taker.old taker.new) }
+    ensures left { IfOk result (λ is_taken. is_taken ≡ false → (here walk.new.cursor ≡ here walk.old.cursor) × (taker.new ≡ taker.old)) }
+{
+    let Some(range) = walk.next_range() else {
+        return Ok(false);
+    };
+    if !heads_atom(range.key) || !taker.take_row(range.key)? {
+        return Ok(false);
+    }
+    walk.pass(range);
+    Ok(true)
+}
+
+/// Reads the initial atoms and values, and gives each to a taker.
+#[tactic(auto, using(crate::proofs::InitialLemmas::items_steps))]
+fn give_items<T: InitialTaker>(
+    alloc: Global,
+    dialect: Dialect,
+    walk: &mut Walk<'_>,
+    taker: &mut T,
+) -> Result<(), ReadFault>
+    ensures { ReadsInto result (given_in T.given dialect taker.old) (here walk.old.cursor) (here walk.new.cursor) taker.new }
 {
     'items: loop {
-        if pass_row(walk) {
+        if give_row(walk, taker)? {
             continue 'items;
         }
         match walk.next() {
             Item::Close(_) => return Ok(()),
             Item::Text(word) => return Err(ReadFault::new(FaultKind::Expected, word.span)),
             Item::Open(_) => {
-                let _item = item(alloc, dialect, walk)?;
+                let item = item(alloc, dialect, walk)?;
+                taker.take(alloc, &item)?;
             }
         }
     }
 }
 
-/// Steps over the initial atoms and values, and keeps where they begin.
+/// Reads the initial atoms and values, gives each to a taker, and keeps where they begin.
 #[tactic(auto, using(crate::proofs::InitialLemmas::kept_steps))]
-pub(crate) fn kept_items<'a>(
+pub(crate) fn given_items<'a, T: InitialTaker>(
     alloc: Global,
     dialect: Dialect,
     walk: &mut Walk<'a>,
+    taker: &mut T,
 ) -> Result<InitialItems<'a>, ReadFault>
-    ensures { ReadsList (λ i. i) result (initial_in dialect) (here walk.old.cursor) (here walk.new.cursor) }
+    ensures items { ReadsList (λ i. i) result (initial_in dialect) (here walk.old.cursor) (here walk.new.cursor) }
+    ensures given { IfOk result (λ items. taker.new ≡ given_all T.given taker.old items) }
 {
     let start = walk.fork();
-    pass_items(alloc, dialect, walk)?;
+    give_items(alloc, dialect, walk, taker)?;
     Ok(InitialItems::within(start, dialect))
 }

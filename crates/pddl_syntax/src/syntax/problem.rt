@@ -1,22 +1,24 @@
 //! Problems: a name, and sections in any order, each at most once; `:domain` and `:goal` must be given.
 
-ghost use Rattle.std.specs.Prelude.{◌≡◌, None};
+ghost use Rattle.std.specs.Prelude.{◌≡◌, false, IfOk, None, OnOk, Some};
+ghost use Rattle.std.specs.Option.{option_map};
 ghost use Rattle.pddl_syntax.specs.Levels.{here, trees};
 ghost use Rattle.pddl_syntax.specs.Trees.{text_fault};
 ghost use Rattle.pddl_syntax.specs.Reading.{Gives, ReadsInto, ReadsList};
-ghost use Rattle.pddl_syntax.specs.Forms.{problem_sections_form, problem_syntax_form};
-ghost use Rattle.pddl_syntax.specs.Syntax.{goal_of, is_problem_section_given, no_problem_sections, problem_in, problem_section_by, problem_section_in, problem_sections_of, problem_syntax};
+ghost use Rattle.pddl_syntax.specs.Initial.{HasTaken, HasTakenAll, TakesSection};
+ghost use Rattle.pddl_syntax.specs.Forms.{name_groups, problem_sections_form, problem_syntax_form};
+ghost use Rattle.pddl_syntax.specs.Syntax.{goal_of, initial_in, is_problem_section_given, no_problem_sections, problem_in, problem_section_by, problem_section_in, problem_sections_of, problem_syntax};
 
 use crate::dialect::Dialect;
 use crate::fault::{FaultKind, ReadFault};
 use crate::heads::{Context, ProblemSection, Scope, problem_section};
 use crate::syntax::formula::lone;
-use crate::syntax::initial::kept_items;
+use crate::syntax::initial::{InitialItems, InitialTaker, Passed, given_items};
 use crate::syntax::lists::{enter_list, expect_word, header, leave_list, lone_name};
 use crate::syntax::refusals::keyword_fault;
 use crate::syntax::trees::FormulaSyntax;
 use crate::syntax::typed::{keywords, skip, typed_names};
-use crate::syntax::{ProblemSections, ProblemSyntax};
+use crate::syntax::{NameGroup, ProblemSections, ProblemSyntax};
 use crate::walk::{Item, Walk};
 use pddl_tokens::Span;
 use std::alloc::Global;
@@ -50,17 +52,40 @@ fn is_given(sections: &ProblemSections<'_>, section: ProblemSection) -> bool
     }
 }
 
+/// Reads the initial atoms and values. If the objects are known, each is given to the taker.
+fn initial<'a, T: InitialTaker>(
+    alloc: Global,
+    dialect: Dialect,
+    walk: &mut Walk<'a>,
+    objects: &Option<Vec<NameGroup<'a>>>,
+    taker: &mut T,
+) -> Result<InitialItems<'a>, ReadFault>
+    ensures items { ReadsList (λ i. i) result (initial_in dialect) (here walk.old.cursor) (here walk.new.cursor) }
+    ensures taken { IfOk result (λ items. HasTaken T.begun T.given taker.old taker.new (option_map (λ v. name_groups v.items) objects.now) (Some items)) }
+{
+    match objects {
+        Some(groups) => {
+            taker.begin(alloc, groups.as_slice())?;
+            given_items(alloc, dialect, walk, taker)
+        }
+        None => given_items(alloc, dialect, walk, &mut Passed),
+    }
+}
+
 /// Reads what a section holds.
 #[tactic(auto, using(crate::proofs::ProblemLemmas::body_steps), unfolding(crate::specs::Forms::problem_sections_form))]
-fn section_body<'a>(
+fn section_body<'a, T: InitialTaker>(
     alloc: Global,
     dialect: Dialect,
     walk: &mut Walk<'a>,
     section: ProblemSection,
     sections: &mut ProblemSections<'a>,
+    taker: &mut T,
 ) -> Result<(), ReadFault>
-    ensures { ReadsInto result (problem_section_by dialect section (problem_sections_form sections.old)) (here walk.old.cursor)
+    requires { is_problem_section_given section (problem_sections_form sections.old) ≡ false }
+    ensures read { ReadsInto result (problem_section_by dialect section (problem_sections_form sections.old)) (here walk.old.cursor)
         (here walk.new.cursor) (problem_sections_form sections.new) }
+    ensures taken { OnOk result (TakesSection T.begun T.given (problem_sections_form sections.old) (problem_sections_form sections.new) taker.old taker.new) }
 {
     match section {
         ProblemSection::Domain => sections.domain = Some(lone_name(walk)?),
@@ -69,7 +94,10 @@ fn section_body<'a>(
             sections.requirements = true;
         }
         ProblemSection::Objects => sections.objects = Some(typed_names(alloc, walk)?),
-        ProblemSection::Init => sections.init = Some(kept_items(alloc, dialect, walk)?),
+        ProblemSection::Init => {
+            let items = initial(alloc, dialect, walk, &sections.objects, taker)?;
+            sections.init = Some(items);
+        }
         ProblemSection::Goal => sections.goal = Some(goal(alloc, dialect, walk)?),
         ProblemSection::Metric => {
             skip(walk);
@@ -85,14 +113,16 @@ fn section_body<'a>(
 
 /// Reads a section after its `(`.
 #[tactic(auto, using(crate::proofs::ProblemLemmas::section_steps))]
-fn section<'a>(
+fn section<'a, T: InitialTaker>(
     alloc: Global,
     dialect: Dialect,
     walk: &mut Walk<'a>,
     sections: &mut ProblemSections<'a>,
+    taker: &mut T,
 ) -> Result<(), ReadFault>
-    ensures { ReadsInto result (problem_section_in dialect (problem_sections_form sections.old)) (here walk.old.cursor)
+    ensures read { ReadsInto result (problem_section_in dialect (problem_sections_form sections.old)) (here walk.old.cursor)
         (here walk.new.cursor) (problem_sections_form sections.new) }
+    ensures taken { OnOk result (TakesSection T.begun T.given (problem_sections_form sections.old) (problem_sections_form sections.new) taker.old taker.new) }
 {
     match walk.next() {
         Item::Text(word) => {
@@ -102,7 +132,7 @@ fn section<'a>(
             if is_given(sections, headed) {
                 return Err(ReadFault::new(FaultKind::Repeated, word.span));
             }
-            section_body(alloc, dialect, walk, headed, sections)
+            section_body(alloc, dialect, walk, headed, sections, taker)
         }
         Item::Open(span) => Err(ReadFault::new(FaultKind::Expected, span)),
         Item::Close(span) => Err(ReadFault::new(FaultKind::Expected, span)),
@@ -111,13 +141,15 @@ fn section<'a>(
 
 /// Reads the sections of a problem, and the span of the `)` after them.
 #[tactic(auto, using(crate::proofs::ProblemLemmas::sections_steps))]
-fn sections<'a>(
+fn sections<'a, T: InitialTaker>(
     alloc: Global,
     dialect: Dialect,
     walk: &mut Walk<'a>,
+    taker: &mut T,
 ) -> Result<(ProblemSections<'a>, Span), ReadFault>
-    ensures { ReadsList (λ read. problem_sections_form read.0) result (problem_sections_of dialect no_problem_sections)
+    ensures read { ReadsList (λ read. problem_sections_form read.0) result (problem_sections_of dialect no_problem_sections)
         (here walk.old.cursor) (here walk.new.cursor) }
+    ensures taken { IfOk result (λ read. HasTaken T.begun T.given taker.old taker.new (problem_sections_form read.0).objects (problem_sections_form read.0).init) }
 {
     let mut sections = ProblemSections {
         domain: None,
@@ -132,24 +164,26 @@ fn sections<'a>(
         match walk.next() {
             Item::Close(span) => return Ok((sections, span)),
             Item::Text(word) => return Err(ReadFault::new(FaultKind::Expected, word.span)),
-            Item::Open(_) => section(alloc, dialect, walk, &mut sections)?,
+            Item::Open(_) => section(alloc, dialect, walk, &mut sections, taker)?,
         }
     }
 }
 
 /// Reads a problem after the first `(` of its text.
 #[tactic(auto, using(crate::proofs::ProblemLemmas::problem_steps))]
-pub(crate) fn problem<'a>(
+pub(crate) fn problem<'a, T: InitialTaker>(
     alloc: Global,
     dialect: Dialect,
     walk: &mut Walk<'a>,
+    taker: &mut T,
 ) -> Result<ProblemSyntax<'a>, ReadFault>
-    ensures { ReadsList problem_syntax_form result (problem_in dialect) (here walk.old.cursor) (here walk.new.cursor) }
+    ensures read { ReadsList problem_syntax_form result (problem_in dialect) (here walk.old.cursor) (here walk.new.cursor) }
+    ensures taken { IfOk result (λ problem. HasTakenAll T.begun T.given taker.old taker.new (problem_syntax_form problem)) }
 {
     expect_word(walk, b"define")?;
     enter_list(walk)?;
     let name = header(walk, b"problem")?;
-    let (sections, end) = sections(alloc, dialect, walk)?;
+    let (sections, end) = sections(alloc, dialect, walk, taker)?;
     let ProblemSections {
         domain,
         requirements: _,
@@ -176,17 +210,19 @@ pub(crate) fn problem<'a>(
 
 /// Reads the problem that a text without a text fault holds.
 #[tactic(auto, using(crate::proofs::ProblemLemmas::problem_text_steps, crate::proofs::TextLemmas::trees_here))]
-pub fn problem_text<'a>(
+pub fn problem_text<'a, T: InitialTaker>(
     alloc: Global,
     dialect: Dialect,
     text: &'a [u8],
+    taker: &mut T,
 ) -> Result<ProblemSyntax<'a>, ReadFault>
     requires { text_fault text.now ≡ None }
-    ensures { Gives problem_syntax_form result (problem_syntax dialect (trees text.now)) }
+    ensures read { Gives problem_syntax_form result (problem_syntax dialect (trees text.now)) }
+    ensures taken { IfOk result (λ problem. HasTakenAll T.begun T.given taker.old taker.new (problem_syntax_form problem)) }
 {
     let mut walk = Walk::new(text);
     enter_list(&mut walk)?;
-    let problem = problem(alloc, dialect, &mut walk)?;
+    let problem = problem(alloc, dialect, &mut walk, taker)?;
     leave_list(&mut walk)?;
     Ok(problem)
 }
