@@ -1,7 +1,7 @@
 //! Formulas with objects for parameters and variables, and copies of formulas.
 ghost use Rattle.std.specs.Prelude.{◌≡◌, map, IfOk};
 ghost use Rattle.formulas.specs.Grounding.{term_with, pattern_with, with_objects};
-ghost use Rattle.formulas.specs.Nodes.{tree_of};
+ghost use Rattle.formulas.specs.Tree.{atom, equality, negation, implication, exists, for_all};
 
 use crate::{Formula, Name, Node, Pattern, Seq, ShortSeq, Term, VariableGroup};
 use std::alloc::{AllocError, Global};
@@ -29,59 +29,33 @@ pub fn ground(
 ) -> Result<Formula, AllocError>
     ensures { IfOk result (λ copy. copy ≡ with_objects objects.now bound.now formula.now) }
 {
-    let node = ground_node(alloc, formula.node(), objects, bound)?;
-    Ok(Formula::new(node))
-}
-
-/// The same for the node of a formula.
-#[cycle(ground)]
-#[tactic(auto, using(crate::proofs::Parts::grounded_parts))]
-fn ground_node(
-    alloc: Global,
-    node: &Node,
-    objects: &[u16],
-    bound: &[u16],
-) -> Result<Node, AllocError>
-    ensures { IfOk result (λ copy. tree_of copy ≡ with_objects objects.now bound.now (tree_of node.now)) }
-{
-    match node {
-        Node::Atom(positive, pattern) => {
-            let copy = ground_pattern(alloc, pattern, objects, bound)?;
-            Ok(Node::Atom(*positive, copy))
-        }
+    match formula.node() {
+        Node::Atom(positive, pattern) => ground_atom(alloc, *positive, pattern, objects, bound),
         Node::Equal(positive, left, right) => {
-            let first = ground_term(*left, objects, bound);
-            Ok(Node::Equal(*positive, first, ground_term(*right, objects, bound)))
+            Ok(ground_equality(*positive, *left, *right, objects, bound))
         }
-        Node::Not(body) => Ok(Node::Not(ground_boxed(alloc, body, objects, bound)?)),
-        Node::And(parts) => Ok(Node::And(ground_all(alloc, parts, objects, bound)?)),
-        Node::Or(parts) => Ok(Node::Or(ground_all(alloc, parts, objects, bound)?)),
+        Node::Not(body) => negation(alloc, ground(alloc, body, objects, bound)?),
+        Node::And(parts) => Ok(Formula::new(Node::And(ground_all(alloc, parts, objects, bound)?))),
+        Node::Or(parts) => Ok(Formula::new(Node::Or(ground_all(alloc, parts, objects, bound)?))),
         Node::Imply(premise, conclusion) => {
-            let first = ground_boxed(alloc, premise, objects, bound)?;
-            Ok(Node::Imply(first, ground_boxed(alloc, conclusion, objects, bound)?))
+            let premise = ground(alloc, premise, objects, bound)?;
+            implication(alloc, premise, ground(alloc, conclusion, objects, bound)?)
         }
         Node::Exists(groups, body) => {
-            let kept = copy_groups(alloc, groups.as_slice())?;
-            Ok(Node::Exists(kept, ground_boxed(alloc, body, objects, bound)?))
+            exists(
+                alloc,
+                groups.as_slice(),
+                ground(alloc, body, objects, bound)?,
+            )
         }
         Node::ForAll(groups, body) => {
-            let kept = copy_groups(alloc, groups.as_slice())?;
-            Ok(Node::ForAll(kept, ground_boxed(alloc, body, objects, bound)?))
+            for_all(
+                alloc,
+                groups.as_slice(),
+                ground(alloc, body, objects, bound)?,
+            )
         }
     }
-}
-
-/// The same for a part that has a box of its own.
-#[cycle(ground)]
-fn ground_boxed(
-    alloc: Global,
-    formula: &Formula,
-    objects: &[u16],
-    bound: &[u16],
-) -> Result<Box<Formula>, AllocError>
-    ensures { IfOk result (λ copy. copy.value ≡ with_objects objects.now bound.now formula.now) }
-{
-    Ok(Box::new(alloc, ground(alloc, formula, objects, bound)?)?)
 }
 
 /// The same for each formula of a list.
@@ -99,6 +73,65 @@ fn ground_all(
         copies.push(ground(alloc, formula, objects, bound)?)?;
     }
     Ok(copies)
+}
+
+/// The same for an atom, or for its negation.
+fn ground_atom(
+    alloc: Global,
+    positive: bool,
+    pattern: &Pattern,
+    objects: &[u16],
+    bound: &[u16],
+) -> Result<Formula, AllocError>
+    ensures { IfOk result (λ copy. copy ≡ with_objects objects.now bound.now (atom positive pattern.now)) }
+{
+    let pattern = ground_pattern(alloc, pattern, objects, bound)?;
+    Ok(Formula::new(Node::Atom(positive, pattern)))
+}
+
+/// The same for an equality, or for its negation.
+fn ground_equality(
+    positive: bool,
+    left: Term,
+    right: Term,
+    objects: &[u16],
+    bound: &[u16],
+) -> Formula
+    ensures { result ≡ with_objects objects.now bound.now (equality positive left right) }
+{
+    let left = ground_term(left, objects, bound);
+    Formula::new(Node::Equal(positive, left, ground_term(right, objects, bound)))
+}
+
+/// A formula under `not`.
+fn negation(alloc: Global, body: Formula) -> Result<Formula, AllocError>
+    ensures { IfOk result (λ whole. whole ≡ negation body) }
+{
+    Ok(Formula::new(Node::Not(Box::new(alloc, body)?)))
+}
+
+/// Two formulas under `imply`.
+fn implication(alloc: Global, premise: Formula, conclusion: Formula) -> Result<Formula, AllocError>
+    ensures { IfOk result (λ whole. whole ≡ implication premise conclusion) }
+{
+    let premise = Box::new(alloc, premise)?;
+    Ok(Formula::new(Node::Imply(premise, Box::new(alloc, conclusion)?)))
+}
+
+/// A formula under `exists`, with these variables.
+fn exists(alloc: Global, groups: &[VariableGroup], body: Formula) -> Result<Formula, AllocError>
+    ensures { IfOk result (λ whole. whole ≡ exists groups.now body) }
+{
+    let body = Box::new(alloc, body)?;
+    Ok(Formula::new(Node::Exists(copy_groups(alloc, groups)?, body)))
+}
+
+/// A formula under `forall`, with these variables.
+fn for_all(alloc: Global, groups: &[VariableGroup], body: Formula) -> Result<Formula, AllocError>
+    ensures { IfOk result (λ whole. whole ≡ for_all groups.now body) }
+{
+    let body = Box::new(alloc, body)?;
+    Ok(Formula::new(Node::ForAll(copy_groups(alloc, groups)?, body)))
 }
 
 /// The same for a pattern.

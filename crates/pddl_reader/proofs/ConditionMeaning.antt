@@ -1,20 +1,24 @@
 -- What conditions stand for, one equation for each case.
 
-use Rattle.std.proofs.Common.{◌≡◌, ℕ, ◌++◌, Bool, List, [], ◌∷◌, Option, Some, None, refl, subst, ◌∙◌}
+use Rattle.std.proofs.Common.{◌≡◌, ℕ, ◌++◌, Bool, List, [], ◌∷◌, Option, Some, None, refl}
 use Rattle.std.proofs.lemmas.List.{append-nil}
-use Rattle.formulas.specs.declared.terms.Pattern.{Pattern}
+use Rattle.std.specs.Option.{option_map}
 use Rattle.formulas.specs.declared.terms.Term.{Term}
 use Rattle.formulas.specs.declared.variables.VariableGroup as kept
 use Rattle.formulas.specs.Tree.{Tree, parts_of}
 use Rattle.formulas.specs.Tree as tree
-use Rattle.pddl_syntax.specs.declared.syntax.VariableGroup as groups
-use Rattle.pddl_syntax.specs.Forms.{variable_groups}
 use Rattle.pddl_syntax.specs.Optional.{through, with_front}
 use Rattle.pddl_syntax.specs.Syntax.{AtomForm, EqualityForm, VariableGroup, FormulaForm, atom_formula, equality_formula, negation, conjunction, disjunction, implication, exists, for_all, FormulaForms, no_formulas, formulas_of}
-use Rattle.pddl_reader.specs.Conditions.{equality_by, implication_by, tree_meant, trees_meant, conjuncts, all_conjuncts, with_condition, conditions_of}
+use Rattle.pddl_reader.specs.Conditions.{equality_by, implication_by, tree_meant, trees_meant, joined, joined_form, quantification, quantified_form, conjuncts, all_conjuncts, with_condition, conditions_of}
 use Rattle.pddl_reader.specs.Declarations.{Known, pattern_of, term_named}
-use Rattle.pddl_reader.specs.Scopes.{Scope, bound_by, quantified}
+use Rattle.pddl_reader.specs.Bindings.{entered}
+use Rattle.pddl_reader.specs.Scopes.{Scope, bound_by}
+use Rattle.pddl_reader.specs.declared.resolution.conditions.Junction.{Junction}
+use Rattle.pddl_reader.specs.declared.resolution.conditions.Junction.TheVariants.{And, Or}
+use Rattle.pddl_reader.specs.declared.resolution.conditions.Quantifier.{Quantifier}
+use Rattle.pddl_reader.specs.declared.resolution.conditions.Quantifier.TheVariants.{Exists, ForAll}
 use Rattle.pddl_reader.proofs.Items.{item_steps}
+use Rattle.pddl_reader.proofs.QuantifierMeaning.{not_quantified, body_refused, body_given}
 use Rattle.pddl_reader.proofs.Through.{through_behind, through_append, through_one, behind_none, behind_some, through_end}
 use Rattle.pddl_syntax.proofs.ListsOf.{with_front-followed_by, with_item, item_none, item_some, front_none}
 
@@ -33,19 +37,34 @@ with_both positive left right l r h e = rw (h, e) refl
 
 pub ruleset equality_steps = (without_left, without_right, with_both)
 
-same_binding : {A : Type 0} (make : List VariableGroup → FormulaForm → A) (groups slice : List groups.VariableGroup) (body inner : FormulaForm) → slice ≡ groups → inner ≡ body →
-    make (variable_groups slice) inner ≡ make (variable_groups groups) body
-same_binding make groups slice body inner same also = rw (same, also) refl
+pub mapped_none : {A B : Type 0} (make : A → B) (found : Option A) → found ≡ None → option_map make found ≡ None
+mapped_none make found h = rw h refl
+
+pub mapped_some : {A B : Type 0} (make : A → B) (found : Option A) (x : A) → found ≡ Some x → option_map make found ≡ Some (make x)
+mapped_some make found x h = rw h refl
+
+pub ruleset literal_steps = (mapped_none, mapped_some)
+
+pub all_joined : (junction : Junction) (trees : List Tree) → junction ≡ And → joined junction trees ≡ tree.conjunction (parts_of trees)
+all_joined junction trees h = rw h refl
+
+pub some_joined : (junction : Junction) (trees : List Tree) → junction ≡ Or → joined junction trees ≡ tree.disjunction (parts_of trees)
+some_joined junction trees h = rw h refl
+
+pub ruleset joined_steps = (all_joined, some_joined)
+
+pub some_object : (quantifier : Quantifier) (groups : List kept.VariableGroup) (body : Tree) → quantifier ≡ Exists → quantification quantifier groups body ≡ tree.exists groups body
+some_object quantifier groups body h = rw h refl
+
+pub every_object : (quantifier : Quantifier) (groups : List kept.VariableGroup) (body : Tree) → quantifier ≡ ForAll → quantification quantifier groups body ≡ tree.for_all groups body
+every_object quantifier groups body h = rw h refl
+
+pub ruleset quantification_steps = (some_object, every_object)
 
 module _ (types : List (List ℕ)) (known : Known) (scope : Scope) where
-  pub atom_none : (positive : Bool) (atom : AtomForm) → pattern_of known scope atom ≡ None → tree_meant types known scope (atom_formula positive atom) ≡ None
+  pub atom_meant : (positive : Bool) (atom : AtomForm) → tree_meant types known scope (atom_formula positive atom) ≡ option_map (tree.atom positive) (pattern_of known scope atom)
   unfolding tree_meant
-  atom_none positive atom h = rw h refl
-
-  pub atom_some : (positive : Bool) (atom : AtomForm) (pattern : Pattern) → pattern_of known scope atom ≡ Some pattern →
-      tree_meant types known scope (atom_formula positive atom) ≡ Some (tree.atom positive pattern)
-  unfolding tree_meant
-  atom_some positive atom pattern h = rw h refl
+  atom_meant positive atom = refl
 
   pub equality_meant : (positive : Bool) (sides : EqualityForm) → tree_meant types known scope (equality_formula positive sides)
       ≡ equality_by positive (term_named known scope sides.left) (term_named known scope sides.right)
@@ -60,23 +79,17 @@ module _ (types : List (List ℕ)) (known : Known) (scope : Scope) where
   unfolding tree_meant
   negation_some formula t h = rw h refl
 
-  pub conjunction_none : (formulas : FormulaForms) → trees_meant types known scope formulas ≡ None → tree_meant types known scope (conjunction formulas) ≡ None
+  pub joined_none : (junction : Junction) (formulas : FormulaForms) → trees_meant types known scope formulas ≡ None →
+      tree_meant types known scope (joined_form junction formulas) ≡ None
   unfolding tree_meant
-  conjunction_none formulas h = rw h refl
+  joined_none And parts h = rw h refl
+  joined_none Or parts h = rw h refl
 
-  pub conjunction_some : (formulas : FormulaForms) (ts : List Tree) → trees_meant types known scope formulas ≡ Some ts →
-      tree_meant types known scope (conjunction formulas) ≡ Some (tree.conjunction (parts_of ts))
+  pub joined_some : (junction : Junction) (formulas : FormulaForms) (ts : List Tree) → trees_meant types known scope formulas ≡ Some ts →
+      tree_meant types known scope (joined_form junction formulas) ≡ Some (joined junction ts)
   unfolding tree_meant
-  conjunction_some formulas ts h = rw h refl
-
-  pub disjunction_none : (formulas : FormulaForms) → trees_meant types known scope formulas ≡ None → tree_meant types known scope (disjunction formulas) ≡ None
-  unfolding tree_meant
-  disjunction_none formulas h = rw h refl
-
-  pub disjunction_some : (formulas : FormulaForms) (ts : List Tree) → trees_meant types known scope formulas ≡ Some ts →
-      tree_meant types known scope (disjunction formulas) ≡ Some (tree.disjunction (parts_of ts))
-  unfolding tree_meant
-  disjunction_some formulas ts h = rw h refl
+  joined_some And parts ts h = rw h refl
+  joined_some Or parts ts h = rw h refl
 
   pub no_premise : (premise conclusion : FormulaForm) → tree_meant types known scope premise ≡ None → tree_meant types known scope (implication premise conclusion) ≡ None
   unfolding tree_meant implication_by
@@ -92,49 +105,24 @@ module _ (types : List (List ℕ)) (known : Known) (scope : Scope) where
   unfolding tree_meant implication_by
   implication_some premise conclusion p c h e = rw (h, e) refl
 
-  pub exists_none : (groups : List VariableGroup) (body : FormulaForm) → quantified scope (bound_by types groups) (λ inner. tree_meant types known inner body) ≡ None →
-      tree_meant types known scope (exists groups body) ≡ None
+  pub binding_none : (quantifier : Quantifier) (groups : List VariableGroup) (body : FormulaForm) → entered scope (bound_by types groups) ≡ None →
+      tree_meant types known scope (quantified_form quantifier groups body) ≡ None
   unfolding tree_meant
-  exists_none groups body h = rw h refl
+  binding_none Exists groups body h = rw (not_quantified scope (bound_by types groups) (λ s. tree_meant types known s body) h) refl
+  binding_none ForAll groups body h = rw (not_quantified scope (bound_by types groups) (λ s. tree_meant types known s body) h) refl
 
-  pub exists_some : (groups : List VariableGroup) (body : FormulaForm) (binding : List kept.VariableGroup × Tree) →
-      quantified scope (bound_by types groups) (λ inner. tree_meant types known inner body) ≡ Some binding →
-      tree_meant types known scope (exists groups body) ≡ Some (tree.exists binding.0 binding.1)
+  pub body_none : (quantifier : Quantifier) (groups : List VariableGroup) (body : FormulaForm) (own : List kept.VariableGroup) (inner : Scope) →
+      entered scope (bound_by types groups) ≡ Some (own, inner) → tree_meant types known inner body ≡ None → tree_meant types known scope (quantified_form quantifier groups body) ≡ None
   unfolding tree_meant
-  exists_some groups body binding h = rw h refl
+  body_none Exists groups body own inner h e = rw (body_refused scope inner (bound_by types groups) own (λ s. tree_meant types known s body) h e) refl
+  body_none ForAll groups body own inner h e = rw (body_refused scope inner (bound_by types groups) own (λ s. tree_meant types known s body) h e) refl
 
-  pub for_all_none : (groups : List VariableGroup) (body : FormulaForm) → quantified scope (bound_by types groups) (λ inner. tree_meant types known inner body) ≡ None →
-      tree_meant types known scope (for_all groups body) ≡ None
+  pub body_some : (quantifier : Quantifier) (groups : List VariableGroup) (body : FormulaForm) (own : List kept.VariableGroup) (inner : Scope) (t : Tree) →
+      entered scope (bound_by types groups) ≡ Some (own, inner) → tree_meant types known inner body ≡ Some t →
+      tree_meant types known scope (quantified_form quantifier groups body) ≡ Some (quantification quantifier own t)
   unfolding tree_meant
-  for_all_none groups body h = rw h refl
-
-  pub for_all_some : (groups : List VariableGroup) (body : FormulaForm) (binding : List kept.VariableGroup × Tree) →
-      quantified scope (bound_by types groups) (λ inner. tree_meant types known inner body) ≡ Some binding →
-      tree_meant types known scope (for_all groups body) ≡ Some (tree.for_all binding.0 binding.1)
-  unfolding tree_meant
-  for_all_some groups body binding h = rw h refl
-
-  pub exists_refused : (groups slice : List groups.VariableGroup) (body inner form : FormulaForm) → exists (variable_groups groups) body ≡ form → slice ≡ groups → inner ≡ body →
-      quantified scope (bound_by types (variable_groups slice)) (λ s. tree_meant types known s inner) ≡ None → tree_meant types known scope form ≡ None
-  exists_refused groups slice body inner form is same also h =
-      subst (λ f. tree_meant types known scope f ≡ None) (same_binding exists groups slice body inner same also ∙ is) (exists_none (variable_groups slice) inner h)
-
-  pub exists_given : (groups slice : List groups.VariableGroup) (body inner form : FormulaForm) (own : List kept.VariableGroup) (t : Tree) →
-      exists (variable_groups groups) body ≡ form → slice ≡ groups → inner ≡ body →
-      quantified scope (bound_by types (variable_groups slice)) (λ s. tree_meant types known s inner) ≡ Some (own, t) → tree_meant types known scope form ≡ Some (tree.exists own t)
-  exists_given groups slice body inner form own t is same also h =
-      subst (λ f. tree_meant types known scope f ≡ Some (tree.exists own t)) (same_binding exists groups slice body inner same also ∙ is) (exists_some (variable_groups slice) inner (own, t) h)
-
-  pub for_all_refused : (groups slice : List groups.VariableGroup) (body inner form : FormulaForm) → for_all (variable_groups groups) body ≡ form → slice ≡ groups → inner ≡ body →
-      quantified scope (bound_by types (variable_groups slice)) (λ s. tree_meant types known s inner) ≡ None → tree_meant types known scope form ≡ None
-  for_all_refused groups slice body inner form is same also h =
-      subst (λ f. tree_meant types known scope f ≡ None) (same_binding for_all groups slice body inner same also ∙ is) (for_all_none (variable_groups slice) inner h)
-
-  pub for_all_given : (groups slice : List groups.VariableGroup) (body inner form : FormulaForm) (own : List kept.VariableGroup) (t : Tree) →
-      for_all (variable_groups groups) body ≡ form → slice ≡ groups → inner ≡ body →
-      quantified scope (bound_by types (variable_groups slice)) (λ s. tree_meant types known s inner) ≡ Some (own, t) → tree_meant types known scope form ≡ Some (tree.for_all own t)
-  for_all_given groups slice body inner form own t is same also h =
-      subst (λ f. tree_meant types known scope f ≡ Some (tree.for_all own t)) (same_binding for_all groups slice body inner same also ∙ is) (for_all_some (variable_groups slice) inner (own, t) h)
+  body_some Exists groups body own inner t h e = rw (body_given scope inner (bound_by types groups) own (λ s. tree_meant types known s body) t h e) refl
+  body_some ForAll groups body own inner t h e = rw (body_given scope inner (bound_by types groups) own (λ s. tree_meant types known s body) t h e) refl
 
   pub formulas_item : (front : List Tree) (formula : FormulaForm) (formulas : List FormulaForm) →
       with_front front (trees_meant types known scope (formulas_of (formula ∷ formulas)))
@@ -163,22 +151,13 @@ module _ (types : List (List ℕ)) (known : Known) (scope : Scope) where
   unfolding conditions_of conjuncts through
   no_conditions = refl
 
-pub ruleset formula_steps = (
-  atom_none,
-  atom_some,
-  equality_meant,
-  negation_none,
-  negation_some,
-  conjunction_none,
-  conjunction_some,
-  disjunction_none,
-  disjunction_some,
-  no_premise,
-  no_conclusion,
-  implication_some,
-)
+pub ruleset formula_steps = (atom_meant, equality_meant, negation_none, negation_some, no_premise, no_conclusion, implication_some)
 
-pub ruleset formulas_steps = (item_steps, front_none, formulas_item, formulas_end, item_none, item_some)
+pub ruleset compound_steps = (item_steps, front_none, formulas_item, formulas_end, item_none, item_some, joined_none, joined_some)
+
+pub ruleset quantified_steps = (binding_none, body_none, body_some)
+
+pub ruleset condition_steps = (condition_none, condition_some)
 
 pub conjunction_conjuncts : (formulas : FormulaForms) → conjuncts (conjunction formulas) ≡ all_conjuncts formulas
 unfolding conjuncts
@@ -231,8 +210,6 @@ pub ruleset conjunct_steps = (
   one_implication,
   one_exists,
   one_for_all,
-  condition_none,
-  condition_some,
 )
 
 pub ruleset all_conjuncts_steps = (item_steps, conjuncts_item, conjuncts_end, behind_none, behind_some)

@@ -1,14 +1,13 @@
 -- What effects stand for, one equation for each case.
 
-use Rattle.std.proofs.Common.{◌≡◌, ℕ, ◌++◌, Bool, true, false, List, [], ◌∷◌, Option, Some, None, refl, subst, ◌∙◌}
+use Rattle.std.proofs.Common.{◌≡◌, ℕ, ◌++◌, Bool, true, false, List, [], ◌∷◌, Option, Some, None, refl}
 use Rattle.std.proofs.lemmas.List.{append-nil}
+use Rattle.std.specs.Option.{option_map}
 use Rattle.formulas.specs.declared.terms.Pattern.{Pattern}
 use Rattle.formulas.specs.declared.variables.VariableGroup as kept
 use Rattle.formulas.specs.EffectTree.{EffectTree, change, joint, conditional, universal, effect_parts_of}
 use Rattle.formulas.specs.Tree.{Tree}
 use Rattle.strips_task.specs.declared.amounts.Amount.{Amount}
-use Rattle.pddl_syntax.specs.declared.syntax.VariableGroup as groups
-use Rattle.pddl_syntax.specs.Forms.{variable_groups}
 use Rattle.pddl_syntax.specs.Optional.{through, with_front}
 use Rattle.pddl_syntax.specs.Syntax.{AtomForm, AmountForm, VariableGroup, FormulaForm, EffectForm, atom_effect, increase_effect, joint_effect, conditional_effect, universal_effect, EffectForms, no_effects, effects_of as effect_forms}
 use Rattle.pddl_reader.specs.declared.resolution.effects.Effects.{Effects}
@@ -16,8 +15,11 @@ use Rattle.pddl_reader.specs.Conditions.{tree_meant}
 use Rattle.pddl_reader.specs.Declarations.{Known, pattern_of}
 use Rattle.pddl_reader.specs.Effects.{conditional_by, effect_meant, effects_meant, single_effects, all_single_effects, nothing_happens, changed, with_change, increased, joined, with_effect, effects_of}
 use Rattle.pddl_reader.specs.Functions.{Vocabulary, with_increase}
-use Rattle.pddl_reader.specs.Scopes.{Scope, bound_by, quantified}
+use Rattle.pddl_reader.specs.Bindings.{entered}
+use Rattle.pddl_reader.specs.Scopes.{Scope, bound_by}
+use Rattle.pddl_reader.proofs.ConditionMeaning.{mapped_none, mapped_some}
 use Rattle.pddl_reader.proofs.Items.{item_steps}
+use Rattle.pddl_reader.proofs.QuantifierMeaning.{not_quantified, body_refused, body_given}
 use Rattle.pddl_reader.proofs.Through.{through_behind, through_append, through_one, behind_none, behind_some, through_end}
 use Rattle.pddl_syntax.proofs.ListsOf.{with_front-followed_by, with_item, item_none, item_some, front_none}
 
@@ -41,19 +43,10 @@ change_some effects positive pattern = refl
 
 pub ruleset change_steps = (change_none, change_some)
 
-same_binding : (groups slice : List groups.VariableGroup) (body inner : EffectForm) → slice ≡ groups → inner ≡ body →
-    universal_effect (variable_groups slice) inner ≡ universal_effect (variable_groups groups) body
-same_binding groups slice body inner same also = rw (same, also) refl
-
 module _ (types : List (List ℕ)) (known : Known) (scope : Scope) where
-  pub atom_none : (positive : Bool) (atom : AtomForm) → pattern_of known scope atom ≡ None → effect_meant types known scope (atom_effect positive atom) ≡ None
+  pub atom_meant : (positive : Bool) (atom : AtomForm) → effect_meant types known scope (atom_effect positive atom) ≡ option_map (change positive) (pattern_of known scope atom)
   unfolding effect_meant
-  atom_none positive atom h = rw h refl
-
-  pub atom_some : (positive : Bool) (atom : AtomForm) (pattern : Pattern) → pattern_of known scope atom ≡ Some pattern →
-      effect_meant types known scope (atom_effect positive atom) ≡ Some (change positive pattern)
-  unfolding effect_meant
-  atom_some positive atom pattern h = rw h refl
+  atom_meant positive atom = refl
 
   pub increase_none : (amount : AmountForm) → effect_meant types known scope (increase_effect amount) ≡ None
   unfolding effect_meant
@@ -83,27 +76,21 @@ module _ (types : List (List ℕ)) (known : Known) (scope : Scope) where
   unfolding effect_meant conditional_by
   conditional_some condition effect c x h e = rw (h, e) refl
 
-  pub universal_none : (groups : List VariableGroup) (effect : EffectForm) → quantified scope (bound_by types groups) (λ inner. effect_meant types known inner effect) ≡ None →
-      effect_meant types known scope (universal_effect groups effect) ≡ None
+  pub binding_none : (groups : List VariableGroup) (body : EffectForm) → entered scope (bound_by types groups) ≡ None →
+      effect_meant types known scope (universal_effect groups body) ≡ None
   unfolding effect_meant
-  universal_none groups effect h = rw h refl
+  binding_none groups body h = rw (not_quantified scope (bound_by types groups) (λ s. effect_meant types known s body) h) refl
 
-  pub universal_some : (groups : List VariableGroup) (effect : EffectForm) (binding : List kept.VariableGroup × EffectTree) →
-      quantified scope (bound_by types groups) (λ inner. effect_meant types known inner effect) ≡ Some binding →
-      effect_meant types known scope (universal_effect groups effect) ≡ Some (universal binding.0 binding.1)
+  pub body_none : (groups : List VariableGroup) (body : EffectForm) (own : List kept.VariableGroup) (inner : Scope) → entered scope (bound_by types groups) ≡ Some (own, inner) →
+      effect_meant types known inner body ≡ None → effect_meant types known scope (universal_effect groups body) ≡ None
   unfolding effect_meant
-  universal_some groups effect binding h = rw h refl
+  body_none groups body own inner h e = rw (body_refused scope inner (bound_by types groups) own (λ s. effect_meant types known s body) h e) refl
 
-  pub universal_refused : (groups slice : List groups.VariableGroup) (body inner form : EffectForm) → universal_effect (variable_groups groups) body ≡ form → slice ≡ groups → inner ≡ body →
-      quantified scope (bound_by types (variable_groups slice)) (λ s. effect_meant types known s inner) ≡ None → effect_meant types known scope form ≡ None
-  universal_refused groups slice body inner form is same also h =
-      subst (λ f. effect_meant types known scope f ≡ None) (same_binding groups slice body inner same also ∙ is) (universal_none (variable_groups slice) inner h)
-
-  pub universal_given : (groups slice : List groups.VariableGroup) (body inner form : EffectForm) (own : List kept.VariableGroup) (x : EffectTree) →
-      universal_effect (variable_groups groups) body ≡ form → slice ≡ groups → inner ≡ body →
-      quantified scope (bound_by types (variable_groups slice)) (λ s. effect_meant types known s inner) ≡ Some (own, x) → effect_meant types known scope form ≡ Some (universal own x)
-  universal_given groups slice body inner form own x is same also h =
-      subst (λ f. effect_meant types known scope f ≡ Some (universal own x)) (same_binding groups slice body inner same also ∙ is) (universal_some (variable_groups slice) inner (own, x) h)
+  pub body_some : (groups : List VariableGroup) (body : EffectForm) (own : List kept.VariableGroup) (inner : Scope) (x : EffectTree) →
+      entered scope (bound_by types groups) ≡ Some (own, inner) → effect_meant types known inner body ≡ Some x →
+      effect_meant types known scope (universal_effect groups body) ≡ Some (universal own x)
+  unfolding effect_meant
+  body_some groups body own inner x h e = rw (body_given scope inner (bound_by types groups) own (λ s. effect_meant types known s body) x h e) refl
 
   pub effects_item : (front : List EffectTree) (effect : EffectForm) (effects : List EffectForm) →
       with_front front (effects_meant types known scope (effect_forms (effect ∷ effects)))
@@ -115,18 +102,13 @@ module _ (types : List (List ℕ)) (known : Known) (scope : Scope) where
   unfolding effects_meant with_front
   effects_end front = rw append-nil refl
 
-pub ruleset effect_steps = (
-  atom_none,
-  atom_some,
-  increase_none,
-  joint_none,
-  joint_some,
-  no_condition,
-  no_effect,
-  conditional_some,
-)
+pub ruleset effect_steps = (atom_meant, increase_none, no_condition, no_effect, conditional_some)
 
-pub ruleset effects_steps = (item_steps, front_none, effects_item, effects_end, item_none, item_some)
+pub ruleset joint_steps = (item_steps, front_none, effects_item, effects_end, item_none, item_some, joint_none, joint_some)
+
+pub ruleset quantified_steps = (binding_none, body_none, body_some)
+
+pub ruleset inner_steps = (mapped_none, mapped_some)
 
 pub joint_single : (parts : EffectForms) → single_effects (joint_effect parts) ≡ all_single_effects parts
 unfolding single_effects
@@ -175,40 +157,24 @@ module _ (types : List (List ℕ)) (v : Vocabulary) (scope : Scope) (effects : E
   unfolding with_effect
   effect_increase amount increases h = rw h refl
 
-  pub no_conditional : (condition : FormulaForm) (effect : EffectForm) → effect_meant types v.atoms scope (conditional_effect condition effect) ≡ None →
-      with_effect types v scope effects (conditional_effect condition effect) ≡ None
+  pub effect_of_parts : (parts : EffectForms) → with_effect types v scope effects (joint_effect parts)
+      ≡ option_map (joined effects) (effect_meant types v.atoms scope (joint_effect parts))
   unfolding with_effect
-  no_conditional condition effect h = rw h refl
+  effect_of_parts parts = refl
 
-  pub some_conditional : (condition : FormulaForm) (effect : EffectForm) (x : EffectTree) → effect_meant types v.atoms scope (conditional_effect condition effect) ≡ Some x →
-      with_effect types v scope effects (conditional_effect condition effect) ≡ Some (joined effects x)
+  pub effect_of_condition : (condition : FormulaForm) (effect : EffectForm) → with_effect types v scope effects (conditional_effect condition effect)
+      ≡ option_map (joined effects) (effect_meant types v.atoms scope (conditional_effect condition effect))
   unfolding with_effect
-  some_conditional condition effect x h = rw h refl
+  effect_of_condition condition effect = refl
 
-  pub no_universal : (groups : List VariableGroup) (effect : EffectForm) → effect_meant types v.atoms scope (universal_effect groups effect) ≡ None →
-      with_effect types v scope effects (universal_effect groups effect) ≡ None
+  pub effect_of_quantifier : (groups : List VariableGroup) (effect : EffectForm) → with_effect types v scope effects (universal_effect groups effect)
+      ≡ option_map (joined effects) (effect_meant types v.atoms scope (universal_effect groups effect))
   unfolding with_effect
-  no_universal groups effect h = rw h refl
+  effect_of_quantifier groups effect = refl
 
-  pub some_universal : (groups : List VariableGroup) (effect : EffectForm) (x : EffectTree) → effect_meant types v.atoms scope (universal_effect groups effect) ≡ Some x →
-      with_effect types v scope effects (universal_effect groups effect) ≡ Some (joined effects x)
-  unfolding with_effect
-  some_universal groups effect x h = rw h refl
+pub ruleset single_steps = (effect_of_atom, effect_no_increase, effect_increase, effect_of_parts, effect_of_condition, effect_of_quantifier)
 
-pub ruleset single_steps = (
-  joint_single,
-  one_atom,
-  one_increase,
-  one_conditional,
-  one_universal,
-  effect_of_atom,
-  effect_no_increase,
-  effect_increase,
-  no_conditional,
-  some_conditional,
-  no_universal,
-  some_universal,
-)
+pub ruleset conjunct_steps = (joint_single, one_atom, one_increase, one_conditional, one_universal)
 
 pub ruleset all_single_steps = (item_steps, single_item, single_end, behind_none, behind_some)
 

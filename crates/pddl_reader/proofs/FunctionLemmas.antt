@@ -44,25 +44,42 @@ unfolding guard
 guarded_none true value h = h
 guarded_none false value h = refl
 
+pub let_through : {A : Type 0} (test : Bool) (value : Option A) → test ≡ true → guard test value ≡ value
+unfolding guard
+let_through test value h = rw h refl
+
+pub kept_out : {A : Type 0} (test : Bool) (value : Option A) → test ≡ false → guard test value ≡ None
+unfolding guard
+kept_out test value h = rw h refl
+
+pub ruleset function_types_steps = (kept_out)
+
 pub function_refused : (types : List (List ℕ)) (table : Predicates) (f : PredicateForm) → may_declare 4096 table (folded f.name) ≡ false → with_function types table f ≡ None
 unfolding with_function
 function_refused types table f h = guarded_none (may_have (folded f.name) f.variables) (with_predicate types table f) (predicate_refused types table f h)
 
-pub function_untyped : (types : List (List ℕ)) (table : Predicates) (f : PredicateForm) → argument_types_of types f.variables ≡ None → with_function types table f ≡ None
-unfolding with_function
-function_untyped types table f h = guarded_none (may_have (folded f.name) f.variables) (with_predicate types table f) (predicate_untyped types table f h)
+-- the types of the arguments of a function, if it may have them
+module _ (types : List (List ℕ)) (table : Predicates) (f : PredicateForm) where
+  pub function_untyped : guard (may_have (folded f.name) f.variables) (argument_types_of types f.variables) ≡ None → with_function types table f ≡ None
+  unfolding with_function guard
+  function_untyped h = by (may_have (folded f.name) f.variables) h
+    where
+      by : (test : Bool) → guard test (argument_types_of types f.variables) ≡ None → guard test (with_predicate types table f) ≡ None
+      by true e = predicate_untyped types table f e
+      by false e = refl
 
-pub function_varied : (types : List (List ℕ)) (table : Predicates) (f : PredicateForm) → may_have (folded f.name) f.variables ≡ false → with_function types table f ≡ None
-unfolding with_function guard
-function_varied types table f h = rw h refl
+  pub function_declared : (argument_types : List (List ℕ)) → may_declare 4096 table (folded f.name) ≡ true →
+      guard (may_have (folded f.name) f.variables) (argument_types_of types f.variables) ≡ Some argument_types →
+      with_function types table f ≡ Some (table ++ (folded f.name, argument_types) ∷ [])
+  unfolding with_function guard
+  function_declared argument_types h e = by (may_have (folded f.name) f.variables) e
+    where
+      by : (test : Bool) → guard test (argument_types_of types f.variables) ≡ Some argument_types →
+          guard test (with_predicate types table f) ≡ Some (table ++ (folded f.name, argument_types) ∷ [])
+      by true e = predicate_declared types table f argument_types h e
+      by false e = cc
 
-pub function_declared : (types : List (List ℕ)) (table : Predicates) (f : PredicateForm) (argument_types : List (List ℕ)) → may_declare 4096 table (folded f.name) ≡ true →
-    may_have (folded f.name) f.variables ≡ true → argument_types_of types f.variables ≡ Some argument_types →
-    with_function types table f ≡ Some (table ++ (folded f.name, argument_types) ∷ [])
-unfolding with_function guard
-function_declared types table f argument_types h k e = rw (k, predicate_declared types table f argument_types h e) refl
-
-pub ruleset function_steps = (may_declare_new, function_refused, function_varied, function_untyped)
+pub ruleset function_steps = (may_declare_new, function_refused, function_untyped)
 
 pub functions_start : (types : List (List ℕ)) (table : Predicates) (fs : List PredicateForm) → functions_from types table fs ≡ through (with_function types) table fs
 unfolding functions_from

@@ -1,8 +1,10 @@
 -- The variables of quantifiers, one equation for each case.
 
-use Rattle.std.proofs.Common.{◌≡◌, ℕ, ◌++◌, true, false, List, [], ◌∷◌, Option, Some, None, drop, length, take, refl, ap, subst, ◌∙◌}
+use Rattle.std.proofs.Common.{◌≡◌, ℕ, ◌++◌, true, false, List, [], ◌∷◌, Option, Some, None, drop, length, take, refl, ap, ◌∙◌}
 use Rattle.std.proofs.Math.Seq.{take-append_seam}
 use Rattle.std.proofs.lemmas.List.{append-nil}
+use Rattle.std.specs.Option.{option_map}
+use Rattle.formulas.specs.declared.variables.VariableGroup as kept
 use Rattle.pddl_words.specs.Words.{folded, is_name}
 use Rattle.pddl_syntax.specs.declared.syntax.VariableGroup as groups
 use Rattle.pddl_syntax.specs.declared.walk.Word.{Word}
@@ -10,6 +12,7 @@ use Rattle.pddl_syntax.specs.Forms.{name_forms, word_forms, variable_group_form}
 use Rattle.pddl_syntax.specs.Optional.{guard, through, with_front}
 use Rattle.pddl_syntax.specs.Syntax.{VariableGroup}
 use Rattle.pddl_syntax.proofs.ListsOf.{with_front-followed_by, with_item, item_none, item_some, front_none}
+use Rattle.pddl_reader.specs.Bindings.{entered, outside}
 use Rattle.pddl_reader.specs.Scopes.{Scope, BoundVariables, unmarked, all_unmarked, kept_group, group_kept, bound_with, group_bound, none_bound, bound_by, quantified, scope_within}
 use Rattle.pddl_reader.specs.Variables.{TypedVariables, alternatives_of, group_named}
 use Rattle.pddl_reader.proofs.Items.{word_item_steps}
@@ -66,42 +69,43 @@ none_start names types h e = rw (h, e) refl
 
 pub ruleset bound_steps = (groups_item, groups_end, bound_start, none_start)
 
-module _ {A : Type 0} (scope : Scope) (body : Scope → Option A) where
-  pub none_quantified : (own : Option BoundVariables) → own ≡ None → quantified scope own body ≡ None
-  unfolding quantified
-  none_quantified own h = rw h refl
+pub not_entered : (scope : Scope) (own : Option BoundVariables) → own ≡ None → entered scope own ≡ None
+unfolding entered
+not_entered scope own h = rw h refl
 
-  pub body_unmeant : (own : Option BoundVariables) (o : BoundVariables) → own ≡ Some o → body (scope_within scope o.declared) ≡ None → quantified scope own body ≡ None
-  unfolding quantified
-  body_unmeant own o h e = rw (h, e) refl
+pub ruleset entered_steps = (not_entered)
 
-  pub body_meant : (own : Option BoundVariables) (o : BoundVariables) (meant : A) → own ≡ Some o → body (scope_within scope o.declared) ≡ Some meant →
-      quantified scope own body ≡ Some (o.groups, meant)
-  unfolding quantified
-  body_meant own o meant h e = rw (h, e) refl
+-- the scope of a quantifier's body, and the scope around it again
+module _ (scope inner : Scope) (own : BoundVariables) (enters : inner ≡ scope_within scope own.declared) where
+  pub has_entered : (found : Option BoundVariables) → found ≡ Some own → entered scope found ≡ Some (own.groups, inner)
+  unfolding entered
+  has_entered found h = rw (h, enters) refl
 
-pub quantified_refused : {A : Type 0} (scope inner : Scope) (body : Scope → Option A) (own : Option BoundVariables) (o : BoundVariables) → own ≡ Some o →
-    inner ≡ scope_within scope o.declared → body inner ≡ None → quantified scope own body ≡ None
-quantified_refused scope inner body own o h is e = body_unmeant scope body own o h (subst (λ s. body s ≡ None) is e)
+  first_only : (names more : List (List ℕ)) (depth : ℕ) → depth ≡ length names → take depth (names ++ more) ≡ names
+  first_only names more depth is = ap (λ n. take n (names ++ more)) is ∙ take-append_seam names more
 
-pub quantified_given : {A : Type 0} (scope inner : Scope) (body : Scope → Option A) (own : Option BoundVariables) (o : BoundVariables) (meant : A) → own ≡ Some o →
-    inner ≡ scope_within scope o.declared → body inner ≡ Some meant → quantified scope own body ≡ Some (o.groups, meant)
-quantified_given scope inner body own o meant h is e = body_meant scope body own o meant h (subst (λ s. body s ≡ Some meant) is e)
+  pub left_again : (depth : ℕ) → depth ≡ length scope.bound.names → depth ≡ length scope.bound.types → outside depth inner ≡ scope
+  unfolding scope_within
+  left_again depth names types =
+      ap (outside depth) enters
+      ∙ rw (first_only scope.bound.names own.declared.names depth names, first_only scope.bound.types own.declared.types depth types) refl
 
-pub ruleset quantified_steps = (none_quantified)
+pub not_quantified : {A : Type 0} (scope : Scope) (own : Option BoundVariables) (body : Scope → Option A) → entered scope own ≡ None → quantified scope own body ≡ None
+unfolding entered quantified
+not_quantified scope None body h = refl
+not_quantified scope (Some own) body h = cc
 
--- the scope with only the first variables that are bound
-abbrev pub only : ℕ → Scope → Scope
-only depth scope = record scope { bound = record { names = take depth scope.bound.names; types = take depth scope.bound.types } }
+module _ {A : Type 0} (scope inner : Scope) (own : Option BoundVariables) (groups : List kept.VariableGroup) (body : Scope → Option A) where
+  by_body : (found : Option BoundVariables) (meant : Option A) → body inner ≡ meant → entered scope found ≡ Some (groups, inner) →
+      quantified scope found body ≡ option_map (λ m. (groups, m)) meant
+  unfolding entered quantified
+  by_body None meant h e = cc
+  by_body (Some o) meant h e =
+      let same : ◌≡◌ {A = List kept.VariableGroup × Scope} (o.groups, scope_within scope o.declared) (groups, inner) = cc in
+      rw (ap (λ (pair : List kept.VariableGroup × Scope). pair.0) same, ap (λ (pair : List kept.VariableGroup × Scope). pair.1) same, h) refl
 
-first_only : (names own : List (List ℕ)) (depth : ℕ) → depth ≡ length names → take depth (names ++ own) ≡ names
-first_only names own depth is = ap (λ n. take n (names ++ own)) is ∙ take-append_seam names own
+  pub body_refused : entered scope own ≡ Some (groups, inner) → body inner ≡ None → quantified scope own body ≡ None
+  body_refused e h = by_body own None h e
 
--- behind a quantifier the scope is as before
-pub left_again : (scope entered body after : Scope) (own : TypedVariables) (depth : ℕ) → entered ≡ scope_within scope own → body ≡ entered → after ≡ only depth body →
-    depth ≡ length scope.bound.names → depth ≡ length scope.bound.types → after ≡ scope
-unfolding scope_within
-left_again scope entered body after own depth enters same leaves names types =
-    leaves
-    ∙ ap (only depth) (same ∙ enters)
-    ∙ rw (first_only scope.bound.names own.names depth names, first_only scope.bound.types own.types depth types) refl
+  pub body_given : (meant : A) → entered scope own ≡ Some (groups, inner) → body inner ≡ Some meant → quantified scope own body ≡ Some (groups, meant)
+  body_given meant e h = by_body own (Some meant) h e

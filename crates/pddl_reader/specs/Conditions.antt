@@ -5,10 +5,15 @@ use Rattle.std.specs.Option.{option_map}
 use Rattle.formulas.specs.declared.terms.Term.{Term}
 use Rattle.formulas.specs.Tree.{Tree, parts_of}
 use Rattle.formulas.specs.Tree as tree
+use Rattle.formulas.specs.declared.variables.VariableGroup as kept
 use Rattle.pddl_syntax.specs.Optional.{followed_by, through}
-use Rattle.pddl_syntax.specs.Syntax.{FormulaForm, atom_formula, equality_formula, negation, conjunction, disjunction, implication, exists, for_all, FormulaForms, no_formulas, formula_then}
+use Rattle.pddl_syntax.specs.Syntax.{VariableGroup, FormulaForm, atom_formula, equality_formula, negation, conjunction, disjunction, implication, exists, for_all, FormulaForms, no_formulas, formula_then}
 use Rattle.pddl_reader.specs.Declarations.{Known, pattern_of, term_named}
 use Rattle.pddl_reader.specs.Scopes.{Scope, bound_by, quantified}
+use Rattle.pddl_reader.specs.declared.resolution.conditions.Junction.{Junction}
+use Rattle.pddl_reader.specs.declared.resolution.conditions.Junction.TheVariants.{And, Or}
+use Rattle.pddl_reader.specs.declared.resolution.conditions.Quantifier.{Quantifier}
+use Rattle.pddl_reader.specs.declared.resolution.conditions.Quantifier.TheVariants.{Exists, ForAll}
 
 -- the formula that two terms, of any types, stand for the same object, or for different ones, if both are known
 unfoldable pub equality_by : Bool → Option Term → Option Term → Option Tree
@@ -40,6 +45,26 @@ module _ (types : List (List ℕ)) (known : Known) where
     pub trees_meant : Scope → FormulaForms → Option (List Tree)
     trees_meant scope no_formulas = Some []
     trees_meant scope (formula_then formula formulas) = followed_by (tree_meant scope formula) (trees_meant scope formulas)
+
+-- formulas under `and` or `or`, as written
+abbrev pub joined_form : Junction → FormulaForms → FormulaForm
+joined_form And formulas = conjunction formulas
+joined_form Or formulas = disjunction formulas
+
+-- formulas under `and` or `or`
+abbrev pub joined : Junction → List Tree → Tree
+joined And trees = tree.conjunction (parts_of trees)
+joined Or trees = tree.disjunction (parts_of trees)
+
+-- a formula under a quantifier, as written
+abbrev pub quantified_form : Quantifier → List VariableGroup → FormulaForm → FormulaForm
+quantified_form Exists groups body = exists groups body
+quantified_form ForAll groups body = for_all groups body
+
+-- a formula under a quantifier
+abbrev pub quantification : Quantifier → List kept.VariableGroup → Tree → Tree
+quantification Exists groups body = tree.exists groups body
+quantification ForAll groups body = tree.for_all groups body
 
 -- the conjuncts of a formula, through any depth of `and` in `and`
 unfoldable mutual

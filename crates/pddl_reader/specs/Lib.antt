@@ -5,7 +5,9 @@ pub mod TypeCycles
 pub mod Objects
 pub mod Variables
 pub mod Scopes
+pub mod Bindings
 pub mod Declarations
+pub mod NewNames
 pub mod Functions
 pub mod Conditions
 pub mod Effects

@@ -1,6 +1,6 @@
 //! The readers of whole texts: the three layers, one after the other.
 
-ghost use Rattle.std.specs.Prelude.{◌≡◌, Some, Err};
+ghost use Rattle.std.specs.Prelude.{◌≡◌, None, Some, Err};
 ghost use Rattle.pddl_syntax.specs.declared.fault.ReadFault as read_fault;
 ghost use Rattle.pddl_syntax.specs.Reading.{Gives};
 ghost use Rattle.pddl_reader.specs.Texts.{domain_in_text, domain_of_text, problem_in_text, problem_of_text};
@@ -66,9 +66,22 @@ pub fn read_problem_in(
     ensures fault { (e : read_fault.ReadFault) → text_fault text.now ≡ Some e → result ≡ Err e }
 {
     check_text(text)?;
+    checked_problem(alloc, dialect, domain, text)
+}
+
+/// Reads a problem in a text that has no text fault.
+#[tactic(auto, using(crate::proofs::TextLemmas::problem_text_steps))]
+fn checked_problem(
+    alloc: Global,
+    dialect: Dialect,
+    domain: Domain,
+    text: &[u8],
+) -> Result<CostedTask, ReadFault>
+    requires { text_fault text.now ≡ None }
+    ensures { Gives (λ task. task) result (problem_in_text dialect domain text.now) }
+{
     let mut lookup = Lookup::Waiting(domain, text.len());
     let syntax = problem_text(alloc, dialect, text, &mut lookup)?;
-    lookup.take_all(alloc, &syntax)?;
-    let (domain, initial) = lookup.finish()?;
+    let (domain, initial) = lookup.whole(alloc, &syntax)?;
     resolve_problem(alloc, domain, initial, &syntax)
 }

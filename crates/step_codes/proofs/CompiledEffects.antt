@@ -1,6 +1,6 @@
 -- What programs find when instructions are added to them.
 
-use Rattle.std.proofs.Common.{◌≡◌, ℕ, zero, suc, ◌+◌, ◌<◌, Bool, true, false, cond, ◌&&◌, List, [], ◌∷◌, ◌++◌, Some, All, refl, sym, ap, ◌∙◌, subst, take, get_or, length, map, append-nil, append_assoc, arith}
+use Rattle.std.proofs.Common.{◌≡◌, Result, Ok, Err, OnOk, ℕ, zero, suc, ◌+◌, ◌<◌, Bool, true, false, cond, ◌&&◌, List, [], ◌∷◌, ◌++◌, Some, All, refl, sym, ap, ◌∙◌, subst, take, get_or, length, map, append-nil, append_assoc, arith}
 use Rattle.std.proofs.Math.Seq.{drop-length, drop-append_seam, take-append_seam}
 use Rattle.std.proofs.Math.Bool.{and-false}
 use Rattle.std.proofs.lemmas.List.Folds.{list_all_more}
@@ -42,6 +42,11 @@ bits_before old new keep state bits are = λ atom number e. are atom number (kee
 -- numbers of atoms are still that where more atoms have numbers
 pub numbers_stay : (old new : List Atom) → KeepsNumbers old new → (numbers : List ℕ) → All (IsNumber old) numbers → All (IsNumber new) numbers
 numbers_stay old new keep numbers h = λ i d lt. let found = h i d lt in (found.0, keep found.0 (get_or numbers i d) found.1)
+
+-- a fact that holds whether an outcome is a success or not
+pub ok_known : {T E P : Type 0} (outcome : Result T E) → P → OnOk outcome P
+ok_known (Ok value) p = p
+ok_known (Err e) p = tt
 
 -- nothing more is found
 pub more_nothing : {parts : TaskParts} (atoms : List Atom) (program : List Instruction) (found : FoundIn) → ((state : State) → KeepsStatics parts state → (truth : Bool) → found state truth ≡ []) → FindsMore parts atoms program program found

@@ -178,18 +178,13 @@ fn compile_change(
     if program.len() >= MOST_INSTRUCTIONS {
         return Ok(false);
     }
+    let objects = arguments.objects;
     let bound = room.bound.as_slice();
-    match short_number(
-        alloc,
-        pattern,
-        arguments.objects,
-        bound,
-        state,
-        &mut room.atom,
-    )? {
-        Some(number) => program.push(Instruction::Change { truth, number })?,
-        None => return Ok(false),
-    }
+    let found = short_number(alloc, pattern, objects, bound, state, &mut room.atom)?;
+    let Some(number) = found else {
+        return Ok(false);
+    };
+    program.push(Instruction::Change { truth, number })?;
     Ok(true)
 }
 

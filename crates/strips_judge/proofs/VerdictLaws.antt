@@ -22,6 +22,12 @@ success_as P Q (Err e) f p = tt
 pub without_value : {T P : Type 0} (outcome : Option T) → outcome ≡ None → IfNone outcome P → P
 without_value {T} {P} outcome none h = let Q : Option T → Type 0 = λ o. IfNone o P in subst Q none h
 
+-- a fact that holds whether there is a value or not
+pub if_none_known : {T E P : Type 0} (outcome : Result (Option T) E) → P → IfOk outcome (λ value. IfNone value P)
+if_none_known (Ok None) p = p
+if_none_known (Ok (Some value)) p = tt
+if_none_known (Err e) p = tt
+
 module _ (parts : TaskParts) (all : Verdict) (state : State) (steps : List StepText) (i : ℕ) (so_far : all ≡ verdict_from parts i state (drop i steps)) where
   -- one step more
   step_more : (step : StepText) → i < length steps → slice_get steps i ≡ Some step

@@ -1,10 +1,11 @@
 //! Which conditions do not hold in a state.
 //!
 //! Only a condition that fails gets memory of its own, and that ends the plan.
-ghost use Rattle.std.specs.Prelude.{◌≡◌, [], length, map, All, IfOk, OnOk};
+ghost use Rattle.std.specs.Prelude.{◌≡◌, [], ◌∷◌, ◌++◌, List, length, map, All, IfOk, OnOk};
 ghost use Rattle.indexmap.specs.IndexSet.{insert_key};
 ghost use Rattle.formulas.specs.Equality.{tree_eq};
 ghost use Rattle.formulas.specs.Grounding.{with_objects};
+ghost use Rattle.formulas.specs.Tree.{Tree};
 ghost use Rattle.formulas.specs.Within.{IsWithin};
 ghost use Rattle.strips_judge.specs.NumberedState.{state_of};
 ghost use Rattle.strips_judge.specs.Step.{missing};
@@ -33,12 +34,31 @@ pub(crate) fn missing(
 {
     let mut found = IndexSet::with_hasher(alloc, state.seed());
     for condition in conditions {
-        let is_met = holds(task, state, condition, objects, room)?;
-        if !is_met {
-            note(&mut found, ground(alloc, condition, objects, &[])?)?;
-        }
+        note_unmet(alloc, task, state, condition, objects, room, &mut found)?;
     }
     listed(alloc, found)
+}
+
+/// Adds a condition with these objects at the end if it does not hold, unless it is there.
+#[inline(always)]
+fn note_unmet(
+    alloc: Global,
+    task: &TaskIndex<'_>,
+    state: &mut NumberedState<'_>,
+    condition: &Formula,
+    objects: &[u16],
+    room: &mut Room,
+    found: &mut IndexSet<Formula, Seed>,
+) -> Result<(), AllocError>
+    requires { IsWithin (length objects.now) 0 condition.now }
+    ensures found { OnOk result ((before : List Tree) → found.old.keys ≡ missing task.now (state_of state.old) before
+        → found.new.keys ≡ missing task.now (state_of state.old) (before ++ with_objects objects.now [] condition.now ∷ [])) }
+    ensures same { state.new ≡ state.old }
+{
+    if holds(task, state, condition, objects, room)? {
+        return Ok(());
+    }
+    note(found, ground(alloc, condition, objects, &[])?)
 }
 
 /// Adds a condition at the end, unless it is there. Takes one hash, however many there are.

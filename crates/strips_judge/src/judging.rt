@@ -2,25 +2,27 @@
 //!
 //! The action of a step and its objects are found by the bytes of their names, and then the step is tested and applied. The list of objects and
 //! the one ground atom are used again for every step, and memory is taken only for an atom that becomes true for the first time.
-ghost use Rattle.std.specs.Prelude.{◌≡◌, IfOk, IfNone, Some, length};
+ghost use Rattle.std.specs.Prelude.{◌≡◌, All, IfOk, IfNone, Some, [], length, map};
+ghost use Rattle.formulas.specs.Grounding.{with_objects};
+ghost use Rattle.formulas.specs.Within.{IsWithin};
 ghost use Rattle.strips_task.specs.StepView.{step_shown};
 ghost use Rattle.strips_task.specs.Within.{IsActionWithin};
 ghost use Rattle.strips_judge.specs.NumberedState.{Grows, state_of};
 ghost use Rattle.strips_judge.specs.State.{is_in};
-ghost use Rattle.strips_judge.specs.Step.{objects_named, missing, hindrance, after_by, after};
+ghost use Rattle.strips_judge.specs.Step.{objects_named, missing, missing_why, hindrance, after_by, after};
 ghost use Rattle.strips_judge.specs.StepNumbers.{action_hindrance};
 ghost use Rattle.strips_judge.specs.Verdict.{goal_verdict, verdict_from, verdict};
 
 use crate::arguments::bind;
 use crate::conditions::missing;
 use crate::effects::{Arguments, apply};
-use crate::scratch::Scratch;
+use crate::scratch::{Room, Scratch};
 use crate::state::NumberedState;
 use crate::task_index::TaskIndex;
 use crate::unmet::Unmet;
 use crate::verdict::{Verdict, Why};
 use std::alloc::{AllocError, Global};
-use strips_task::{Action, Plan, StepList, StepView, Task};
+use strips_task::{Action, Formula, Plan, StepList, StepView, Task};
 
 /// How many cells there are for atoms of one object while one plan is judged: up to 128 KiB.
 const MOST_CELLS: usize = 32_768;
@@ -116,15 +118,10 @@ fn take_action(
     ensures next { IfOk result (λ why. IfNone why (state_of state.new
         ≡ after_by task.now (objects_named task.now (step_shown step.entry).args) (state_of state.old) (Some action.now))) }
 {
-    if let Some(why) = bind(task.task(), action, step, &mut scratch.objects)? {
+    if let Some(why) = hindrance(alloc, task, action, step, state, scratch)? {
         return Ok(Some(why));
     }
     let objects = scratch.objects.as_slice();
-    let conditions = action.pre.as_slice();
-    let unmet = missing(alloc, task, state, conditions, objects, &mut scratch.room)?;
-    if !unmet.is_empty() {
-        return Ok(Some(Why::Missing(Unmet::new(alloc, unmet)?)));
-    }
     let arguments = Arguments { task, objects };
     apply(
         alloc,
@@ -135,4 +132,49 @@ fn take_action(
         &mut scratch.changes,
     )?;
     Ok(None)
+}
+
+/// Why a step of an action is not applicable, if it is not. Otherwise its objects are in the room.
+#[inline(always)]
+fn hindrance(
+    alloc: Global,
+    task: &TaskIndex<'_>,
+    action: &Action,
+    step: StepView<'_>,
+    state: &mut NumberedState<'_>,
+    scratch: &mut Scratch,
+) -> Result<Option<Why>, AllocError>
+    requires { IsActionWithin (length task.now.parents) action.now }
+    ensures why { IfOk result (λ why. why ≡ action_hindrance task.now (state_of state.old) action.now (step_shown step.entry).args) }
+    ensures bound { IfOk result (λ why. IfNone why (scratch.new.objects.items ≡ objects_named task.now (step_shown step.entry).args)) }
+    ensures all { IfOk result (λ why. IfNone why (length scratch.new.objects.items ≡ length action.now.params)) }
+    ensures same { state.new ≡ state.old }
+{
+    if let Some(why) = bind(task.task(), action, step, &mut scratch.objects)? {
+        return Ok(Some(why));
+    }
+    let objects = scratch.objects.as_slice();
+    let conditions = action.pre.as_slice();
+    why_missing(alloc, task, state, conditions, objects, &mut scratch.room)
+}
+
+/// Why a step with these objects is not applicable, if some of these conditions do not hold.
+#[inline(always)]
+fn why_missing(
+    alloc: Global,
+    task: &TaskIndex<'_>,
+    state: &mut NumberedState<'_>,
+    conditions: &[Formula],
+    objects: &[u16],
+    room: &mut Room,
+) -> Result<Option<Why>, AllocError>
+    requires { All (IsWithin (length objects.now) 0) conditions.now }
+    ensures why { IfOk result (λ why. why ≡ missing_why (missing task.now (state_of state.old) (map (with_objects objects.now []) conditions.now))) }
+    ensures same { state.new ≡ state.old }
+{
+    let unmet = missing(alloc, task, state, conditions, objects, room)?;
+    if unmet.is_empty() {
+        return Ok(None);
+    }
+    Ok(Some(Why::Missing(Unmet::new(alloc, unmet)?)))
 }

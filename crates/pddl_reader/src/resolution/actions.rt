@@ -1,23 +1,24 @@
 //! The table of actions.
 
-ghost use Rattle.std.specs.Prelude.{◌≡◌, ◌≤◌, length, Some};
+ghost use Rattle.std.specs.Prelude.{◌≡◌, ◌≤◌, ◌++◌, length, [], ◌∷◌, None, OnOk, Some};
+ghost use Rattle.strips_task.specs.Names.{number_named};
 ghost use Rattle.strips_task.specs.WellFormed.{most_types, most_variables};
 ghost use Rattle.std.specs.Map.{keys_of};
 ghost use Rattle.pddl_reader.specs.Resolved.{variables_form, vocabulary_form};
 ghost use Rattle.pddl_syntax.specs.Forms.{action_forms, action_syntax_form};
 ghost use Rattle.pddl_syntax.specs.Reading.{Gives, Puts};
-ghost use Rattle.pddl_reader.specs.Domain.{action_by, action_meant, actions_from, no_actions, with_action_of};
+ghost use Rattle.pddl_reader.specs.Domain.{action_by, action_meant, actions_from, no_actions, tables_with, with_action_of};
 
 use crate::resolution::conditions::part_conditions;
 use crate::resolution::effects::{Effects, part_effects};
-use crate::resolution::names::{check_new, name};
+use crate::resolution::names::new_name;
 use crate::resolution::parts::part_variables;
 use crate::resolution::scope::Scope;
 use crate::resolution::variables::{DeclaredVariables, declared_variables};
 use crate::resolution::vocabulary::Vocabulary;
 use pddl_syntax::{ActionSyntax, ReadFault};
-use std::alloc::Global;
-use strips_task::{Action, Alternatives, Increases, NameTable, Seq};
+use std::alloc::{AllocError, Global};
+use strips_task::{Action, Alternatives, Increases, Name, NameTable, Seq};
 
 /// The table of the declared predicates, with the types that each argument may have.
 pub(crate) type Predicates = NameTable<Seq<Alternatives>>;
@@ -89,6 +90,17 @@ pub(crate) struct ActionTables {
     pub(crate) increases: Seq<Increases>,
 }
 
+/// Adds an action under a new name.
+fn put_action(tables: &mut ActionTables, name: Name, action: CostedAction) -> Result<(), AllocError>
+    requires { number_named tables.old.actions name ≡ None }
+    ensures { OnOk result (tables.new ≡ tables_with tables.old action (tables.old.actions ++ (name, action.action) ∷ [])) }
+{
+    let CostedAction { action, increases } = action;
+    tables.actions.push(name, action)?;
+    tables.increases.push(increases)?;
+    Ok(())
+}
+
 /// Declares one more action.
 #[tactic(auto, using(crate::proofs::ActionMeaning::declaration_steps))]
 fn declare_action(
@@ -101,11 +113,9 @@ fn declare_action(
     requires { length types.now ≤ most_types }
     ensures { Puts result (with_action_of (keys_of types.now) (vocabulary_form vocabulary.now) tables.old (action_syntax_form syntax.now)) tables.new }
 {
-    let name = name(alloc, syntax.name)?;
-    check_new(&tables.actions, &name, syntax.name)?;
-    let CostedAction { action, increases } = action(alloc, types, vocabulary, syntax)?;
-    tables.actions.push(name, action)?;
-    tables.increases.push(increases)?;
+    let name = new_name(alloc, &tables.actions, syntax.name)?;
+    let action = action(alloc, types, vocabulary, syntax)?;
+    put_action(tables, name, action)?;
     Ok(())
 }
 

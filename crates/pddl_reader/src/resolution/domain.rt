@@ -13,11 +13,11 @@ ghost use Rattle.pddl_reader.specs.Assembled.{domain_assembled};
 
 use crate::resolution::actions::{ActionTables, Predicates, actions};
 use crate::resolution::functions::functions;
-use crate::resolution::names::{check_new, name};
+use crate::resolution::names::{name, new_name};
 use crate::resolution::objects::more_objects;
 use crate::resolution::parts::part_items;
 use crate::resolution::types::{KnownTypes, types};
-use crate::resolution::variables::argument_types;
+use crate::resolution::variables::listed_types;
 use crate::resolution::vocabulary::Vocabulary;
 use pddl_syntax::{Dialect, DomainSyntax, NameGroup, PredicateSyntax, ReadFault};
 use std::alloc::Global;
@@ -113,10 +113,8 @@ fn declare_predicate(
     ensures within { length table.new ≤ most_predicates }
     ensures given { Puts result (with_predicate (keys_of types.now) table.old (predicate_form predicate.now)) table.new }
 {
-    let name = name(alloc, predicate.name)?;
-    check_new(table, &name, predicate.name)?;
-    let variables = predicate.variables.groups(alloc)?;
-    let argument_types = argument_types(alloc, types, variables.as_slice())?;
+    let name = new_name(alloc, table, predicate.name)?;
+    let argument_types = listed_types(alloc, types, &predicate.variables)?;
     table.push(name, argument_types)?;
     Ok(())
 }

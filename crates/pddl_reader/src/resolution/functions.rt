@@ -4,14 +4,16 @@ ghost use Rattle.std.specs.Prelude.{◌≡◌, ◌<◌, ◌≤◌, length, [], I
 ghost use Rattle.strips_task.specs.WellFormed.{most_predicates, most_types};
 ghost use Rattle.std.specs.Map.{keys_of};
 ghost use Rattle.pddl_syntax.specs.Forms.{amount_form, predicate_form, predicate_forms, variable_groups};
+ghost use Rattle.pddl_syntax.specs.Optional.{guard};
 ghost use Rattle.pddl_syntax.specs.Reading.{Allows, Gives, Puts};
 ghost use Rattle.pddl_reader.specs.Domain.{functions_from, may_have, with_function};
 ghost use Rattle.pddl_reader.specs.Functions.{amount_meant, costs_of, total_cost_number, with_increase};
 ghost use Rattle.pddl_reader.specs.Resolved.{known_form, vocabulary_form};
+ghost use Rattle.pddl_reader.specs.Variables.{argument_types_of};
 
 use crate::resolution::actions::Predicates;
 use crate::resolution::atoms::pattern;
-use crate::resolution::names::{check_new, name};
+use crate::resolution::names::new_name;
 use crate::resolution::scope::Scope;
 use crate::resolution::tables::Declared;
 use crate::resolution::variables::argument_types;
@@ -21,7 +23,8 @@ use pddl_syntax::{
 };
 use std::alloc::Global;
 use strips_task::{
-    Amount, Costs, FunctionValues, Increases, MOST_INCREASES, Name, NameTable, Pattern, Seq,
+    Alternatives, Amount, Costs, FunctionValues, Increases, MOST_INCREASES, Name, NameTable,
+    Pattern, Seq,
 };
 
 /// The number of the function `total-cost`, if it is declared.
@@ -51,6 +54,22 @@ fn check_variables(
     Ok(())
 }
 
+/// The types of a function's arguments, if a function of this name may have them.
+#[tactic(auto, using(crate::proofs::FunctionLemmas::function_types_steps))]
+fn function_types(
+    alloc: Global,
+    types: &NameTable<()>,
+    name: &Name,
+    function: &PredicateSyntax<'_>,
+) -> Result<Seq<Alternatives>, ReadFault>
+    requires { length types.now ≤ most_types }
+    ensures { Gives (λ argument_types. argument_types) result (guard (may_have name.now function.now.variables) (argument_types_of (keys_of types.now) function.now.variables)) }
+{
+    let variables = function.variables.groups(alloc)?;
+    check_variables(name, function.name, variables.as_slice())?;
+    argument_types(alloc, types, variables.as_slice())
+}
+
 /// Declares one more function.
 #[tactic(auto, using(crate::proofs::FunctionLemmas::function_steps))]
 fn declare_function(
@@ -64,11 +83,8 @@ fn declare_function(
     ensures within { length table.new ≤ most_predicates }
     ensures given { Puts result (with_function (keys_of types.now) table.old (predicate_form function.now)) table.new }
 {
-    let name = name(alloc, function.name)?;
-    check_new(table, &name, function.name)?;
-    let variables = function.variables.groups(alloc)?;
-    check_variables(&name, function.name, variables.as_slice())?;
-    let argument_types = argument_types(alloc, types, variables.as_slice())?;
+    let name = new_name(alloc, table, function.name)?;
+    let argument_types = function_types(alloc, types, &name, function)?;
     table.push(name, argument_types)?;
     Ok(())
 }

@@ -203,13 +203,20 @@ impl Lookup {
         }
     }
 
+    /// The look-up with these objects, if it waits for them.
+    #[tactic(auto, using(crate::proofs::LookupLemmas::lookup_steps))]
+    fn with_objects(self, alloc: Global, objects: &[NameGroup<'_>]) -> Result<Lookup, AllocError>
+        ensures { IfOk result (λ lookup. lookup ≡ lookup_begun self (name_groups objects.now)) }
+    {
+        match self {
+            Lookup::Waiting(domain, size) => Lookup::over(alloc, domain, size, objects),
+            begun => Ok(begun),
+        }
+    }
+
     /// Takes all that a problem gives, unless it was taken while the text was read.
     #[tactic(auto, using(crate::proofs::LookupLemmas::lookup_steps))]
-    pub(crate) fn take_all(
-        &mut self,
-        alloc: Global,
-        syntax: &ProblemSyntax<'_>,
-    ) -> Result<(), ReadFault>
+    fn take_all(&mut self, alloc: Global, syntax: &ProblemSyntax<'_>) -> Result<(), ReadFault>
         ensures whole { OnOk result ((domain : DomainValue) → (size : ℕ)
             → HasTakenAll lookup_begun lookup_given (Waiting domain size) self.old (problem_syntax_form syntax.now)
             → self.new ≡ whole_lookup domain size (problem_syntax_form syntax.now)) }
@@ -228,7 +235,7 @@ impl Lookup {
 
     /// The domain with the objects, and what is given initially.
     #[tactic(auto, using(crate::proofs::LookupLemmas::lookup_steps))]
-    pub(crate) fn finish(self) -> Result<(Domain, InitialState), ReadFault>
+    fn finish(self) -> Result<(Domain, InitialState), ReadFault>
         requires { has_begun self ≡ true }
         ensures { Gives (λ found. found) result (looked_up self) }
     {
@@ -237,6 +244,20 @@ impl Lookup {
             Lookup::Looking(domain, initial) => Ok((domain, initial)),
             Lookup::Refused(refusal) => Err(refusal.fault()),
         }
+    }
+
+    /// The domain with the objects of a problem, and all that the problem gives initially.
+    pub(crate) fn whole(
+        self,
+        alloc: Global,
+        syntax: &ProblemSyntax<'_>,
+    ) -> Result<(Domain, InitialState), ReadFault>
+        ensures { (domain : DomainValue) → (size : ℕ) → HasTakenAll lookup_begun lookup_given (Waiting domain size) self (problem_syntax_form syntax.now)
+            → Gives (λ found. found) result (looked_up (whole_lookup domain size (problem_syntax_form syntax.now))) }
+    {
+        let mut lookup = self;
+        lookup.take_all(alloc, syntax)?;
+        lookup.finish()
     }
 }
 
@@ -247,10 +268,8 @@ impl InitialTaker for Lookup {
 
     #[tactic(auto, using(crate::proofs::LookupLemmas::lookup_steps))]
     fn begin(&mut self, alloc: Global, objects: &[NameGroup<'_>]) -> Result<(), AllocError> {
-        match mem::replace(self, Lookup::Refused(Refusal::any())) {
-            Lookup::Waiting(domain, size) => *self = Lookup::over(alloc, domain, size, objects)?,
-            begun => *self = begun,
-        }
+        let lookup = mem::replace(self, Lookup::Refused(Refusal::any()));
+        *self = lookup.with_objects(alloc, objects)?;
         Ok(())
     }
 

@@ -5,7 +5,8 @@ ghost use Rattle.strips_task.specs.WellFormed.{most_predicates};
 ghost use Rattle.std.specs.Str.{bytes_eq};
 ghost use Rattle.pddl_words.specs.Words.{folded};
 ghost use Rattle.strips_task.specs.Names.{number_named};
-ghost use Rattle.pddl_reader.specs.Declarations.{declared, may_declare, predicate_number, takes_terms};
+ghost use Rattle.pddl_reader.specs.Declarations.{may_declare, predicate_number, takes_terms};
+ghost use Rattle.pddl_reader.specs.NewNames.{GivesNew};
 ghost use Rattle.pddl_syntax.specs.Forms.{atom_form};
 ghost use Rattle.pddl_syntax.specs.Reading.{Allows, Gives, GivesOption, ReadsName};
 
@@ -48,11 +49,7 @@ pub(crate) fn is_same_name(one: &Name, other: &Name) -> bool
 /// Tests that one more predicate, function or action may be declared under a name. There may be as many functions, and as many actions, as
 /// predicates.
 #[tactic(auto, using(crate::proofs::TableLemmas::may_steps))]
-pub(crate) fn check_new<V>(
-    table: &NameTable<V>,
-    name: &Name,
-    word: NameWord<'_>,
-) -> Result<(), ReadFault>
+fn check_new<V>(table: &NameTable<V>, name: &Name, word: NameWord<'_>) -> Result<(), ReadFault>
     ensures { Allows result (may_declare most_predicates table.now name.now) }
 {
     if table.number_of(name.as_bytes()).is_some() {
@@ -62,6 +59,19 @@ pub(crate) fn check_new<V>(
         return Err(ReadFault::new(FaultKind::TooMany, word.span));
     }
     Ok(())
+}
+
+/// The name that a word stands for, if one more predicate, function or action may be declared under it.
+pub(crate) fn new_name<V>(
+    alloc: Global,
+    table: &NameTable<V>,
+    word: NameWord<'_>,
+) -> Result<Name, ReadFault>
+    ensures { GivesNew result (folded word.entry.text.now) (may_declare most_predicates table.now (folded word.entry.text.now)) }
+{
+    let name = name(alloc, word)?;
+    check_new(table, &name, word)?;
+    Ok(name)
 }
 
 /// Whether the predicate with a number takes `count` terms.

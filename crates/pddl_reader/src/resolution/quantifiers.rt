@@ -1,13 +1,15 @@
 //! The variables of quantifiers.
 
-ghost use Rattle.std.specs.Prelude.{◌≡◌, ◌≤◌, drop, length};
+ghost use Rattle.std.specs.Prelude.{◌≡◌, ◌≤◌, drop, length, IfOk};
 ghost use Rattle.std.specs.Map.{keys_of};
 ghost use Rattle.strips_task.specs.WellFormed.{most_types};
 ghost use Rattle.pddl_syntax.specs.Forms.{variable_group_form, variable_groups, word_forms};
 ghost use Rattle.pddl_syntax.specs.Reading.{Gives, Puts};
 ghost use Rattle.pddl_reader.specs.Resolved.{bound_form};
+ghost use Rattle.pddl_reader.specs.Bindings.{entered, outside};
 ghost use Rattle.pddl_reader.specs.Scopes.{all_unmarked, bound_by, group_bound, unmarked};
 
+use crate::resolution::scope::Scope;
 use crate::resolution::variables::{DeclaredVariables, declare_group};
 use pddl_syntax::{FaultKind, ReadFault, VariableGroup, Word};
 use pddl_words::{WordKind, word_kind};
@@ -19,6 +21,15 @@ use strips_task::{Name, NameTable, Seq};
 pub(crate) struct BoundVariables<'a> {
     pub(crate) declared: DeclaredVariables<'a>,
     pub(crate) groups: Seq<strips_task::VariableGroup>,
+}
+
+/// A quantifier whose variables a scope binds.
+#[derive(Drop)]
+pub(crate) struct Binding {
+    /// Its variables in their groups.
+    pub(crate) groups: Seq<strips_task::VariableGroup>,
+    /// How many variables the quantifiers around it bind.
+    pub(crate) depth: usize,
 }
 
 /// What follows the first byte of a word.
@@ -76,7 +87,7 @@ fn bind_group<'a>(
 
 /// The variables that the groups of a quantifier bind.
 #[tactic(auto, using(crate::proofs::Through::through_steps, crate::proofs::QuantifierMeaning::bound_steps))]
-pub(crate) fn bound_variables<'a>(
+fn bound_variables<'a>(
     alloc: Global,
     types: &NameTable<()>,
     groups: &[VariableGroup<'a>],
@@ -92,4 +103,22 @@ pub(crate) fn bound_variables<'a>(
         bind_group(alloc, types, &mut bound, group)?;
     }
     Ok(bound)
+}
+
+/// Binds the variables of a quantifier, before its body is read.
+#[tactic(auto, using(crate::proofs::QuantifierMeaning::entered_steps))]
+pub(crate) fn bind<'a>(
+    alloc: Global,
+    types: &NameTable<()>,
+    scope: &mut Scope<'a>,
+    groups: &[VariableGroup<'a>],
+) -> Result<Binding, ReadFault>
+    requires { length types.now ≤ most_types }
+    ensures meaning { Gives (λ binding. (binding.groups, scope.new)) result (entered scope.old (bound_by (keys_of types.now) (variable_groups groups.now))) }
+    ensures depth { IfOk result (λ binding. outside binding.depth scope.new ≡ scope.old) }
+{
+    let BoundVariables { declared, groups } = bound_variables(alloc, types, groups)?;
+    let depth = scope.depth();
+    scope.enter(declared)?;
+    Ok(Binding { groups, depth })
 }

@@ -20,7 +20,7 @@ use crate::resolution::tables::Declared;
 use pddl_words::RowWords;
 use std::alloc::{AllocError, Global};
 use std::marker::Model;
-use strips_task::{Alternatives, Atom, AtomKey, InitialAtoms, Seed, object_fits};
+use strips_task::{Alternatives, Atom, AtomKey, InitialAtoms, Seed, ShortSeq, object_fits};
 
 /// How many rows are looked up before their atoms are added.
 const BATCH: usize = 32;
@@ -128,27 +128,6 @@ fn fitting<'n>(known: &Declared<'_>, numbers: &'n [u16]) -> Option<(u16, &'n [u1
     Some((*pred, objects))
 }
 
-/// The key of the atom that a row stands for, if its words are known names as they are written, and its objects fit and are at most four. The last
-/// argument is room for numbers.
-#[inline(always)]
-fn row_key(
-    known: &Declared<'_>,
-    row: &[u8],
-    numbers: &mut Vec<u16>,
-) -> Result<Option<AtomKey>, AllocError>
-    ensures names { IfOk result (λ found. IfSome found (λ _. AreNames row.now)) }
-    ensures key { IfOk result (λ found. IfSome found (λ key. IsKeyOf (atom_of key) key)) }
-    ensures atom { IfOk result (λ found. IfSome found (λ key. ground_of (known_form known.now) (atom_spelled row.now) ≡ Some (atom_of key))) }
-{
-    if !find_numbers(known, row, numbers)? {
-        return Ok(None);
-    }
-    let Some((pred, objects)) = fitting(known, numbers.as_slice()) else {
-        return Ok(None);
-    };
-    Ok(AtomKey::with(pred, objects))
-}
-
 /// Adds the atoms of keys to a list. First it asks how many are surely new, one right after the other, so that the processor waits for several reads of the
 /// table at once. Atoms that are pushed right afterwards find their part of the table in the cache. The text has room for about `expected` atoms in
 /// all, on which no answer depends.
@@ -200,6 +179,7 @@ fn room_for(distinct: usize, new: usize, expected: usize) -> usize {
 /// them.
 #[derive(Drop)]
 pub(crate) struct AtomsOfRows {
+    alloc: Global,
     list: InitialAtoms,
     keys: Vec<AtomKey>,
     /// Room for the numbers of a row.
@@ -226,6 +206,7 @@ impl AtomsOfRows {
         ensures { result ≡ [] }
     {
         AtomsOfRows {
+            alloc,
             list: InitialAtoms::new(alloc, seed),
             keys: Vec::new(alloc),
             numbers: Vec::new(alloc),
@@ -233,8 +214,7 @@ impl AtomsOfRows {
         }
     }
 
-    /// Adds the atom that a row stands for, if its words are known names as they are written, and its objects fit and are at most four. Returns whether
-    /// it did.
+    /// Adds the atom that a row stands for, if its words are known names as they are written, and its objects fit. Returns whether it did.
     #[tactic(auto, using(crate::proofs::InitialLemmas::atom_steps))]
     #[inline(always)]
     pub(crate) fn push_row(&mut self, known: &Declared<'_>, row: &[u8]) -> Result<bool, AllocError>
@@ -242,10 +222,19 @@ impl AtomsOfRows {
         ensures added { IfOk result (λ is_added. IsTrue is_added → with_atom self.old true (ground_of (known_form known.now) (atom_spelled row.now)) ≡ Some self.new) }
         ensures left { IfOk result (λ is_added. is_added ≡ false → self.new ≡ self.old) }
     {
-        let Some(key) = row_key(known, row, &mut self.numbers)? else {
+        if !find_numbers(known, row, &mut self.numbers)? {
+            return Ok(false);
+        }
+        let Some((pred, objects)) = fitting(known, self.numbers.as_slice()) else {
             return Ok(false);
         };
-        self.push_key(key)?;
+        match AtomKey::with(pred, objects) {
+            Some(key) => self.push_key(key)?,
+            None => {
+                let args = ShortSeq::from_slice(self.alloc, objects)?;
+                self.push(Atom { pred, args })?;
+            }
+        }
         Ok(true)
     }
 
@@ -277,6 +266,7 @@ impl AtomsOfRows {
     {
         add_keys(&mut self.list, &mut self.keys, self.expected)?;
         let AtomsOfRows {
+            alloc: _,
             list,
             keys: _,
             numbers: _,

@@ -1,8 +1,9 @@
 //! The tables in which the names of atoms are looked up.
 
 ghost use Rattle.std.specs.Prelude.{◌≡◌, ◌≤◌, length};
-ghost use Rattle.strips_task.specs.WellFormed.{most_objects, most_predicates};
+ghost use Rattle.strips_task.specs.WellFormed.{most_objects, most_predicates, most_types};
 
+use std::alloc::Global;
 use strips_task::{Alternatives, NameTable, Seq, TypeList};
 
 /// What atoms may name: types with their order, objects and predicates.
@@ -34,4 +35,13 @@ impl<'d> Declared<'d> {
             predicates,
         }
     }
+}
+
+/// What conditions and effects may name, and the memory of what they stand for.
+#[derive(Clone, Copy)]
+pub(crate) struct Context<'d> {
+    pub(crate) alloc: Global,
+    pub(crate) types: &'d NameTable<()>,
+    pub(crate) known: Declared<'d>,
+    ghost few_types: { length types.now ≤ most_types },
 }

@@ -10,7 +10,7 @@ ghost use Rattle.pddl_reader.specs.Resolved.{variables_form};
 ghost use Rattle.pddl_reader.specs.Variables.{alternatives_of, group_named, with_group_types, variable_named, variable_number, variables_of, argument_types_with, argument_types_of};
 
 use crate::resolution::objects::type_number;
-use pddl_syntax::{FaultKind, NameWord, ReadFault, VariableGroup, Word};
+use pddl_syntax::{FaultKind, NameWord, ReadFault, VariableGroup, VariableList, Word};
 use pddl_tokens::same_folded;
 use std::alloc::{AllocError, Global};
 use strips_task::{Alternatives, MOST_ALTERNATIVES, MOST_VARIABLES, NameTable, Seq};
@@ -113,6 +113,19 @@ pub(crate) fn argument_types(
         put_group(alloc, types, &mut argument_types, group)?;
     }
     Ok(argument_types)
+}
+
+/// The types of the arguments that a list of variables stands for.
+pub(crate) fn listed_types(
+    alloc: Global,
+    types: &NameTable<()>,
+    variables: &VariableList<'_>,
+) -> Result<Seq<Alternatives>, ReadFault>
+    requires { length types.now ≤ most_types }
+    ensures { Gives (λ argument_types. argument_types) result (argument_types_of (keys_of types.now) variables.now) }
+{
+    let groups = variables.groups(alloc)?;
+    argument_types(alloc, types, groups.as_slice())
 }
 
 /// The variables of a list: their names, and for each the types that it may have.

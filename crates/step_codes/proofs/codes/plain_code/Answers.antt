@@ -1,7 +1,8 @@
-use Rattle.std.proofs.Common.{List, [], map, subst, sym}
+use Rattle.std.proofs.Common.{All, List, [], ◌∙◌, length, map, subst, sym}
 use Rattle.formulas.specs.declared.terms.Pattern.{Pattern}
 use Rattle.formulas.specs.Grounding.{with_objects}
 use Rattle.formulas.specs.Tree.{Tree}
+use Rattle.formulas.specs.Within.{IsPatternWithin, IsWithin}
 use Rattle.step_codes.specs.Codes.{Code, AsksFor}
 use Rattle.strips_judge.specs.NumberedState.{AreNumbers}
 use Rattle.strips_judge.specs.Grounding.{ground}
@@ -9,6 +10,21 @@ use Rattle.step_codes.proofs.CodeLaws.{asks_kept, asks_whatever}
 use Rattle.strips_judge.proofs.AtomNumbers.{numbers_kept}
 use Rattle.strips_judge.proofs.Growth.{grows_twice}
 use Rattle.step_codes.proofs.codes.plain_code.Goals as goal
+
+pub ask_all-requires : goal.ask_all-requires
+ask_all-requires c = subst (λ (l : List Tree). All (IsWithin (length c.args.arguments.objects.now) 0) l) (sym c.as_slice.ensures) c.requires.pre
+
+pub number_all-requires : goal.number_all-requires
+number_all-requires c = subst (λ (l : List Pattern). All (IsPatternWithin (length c.args.arguments.objects.now) 0) l) (sym c.as_slice-deletes.ensures) c.requires.del
+
+pub number_all-requires-2 : goal.number_all-requires-2
+number_all-requires-2 c = subst (λ (l : List Pattern). All (IsPatternWithin (length c.args.arguments.objects.now) 0) l) (sym c.as_slice-adds.ensures) c.requires.add
+
+pub returns-then-not-branch-2-clause-state : goal.returns-then-not-branch-2-clause-state
+returns-then-not-branch-2-clause-state c = c.number_all.ensures.state ∙ c.ask_all.ensures.state
+
+pub returns-clause-state : goal.returns-clause-state
+returns-clause-state c = c.number_all-2.ensures.state ∙ c.number_all.ensures.state ∙ c.ask_all.ensures.state
 
 pub returns-in_err-number_all-clause-grows : goal.returns-in_err-number_all-clause-grows
 returns-in_err-number_all-clause-grows c = grows_twice c.args.state.now c.ask_all.new.state c.number_all.new.state c.ask_all.ensures.grows c.number_all.ensures.grows

@@ -1,18 +1,20 @@
-use Rattle.std.proofs.Common.{rules, ◌≡◌, ◌<◌, ◌≤◌, ◌+◌, ◌*◌, ℕ, false, List, [], ◌∷◌, ◌++◌, drop, take, length, sym, ap, ◌∙◌, refl, subst, arith, tests}
+use Rattle.std.proofs.Common.{rules, ◌≡◌, ◌<◌, ◌≤◌, ◌+◌, ◌*◌, ℕ, false, List, [], ◌∷◌, ◌++◌, drop, take, length, sym, ap, ◌∙◌, refl, subst, length-append, arith, tests}
+use Rattle.std.proofs.lemmas.Option.{get_or_from_slice_get}
+use Rattle.formulas.specs.declared.variables.VariableGroup.{VariableGroup}
 use Rattle.formulas.specs.EffectNodes.{effect_of}
 use Rattle.formulas.specs.EffectTree.{conditional, effect_parts_of}
 use Rattle.formulas.specs.Tree.{conjunction, no_parts}
 use Rattle.formulas.specs.Variables.{variable_types}
-use Rattle.formulas.specs.Within.{IsEffectWithin}
+use Rattle.formulas.specs.Within.{IsEffectWithin, IsWithin}
 use Rattle.step_codes.specs.Compiling.{FindsMore, FoundIn, where_it_holds}
 use Rattle.strips_judge.specs.Gathered.{effect_found, effects_found, choices_found}
 use Rattle.strips_judge.specs.Listing.{candidates_of}
 use Rattle.strips_judge.specs.NumberedState.{Grows, state_of}
-use Rattle.step_codes.proofs.CompiledEffects.{more_nothing, more_as, more_both, alone_is, when_is, never_is, no_choice_is}
+use Rattle.step_codes.proofs.CompiledEffects.{ok_known, more_nothing, more_as, more_both, alone_is, when_is, never_is, no_choice_is}
 use Rattle.strips_judge.proofs.EffectWeights.{effect_weight, most_effect_weight, weighs_less, joint_heavier}
 use Rattle.strips_judge.proofs.Evaluations.{one_less_left}
-use Rattle.strips_judge.proofs.Gathering.{joint_is, universal_is, joint_within, item_within, one_effect_more, no_choice, of_some, one_fits, one_unfit, all_objects, effect_next_within, effect_all_within, pushed_length, popped}
-use Rattle.strips_judge.proofs.Growth.{grows_twice}
+use Rattle.strips_judge.proofs.Gathering.{ok_as, joint_is, universal_is, joint_within, item_within, one_effect_more, no_choice, of_some, one_fits, one_unfit, all_objects, effect_next_within, effect_all_within, pushed_length, popped}
+use Rattle.strips_judge.proofs.Growth.{grows_same, grows_twice}
 use Rattle.strips_judge.proofs.VerdictLaws.{success_as}
 use Rattle.step_codes.proofs.compiling.+compile.Goals as goal
 use Rattle.step_codes.proofs.compiling.+compile.Goals.{compile_choices-then-object_fits+in_ok-push+in_ok-compiled+else-not-compiled, compile_choices-else-object_fits}
@@ -25,6 +27,64 @@ compile-compile_all-requires t c =
           search rules),
       joint_within (length c.args.arguments.objects.now) (length c.args.room.now.bound.items) c.args.effect.now c.in-And.parts.items c.deref.result.now c.deref.ensures.value is c.requires,
     )
+
+pub compile-compile_change-requires : goal.compile-compile_change-requires
+compile-compile_change-requires t c =
+    subst (IsEffectWithin (length c.args.arguments.objects.now) (length c.args.room.now.bound.items)) (sym c.node.ensures ∙ ap effect_of c.in-Atom.is) c.requires
+
+pub compile-is_never_true-requires : goal.compile-is_never_true-requires
+compile-is_never_true-requires t c =
+    (subst (IsEffectWithin (length c.args.arguments.objects.now) (length c.args.room.now.bound.items)) (sym c.node.ensures ∙ ap effect_of c.in-When.is) c.requires).0
+
+pub compile-compile_choices-requires : goal.compile-compile_choices-requires
+compile-compile_choices-requires t c =
+    let params = length c.args.arguments.objects.now in
+    let bound = length c.args.room.now.bound.items in
+    let is = sym c.node.ensures ∙ ap effect_of c.in-ForAll.is in (
+      (let lighter : effect_weight c.deref-in-ForAll.result.now + 2 * length (variable_types c.as_slice-in-ForAll.result.now) + 1 < effect_weight c.args.effect.now =
+          omega (arith, ap effect_weight is, ap effect_weight c.deref-in-ForAll.ensures, ap (λ l. length (variable_types l)) c.as_slice-in-ForAll.ensures) in
+          search rules),
+      (
+        (let fits : 0 ≤ bound = omega arith in fits),
+        subst (λ (groups : List VariableGroup). IsEffectWithin params (bound + length (variable_types groups)) c.deref-in-ForAll.result.now) (sym c.as_slice-in-ForAll.ensures)
+            (subst (IsEffectWithin params (bound + length (variable_types c.in-ForAll.groups))) (sym c.deref-in-ForAll.ensures) (subst (IsEffectWithin params bound) is c.requires)),
+      ),
+    )
+
+pub compile-returns-else-branch-clause-bound : goal.compile-returns-else-branch-clause-bound
+compile-returns-else-branch-clause-bound t c =
+    ok_as c.compile_when.result (λ same. ◌∙◌ {A = List ℕ} same (ap (λ bound. bound.items) c.is_never_true.ensures.bound)) c.compile_when.ensures.bound
+
+pub compile_when-compile-requires : goal.compile_when-compile-requires
+compile_when-compile-requires t c = (
+  (let lighter : effect_weight c.args.body.now < effect_weight c.args.body.now + 1 = omega arith in search rules),
+  c.requires.body,
+)
+
+pub compile_when-put_tests-requires-clause-within : goal.compile_when-put_tests-requires-clause-within
+compile_when-put_tests-requires-clause-within t c =
+    subst (λ (l : List ℕ). IsWithin (length c.args.arguments.objects.now) (length l) c.args.condition.now) (sym c.in_ok-compile.ensures.bound) c.requires.condition
+
+pub compile_when-put_tests-requires-clause-start : goal.compile_when-put_tests-requires-clause-start
+compile_when-put_tests-requires-clause-start t c =
+    let found = c.in_ok-compile.ensures.compiled c.if-not-branch.false in
+    let longer : length c.compile.new.program.items ≡ length c.args.program.now.items + length found.more = ap length found.is ∙ length-append c.args.program.now.items found.more in
+    omega (arith, longer, c.len-start.ensures)
+
+pub compile_when-returns-clause-state : goal.compile_when-returns-clause-state
+compile_when-returns-clause-state t c = c.put_tests.ensures.state ∙ c.compile.ensures.state
+
+pub compile_when-returns-clause-bound : goal.compile_when-returns-clause-bound
+compile_when-returns-clause-bound t c =
+    ok_known c.put_tests.result (◌∙◌ {A = List ℕ} (ap (λ bound. bound.items) c.put_tests.ensures.bound) c.in_ok-compile.ensures.bound)
+
+pub compile_choices-object_fits-requires : goal.compile_choices-object_fits-requires
+compile_choices-object_fits-requires t c =
+    let candidates = candidates_of c.candidates-candidates.result in
+    let object = c.get-object.result in
+    let lt : c.loop-index.index < length candidates = omega (arith, c.loop-index-test.true, c.len-index-end.ensures) in
+    subst (λ n. n < length c.args.arguments.task.now.objects) (get_or_from_slice_get candidates c.loop-index.index object object c.get-object.ensures)
+    (c.candidates-candidates.ensures.known c.loop-index.index object lt)
 
 pub compile-returns-in-Atom-clause-compiled : goal.compile-returns-in-Atom-clause-compiled
 compile-returns-in-Atom-clause-compiled t c =
@@ -109,6 +169,33 @@ compile-returns-else-not-have_objects-clause-compiled t c =
     (λ state. universal_is task state objects bound c.args.effect.now c.in-ForAll.body.value c.deref-in-ForAll.result.now c.in-ForAll.groups c.as_slice-in-ForAll.result.now
     (sym c.node.ensures ∙ ap effect_of c.in-ForAll.is) c.deref-in-ForAll.ensures c.as_slice-in-ForAll.ensures) (h t))
     c.compile_choices.ensures.compiled
+
+pub compile-returns-in_err-is_never_true-in-When-clause-grows : goal.compile-returns-in_err-is_never_true-in-When-clause-grows
+compile-returns-in_err-is_never_true-in-When-clause-grows t c = grows_same c.args.state.now c.args.state.now refl refl
+
+pub compile-returns-then-branch-clause-grows : goal.compile-returns-then-branch-clause-grows
+compile-returns-then-branch-clause-grows t c = grows_same c.args.state.now c.args.state.now refl refl
+
+pub compile-returns-then-not-have_objects-clause-grows : goal.compile-returns-then-not-have_objects-clause-grows
+compile-returns-then-not-have_objects-clause-grows t c = grows_same c.args.state.now c.args.state.now refl refl
+
+pub compile_all-loop-effect-init : goal.compile_all-loop-effect-init
+compile_all-loop-effect-init t c =
+    record {
+      state = refl;
+      grows = grows_same c.args.state.now c.args.state.now refl refl;
+      bound = refl;
+      compiled = more_nothing c.args.state.now.atoms c.args.program.now.items _ (λ state stays truth. refl);
+    }
+
+pub compile_choices-loop-index-init : goal.compile_choices-loop-index-init
+compile_choices-loop-index-init t c =
+    record {
+      state = refl;
+      grows = grows_same c.args.state.now c.args.state.now refl refl;
+      bound = refl;
+      compiled = more_nothing c.args.state.now.atoms c.args.program.now.items _ (λ state stays truth. refl);
+    }
 
 pub compile_all-compile-requires : goal.compile_all-compile-requires
 compile_all-compile-requires t c = (

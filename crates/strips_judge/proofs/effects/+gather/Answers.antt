@@ -1,15 +1,20 @@
-use Rattle.std.proofs.Common.{rules, ◌≡◌, ◌<◌, ◌≤◌, ◌+◌, ◌*◌, ℕ, List, [], ◌∷◌, ◌++◌, drop, length, take, sym, ap, ◌∙◌, subst, arith}
+use Rattle.std.proofs.Common.{rules, ◌≡◌, ◌<◌, ◌≤◌, ◌+◌, ◌*◌, ℕ, false, cond, List, [], ◌∷◌, ◌++◌, drop, length, take, sym, ap, ◌∙◌, subst, arith, tests}
+use Rattle.std.proofs.lemmas.Option.{get_or_from_slice_get}
+use Rattle.std.specs.List.{flat_map}
+use Rattle.formulas.specs.declared.variables.VariableGroup.{VariableGroup}
 use Rattle.formulas.specs.EffectNodes.{effect_of}
 use Rattle.formulas.specs.EffectTree.{effect_parts_of}
 use Rattle.formulas.specs.Tree.{conjunction, no_parts}
-use Rattle.formulas.specs.Variables.{variable_types}
-use Rattle.strips_judge.specs.Gathered.{Found, GathersMore, kept, effect_found, effects_found, choices_found}
+use Rattle.formulas.specs.Variables.{extensions, variable_types}
+use Rattle.formulas.specs.Within.{IsEffectWithin}
+use Rattle.strips_judge.specs.Gathered.{Found, GathersMore, kept, nothing, effect_found, effects_found, choices_found}
 use Rattle.strips_judge.specs.Listing.{candidates_of}
-use Rattle.strips_judge.specs.NumberedState.{Grows, state_of}
+use Rattle.strips_judge.specs.NumberedState.{Grows, Numbered, state_of}
+use Rattle.strips_judge.specs.State.{objects_of}
 use Rattle.strips_judge.proofs.EffectWeights.{effect_weight, most_effect_weight, weighs_less, joint_heavier}
 use Rattle.strips_judge.proofs.Evaluations.{one_less_left}
-use Rattle.strips_judge.proofs.Gathering.{ok_as, gathers_as, gathers_at, gathers_both, joint_is, universal_is, joint_within, item_within, one_effect_more, no_choice, of_some, one_fits, one_unfit, all_objects, effect_next_within, effect_all_within, pushed_length, popped}
-use Rattle.strips_judge.proofs.Growth.{grows_twice}
+use Rattle.strips_judge.proofs.Gathering.{ok_as, gathers_as, gathers_nothing, gathers_at, gathers_both, joint_is, universal_is, joint_within, item_within, one_effect_more, no_choice, of_some, one_fits, one_unfit, all_objects, effect_next_within, effect_all_within, pushed_length, popped}
+use Rattle.strips_judge.proofs.Growth.{grows_same, grows_twice, keeps_same}
 use Rattle.strips_judge.proofs.effects.+gather.Goals as goal
 use Rattle.strips_judge.proofs.effects.+gather.Goals.{gather_choices-then-object_fits+in_ok-push+in_ok-gather_choices, gather_choices-else-object_fits}
 
@@ -34,6 +39,94 @@ gather-returns-in-And-clause-gathered t c =
     (effect_found task state objects bound c.args.effect.now)
     (joint_is task state objects bound c.args.effect.now c.in-And.parts.items c.deref.result.now c.deref.ensures.value is))
     c.gather_all.ensures.gathered
+
+pub gather-evaluate-requires : goal.gather-evaluate-requires
+gather-evaluate-requires t c =
+    (subst (IsEffectWithin (length c.args.arguments.objects.now) (length c.args.room.now.bound.items)) (sym c.node.ensures ∙ ap effect_of c.in-When.is) c.requires).0
+
+pub gather-gather-requires : goal.gather-gather-requires
+gather-gather-requires t c =
+    let params = length c.args.arguments.objects.now in
+    let within = IsEffectWithin params (length c.args.room.now.bound.items) in
+    let is = sym c.node.ensures ∙ ap effect_of c.in-When.is in (
+      (let lighter : effect_weight c.deref-in-When.result.now < effect_weight c.args.effect.now =
+          omega (arith, ap effect_weight is, ap effect_weight c.deref-in-When.ensures) in
+          search rules),
+      subst (λ (l : List ℕ). IsEffectWithin params (length l) c.deref-in-When.result.now) (sym c.in_ok-evaluate-in-When.ensures.bound)
+          (subst within (sym c.deref-in-When.ensures) (subst within is c.requires).1),
+    )
+
+pub gather-returns-then-not-branch-clause-gathered : goal.gather-returns-then-not-branch-clause-gathered
+gather-returns-then-not-branch-clause-gathered t c =
+    let task = c.args.arguments.task.now in
+    let state = state_of c.args.state.now in
+    let objects = c.args.arguments.objects.now in
+    let bound = c.args.room.now.bound.items in
+    let fails = sym c.in_ok-evaluate-in-When.ensures.answer ∙ c.if-not-branch.true in
+    gathers_as state c.args.state.now.atoms c.evaluate.new.state.atoms (kept c.args.changes.now) (kept c.args.changes.now) nothing (effect_found task state objects bound c.args.effect.now)
+    (λ truth. sym (ap (λ e. effect_found task state objects bound e truth) (sym c.node.ensures ∙ ap effect_of c.in-When.is)
+    ∙ ap (λ b. cond b (effect_found task state objects bound c.in-When.body.value truth) []) fails))
+    (gathers_nothing state c.args.state.now.atoms c.evaluate.new.state.atoms (keeps_same c.args.state.now.atoms c.evaluate.new.state.atoms (ap (λ s. s.atoms) c.evaluate.ensures.same)) (kept c.args.changes.now))
+
+pub gather-returns-else-not-branch-clause-grows : goal.gather-returns-else-not-branch-clause-grows
+gather-returns-else-not-branch-clause-grows t c =
+    let same = c.evaluate.ensures.same in
+    grows_twice c.args.state.now c.evaluate.new.state c.gather.new.state
+    (grows_same c.args.state.now c.evaluate.new.state (ap (λ s. s.initial) same) (ap (λ s. s.atoms) same)) c.gather.ensures.grows
+
+pub gather-returns-else-not-branch-clause-bound : goal.gather-returns-else-not-branch-clause-bound
+gather-returns-else-not-branch-clause-bound t c =
+    ok_as c.gather.result (λ same. ◌∙◌ {A = List ℕ} same c.in_ok-evaluate-in-When.ensures.bound) c.gather.ensures.bound
+
+pub gather-returns-else-not-branch-clause-gathered : goal.gather-returns-else-not-branch-clause-gathered
+gather-returns-else-not-branch-clause-gathered t c =
+    let task = c.args.arguments.task.now in
+    let state = state_of c.args.state.now in
+    let objects = c.args.arguments.objects.now in
+    let bound = c.args.room.now.bound.items in
+    let body = c.deref-in-When.result.now in
+    let before = kept c.args.changes.now in
+    let after = kept c.gather.new.changes in
+    let atoms = c.gather.new.state.atoms in
+    let meets = sym c.in_ok-evaluate-in-When.ensures.answer ∙ c.if-not-branch.false in
+    ok_as c.gather.result
+    (λ gathered.
+    gathers_as state c.args.state.now.atoms atoms before after (effect_found task state objects bound body) (effect_found task state objects bound c.args.effect.now)
+    (λ truth. ap (λ e. effect_found task state objects bound e truth) c.deref-in-When.ensures
+    ∙ sym (ap (λ e. effect_found task state objects bound e truth) (sym c.node.ensures ∙ ap effect_of c.in-When.is)
+    ∙ ap (λ b. cond b (effect_found task state objects bound c.in-When.body.value truth) []) meets))
+    (subst (λ (now : Numbered). GathersMore (state_of now) now.atoms atoms before after (effect_found task (state_of now) objects bound body)) c.evaluate.ensures.same
+    (subst (λ (l : List ℕ). GathersMore (state_of c.evaluate.new.state) c.evaluate.new.state.atoms atoms before after (effect_found task (state_of c.evaluate.new.state) objects l body)) c.in_ok-evaluate-in-When.ensures.bound gathered)))
+    c.gather.ensures.gathered
+
+pub gather-gather_choices-requires : goal.gather-gather_choices-requires
+gather-gather_choices-requires t c =
+    let params = length c.args.arguments.objects.now in
+    let bound = length c.args.room.now.bound.items in
+    let is = sym c.node.ensures ∙ ap effect_of c.in-ForAll.is in (
+      (let lighter : effect_weight c.deref-in-ForAll.result.now + 2 * length (variable_types c.as_slice-in-ForAll.result.now) + 1 < effect_weight c.args.effect.now =
+          omega (arith, ap effect_weight is, ap effect_weight c.deref-in-ForAll.ensures, ap (λ l. length (variable_types l)) c.as_slice-in-ForAll.ensures) in
+          search rules),
+      (
+        (let fits : 0 ≤ bound = omega arith in fits),
+        subst (λ (groups : List VariableGroup). IsEffectWithin params (bound + length (variable_types groups)) c.deref-in-ForAll.result.now) (sym c.as_slice-in-ForAll.ensures)
+            (subst (IsEffectWithin params (bound + length (variable_types c.in-ForAll.groups))) (sym c.deref-in-ForAll.ensures) (subst (IsEffectWithin params bound) is c.requires)),
+      ),
+    )
+
+pub gather-returns-then-not-have_objects-clause-gathered : goal.gather-returns-then-not-have_objects-clause-gathered
+gather-returns-then-not-have_objects-clause-gathered t c =
+    let task = c.args.arguments.task.now in
+    let state = state_of c.args.state.now in
+    let objects = c.args.arguments.objects.now in
+    let bound = c.args.room.now.bound.items in
+    let atoms = c.args.state.now.atoms in
+    let none : c.have_objects.result ≡ false = grind (arith, tests, c.if-not-have_objects.true) in
+    let no_choice = ap (λ l. extensions (objects_of task) (variable_types l) bound) (sym c.as_slice.ensures) ∙ c.have_objects.ensures none bound in
+    gathers_as state atoms atoms (kept c.args.changes.now) (kept c.args.changes.now) nothing (effect_found task state objects bound c.args.effect.now)
+    (λ truth. sym (ap (λ e. effect_found task state objects bound e truth) (sym c.node.ensures ∙ ap effect_of c.in-ForAll.is)
+    ∙ ap (flat_map (λ extended. effect_found task state objects extended c.in-ForAll.body.value truth)) no_choice))
+    (gathers_nothing state atoms atoms (λ atom number e. e) (kept c.args.changes.now))
 
 pub gather-returns-else-not-have_objects-clause-gathered : goal.gather-returns-else-not-have_objects-clause-gathered
 gather-returns-else-not-have_objects-clause-gathered t c =
@@ -100,6 +193,14 @@ gather_choices-returns-in_default-clause-gathered t c =
     (choices_found task state objects body (drop c.args.first variables) bound)
     (no_choice task state objects body variables c.args.first bound c.in_default.ensures.none))
     c.gather.ensures.gathered
+
+pub gather_choices-object_fits-requires : goal.gather_choices-object_fits-requires
+gather_choices-object_fits-requires t c =
+    let candidates = candidates_of c.candidates-candidates.result in
+    let object = c.get-object.result in
+    let lt : c.loop-index.index < length candidates = omega (arith, c.loop-index-test.true, c.len-index-end.ensures) in
+    subst (λ n. n < length c.args.arguments.task.now.objects) (get_or_from_slice_get candidates c.loop-index.index object object c.get-object.ensures)
+    (c.candidates-candidates.ensures.known c.loop-index.index object lt)
 
 pub gather_choices-gather_choices-requires : goal.gather_choices-gather_choices-requires
 gather_choices-gather_choices-requires t c =

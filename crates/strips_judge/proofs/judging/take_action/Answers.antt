@@ -1,5 +1,4 @@
-use Rattle.std.proofs.Common.{◌≡◌, ℕ, List, Some, ap, ◌∙◌}
-use Rattle.strips_task.specs.declared.tasks.TaskParts.{TaskParts}
+use Rattle.std.proofs.Common.{◌≡◌, ℕ, List, Some, ◌∙◌}
 use Rattle.strips_task.specs.StepView.{step_shown}
 use Rattle.strips_judge.specs.NumberedState.{state_of}
 use Rattle.strips_judge.specs.Step.{after_by, objects_named}
@@ -9,5 +8,5 @@ use Rattle.strips_judge.proofs.judging.take_action.Goals as goal
 pub returns-clause-next : goal.returns-clause-next
 returns-clause-next c =
     let named : c.as_slice-objects.result.now ≡ objects_named c.args.task.now (step_shown c.args.step).args =
-    ◌∙◌ {A = List ℕ} c.as_slice-objects.ensures.value (without_value _ c.in_default.is c.in_ok-why.ensures.bound ∙ ap (λ (parts : TaskParts). objects_named parts (step_shown c.args.step).args) c.task.ensures) in
-    c.in_ok-apply.ensures.state ∙ (λ j. after_by c.args.task.now (named j) (state_of (c.missing.ensures.same j)) (Some c.args.action.now))
+    ◌∙◌ {A = List ℕ} c.as_slice-objects.ensures.value (without_value _ c.in_default.is c.in_ok-why.ensures.bound) in
+    c.in_ok-apply.ensures.state ∙ (λ j. after_by c.args.task.now (named j) (state_of (c.hindrance.ensures.same j)) (Some c.args.action.now))

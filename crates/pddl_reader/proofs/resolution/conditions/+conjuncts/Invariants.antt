@@ -8,7 +8,7 @@ use Rattle.pddl_reader.proofs.resolution.conditions.+conjuncts.Given as goal
 
 abbrev pub invariant-put_all_conjuncts-parts : goal.invariant-put_all_conjuncts-parts
 invariant-put_all_conjuncts-parts l = record {
-  so_far : through (with_condition (keys_of l.types) (known_form l.known) l.fn.scope) l.conditions (all_conjuncts (formulas_of (drop l.part-index l.parts)))
-      ≡ through (with_condition (keys_of l.types) (known_form l.known) l.fn.scope) l.fn.conditions (all_conjuncts (formulas_of l.parts));
+  so_far : through (with_condition (keys_of l.context.types.now) (known_form l.context.known) l.fn.scope) l.conditions (all_conjuncts (formulas_of (drop l.part-index l.parts)))
+      ≡ through (with_condition (keys_of l.context.types.now) (known_form l.context.known) l.fn.scope) l.fn.conditions (all_conjuncts (formulas_of l.parts));
   same : l.scope ≡ l.fn.scope;
 }

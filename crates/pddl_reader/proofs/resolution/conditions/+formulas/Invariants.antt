@@ -6,9 +6,9 @@ use Rattle.pddl_reader.specs.Conditions.{trees_meant}
 use Rattle.pddl_reader.specs.Resolved.{known_form}
 use Rattle.pddl_reader.proofs.resolution.conditions.+formulas.Given as goal
 
-abbrev pub invariant-all_formulas-parts : goal.invariant-all_formulas-parts
-invariant-all_formulas-parts l = record {
-  so_far : with_front l.formulas.items (trees_meant (keys_of l.types) (known_form l.known) l.fn.scope (formulas_of (drop l.part-index l.parts)))
-      ≡ trees_meant (keys_of l.types) (known_form l.known) l.fn.scope (formulas_of l.parts);
+abbrev pub invariant-compound-parts : goal.invariant-compound-parts
+invariant-compound-parts l = record {
+  so_far : with_front l.formulas.items (trees_meant (keys_of l.context.types.now) (known_form l.context.known) l.fn.scope (formulas_of (drop l.part-index l.parts)))
+      ≡ trees_meant (keys_of l.context.types.now) (known_form l.context.known) l.fn.scope (formulas_of l.parts);
   same : l.scope ≡ l.fn.scope;
 }

@@ -1,19 +1,15 @@
-use Rattle.std.proofs.Common.{◌≡◌, true}
 use Rattle.std.specs.Map.{keys_of}
-use Rattle.pddl_words.specs.Words.{folded}
-use Rattle.pddl_reader.specs.Declarations.{may_declare}
 use Rattle.pddl_syntax.specs.Forms.{predicate_form}
 use Rattle.pddl_reader.proofs.DeclarationLemmas.{may_declare_length, predicate_declared}
 use Rattle.pddl_reader.proofs.resolution.domain.declare_predicate.Goals as goal
 
 pub returns-clause-within : goal.returns-clause-within
 returns-clause-within c =
-    rw c.in_ok-push.ensures.ok (may_declare_length 4096 c.args.table.now c.in_ok-name.name c.in_ok-argument_types.argument_types c.in_ok-check_new.ensures)
+    let new = c.in_ok-name.ensures in
+    rw (c.in_ok-push.ensures.ok, new.0) (may_declare_length 4096 c.args.table.now _ c.in_ok-argument_types.argument_types new.1)
 
 pub returns-clause-given : goal.returns-clause-given
 returns-clause-given c =
-    let table = c.args.table.now in
-    let allowed : may_declare 4096 table (folded c.args.predicate.now.name.text.now) ≡ true = rw (← c.in_ok-name.ensures) c.in_ok-check_new.ensures in
-    rw (c.in_ok-push.ensures.ok, c.in_ok-name.ensures)
-    (predicate_declared (keys_of c.args.types.now) table (predicate_form c.args.predicate.now) c.in_ok-argument_types.argument_types allowed
-    (rw (← c.in_ok-variables.ensures, ← c.as_slice.ensures.value) c.in_ok-argument_types.ensures))
+    let new = c.in_ok-name.ensures in
+    rw (c.in_ok-push.ensures.ok, new.0)
+    (predicate_declared (keys_of c.args.types.now) c.args.table.now (predicate_form c.args.predicate.now) c.in_ok-argument_types.argument_types new.1 c.in_ok-argument_types.ensures)

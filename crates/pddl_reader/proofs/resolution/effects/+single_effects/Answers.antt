@@ -7,8 +7,8 @@ use Rattle.pddl_reader.proofs.resolution.effects.+single_effects.Goals as goal
 
 pub put_effect-put_effects-requires : goal.put_effect-put_effects-requires
 put_effect-put_effects-requires t c = (
-  (let fits : most size-EffectSyntax c.deref-in-And.result.now ≤ 2 * effect_height c.args.syntax.now =
-      effects_smaller c.node.result.now c.args.syntax.now c.in-And.parts.items c.deref-in-And.result.now c.node.ensures (ap deep-EffectNode c.in-And.is) c.deref-in-And.ensures.value in
+  (let fits : most size-EffectSyntax c.deref.result.now ≤ 2 * effect_height c.args.syntax.now =
+      effects_smaller c.node.result.now c.args.syntax.now c.in-And.parts.items c.deref.result.now c.node.ensures (ap deep-EffectNode c.in-And.is) c.deref.ensures.value in
       search rules),
   c.requires,
 )
