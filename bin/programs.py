@@ -17,7 +17,7 @@ from rooms import TOP, below, listed
 
 NAME = "plan_judge"
 CRATE = "plan_judge_c"  # of the library for C
-VERSION_AT = os.path.join(TOP, "crates", "commands", "src", "command.rt")
+VERSION_AT = os.path.join(TOP, "crates", "command_line", "src", "lib.rt")
 NO_LIBRARY = "there is no library of these sources, which bin/prove makes"
 BUILT, RELEASE = os.path.join(TOP, "built"), os.path.join(TOP, "release")
 

@@ -395,10 +395,10 @@ class Interrupts(Folder):
 
 class Version(unittest.TestCase):
     def test_the_version_is_that_of_the_program(self) -> None:
-        source = (TOP / "crates" / "commands" / "src" / "command.rt").read_text()
+        source = (TOP / "crates" / "command_line" / "src" / "lib.rt").read_text()
         stated = re.search(r'^const VERSION: &str = "(.*)";$', source, re.MULTILINE)
         if stated is None:
-            self.skipTest("crates/commands/src/command.rt has no line `const VERSION: &str = ..;`")
+            self.skipTest("crates/command_line/src/lib.rt has no line `const VERSION: &str = ..;`")
         self.assertEqual(plan_judge.__version__, stated.group(1))
 
 

@@ -1,4 +1,3 @@
 pub mod Command
-pub mod CommandLine
 pub mod Requests
 pub mod Run

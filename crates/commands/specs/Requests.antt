@@ -1,7 +1,7 @@
 -- A request is what the words of a command line ask for.
 
 use Rattle.std.specs.Prelude.{◌≡◌, ℕ, true, List, map}
-use Rattle.commands.specs.CommandLine.{asks_for_help}
+use Rattle.command_line.specs.Words.{asks_for_help}
 use Rattle.commands.specs.Command.{AsksToJudge, AsksToReplay, AsksToExplain, AsksToValidate}
 use Rattle.commands.specs.declared.requests.Request.{Request}
 use Rattle.commands.specs.declared.requests.Request.TheVariants.{Judge, Replay, Explain, Validate, Show, Refused}

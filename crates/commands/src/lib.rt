@@ -11,7 +11,5 @@
 pub mod command;
 mod explain;
 mod messages;
-mod options;
 pub mod program;
 mod requests;
-mod words;

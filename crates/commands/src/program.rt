@@ -3,7 +3,7 @@
 //! [`main_with`] does all that `main` does, over sources and outlets that are handed in, so that tests can make them fail.
 ghost use Rattle.std.specs.Prelude.{◌≡◌, ◌↔◌, ◌⊎◌, ◌<◌, ◌≤◌, true, false, map, IfOk};
 ghost use Rattle.std.specs.String.{string_bytes};
-ghost use Rattle.commands.specs.CommandLine.{asks_for_help};
+ghost use Rattle.command_line.specs.Words.{asks_for_help};
 ghost use Rattle.commands.specs.Command.{asks_what_is_wrong};
 ghost use Rattle.std.specs.Io.KnownBytes.{Appends};
 ghost use Rattle.judge_engine.specs.Outlet.{AppendsFront};

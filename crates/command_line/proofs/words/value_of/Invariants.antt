@@ -1,7 +1,7 @@
 use Rattle.std.proofs.Common.{◌≡◌, map, length}
 use Rattle.std.specs.String.{string_bytes}
-use Rattle.commands.specs.CommandLine.{value_of}
-use Rattle.commands.proofs.words.value_of.Given as goal
+use Rattle.command_line.specs.Words.{value_of}
+use Rattle.command_line.proofs.words.value_of.Given as goal
 
 -- The rest has the value that all words have.
 abbrev pub invariant-words : goal.invariant-words

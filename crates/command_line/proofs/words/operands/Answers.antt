@@ -1,9 +1,9 @@
 use Rattle.std.proofs.Common.{◌≡◌, [], ◌∷◌, map, ap, sym, ◌∙◌, ◌++◌, append-nil}
 use Rattle.std.specs.String.{string_bytes}
-use Rattle.commands.specs.CommandLine.{operands_from}
+use Rattle.command_line.specs.Words.{operands_from}
 use Rattle.std.proofs.lemmas.List.{map-append, nil_from_length}
-use Rattle.commands.proofs.OperandLemmas.{operands_in_none, one_more}
-use Rattle.commands.proofs.words.operands.Goals as goal
+use Rattle.command_line.proofs.OperandLemmas.{operands_in_none, one_more}
+use Rattle.command_line.proofs.words.operands.Goals as goal
 
 pub words-preserved-in-Continue-branch-2 : goal.words-preserved-in-Continue-branch-2
 words-preserved-in-Continue-branch-2 c =

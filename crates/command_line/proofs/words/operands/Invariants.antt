@@ -1,7 +1,7 @@
 use Rattle.std.proofs.Common.{◌≡◌, ◌++◌, map, length}
 use Rattle.std.specs.String.{string_bytes}
-use Rattle.commands.specs.CommandLine.{operands, operands_from}
-use Rattle.commands.proofs.words.operands.Given as goal
+use Rattle.command_line.specs.Words.{operands, operands_from}
+use Rattle.command_line.proofs.words.operands.Given as goal
 
 -- The operands so far and those of the rest are all operands.
 abbrev pub invariant-words : goal.invariant-words

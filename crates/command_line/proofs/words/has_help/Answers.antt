@@ -1,9 +1,9 @@
 use Rattle.std.proofs.Common.{map, ap, sym, ◌∙◌}
 use Rattle.std.specs.String.{string_bytes}
-use Rattle.commands.specs.CommandLine.{has_help}
-use Rattle.commands.proofs.HelpLemmas.{help_in_none}
+use Rattle.command_line.specs.Words.{has_help}
+use Rattle.command_line.proofs.HelpLemmas.{help_in_none}
 use Rattle.std.proofs.lemmas.List.{nil_from_length}
-use Rattle.commands.proofs.words.has_help.Goals as goal
+use Rattle.command_line.proofs.words.has_help.Goals as goal
 
 pub returns : goal.returns
 returns c =

@@ -1,7 +1,7 @@
 -- The value of an option among some words, word by word.
 
 use Rattle.std.proofs.Common.{◌≡◌, ℕ, true, false, List, [], ◌∷◌, Some, None, codes, bytes_eq, refl}
-use Rattle.commands.specs.CommandLine.{first_word, joined_value, value_of}
+use Rattle.command_line.specs.Words.{first_word, joined_value, value_of}
 
 -- no words give no value
 pub value_in_none : (option : List ℕ) → value_of option [] ≡ None

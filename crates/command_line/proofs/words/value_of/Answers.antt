@@ -1,9 +1,9 @@
 use Rattle.std.proofs.Common.{map, ap, sym, ◌∙◌}
 use Rattle.std.specs.String.{string_bytes}
-use Rattle.commands.specs.CommandLine.{value_of}
-use Rattle.commands.proofs.ValueLemmas.{value_in_none}
+use Rattle.command_line.specs.Words.{value_of}
+use Rattle.command_line.proofs.ValueLemmas.{value_in_none}
 use Rattle.std.proofs.lemmas.List.{nil_from_length}
-use Rattle.commands.proofs.words.value_of.Goals as goal
+use Rattle.command_line.proofs.words.value_of.Goals as goal
 
 pub returns : goal.returns
 returns c =

@@ -1,7 +1,7 @@
 use Rattle.std.proofs.Common.{◌≡◌, true, map, take}
 use Rattle.std.specs.List.{list_all}
-use Rattle.commands.specs.Command.{is_plain}
-use Rattle.commands.proofs.options.are_plain.Given as goal
+use Rattle.command_line.specs.Options.{is_plain}
+use Rattle.command_line.proofs.options.are_plain.Given as goal
 
 -- The names so far are plain.
 abbrev pub invariant-loop-name : goal.invariant-loop-name

@@ -1,6 +1,6 @@
 use Rattle.std.proofs.Common.{◌≡◌, ◌++◌, map, take}
 use Rattle.std.specs.String.{string_bytes}
-use Rattle.commands.proofs.words.push_all.Given as goal
+use Rattle.command_line.proofs.words.push_all.Given as goal
 
 -- The words so far are behind those that were there.
 abbrev pub invariant-loop-word : goal.invariant-loop-word

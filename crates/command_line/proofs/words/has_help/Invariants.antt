@@ -1,7 +1,7 @@
 use Rattle.std.proofs.Common.{◌≡◌, map, length}
 use Rattle.std.specs.String.{string_bytes}
-use Rattle.commands.specs.CommandLine.{has_help}
-use Rattle.commands.proofs.words.has_help.Given as goal
+use Rattle.command_line.specs.Words.{has_help}
+use Rattle.command_line.proofs.words.has_help.Given as goal
 
 -- The rest asks for help if all words do.
 abbrev pub invariant-words : goal.invariant-words

@@ -1,7 +1,7 @@
 -- Whether an option among some words asks for help, word by word.
 
 use Rattle.std.proofs.Common.{◌≡◌, ℕ, true, false, List, [], ◌∷◌, codes, bytes_eq, refl}
-use Rattle.commands.specs.CommandLine.{has_help, is_help}
+use Rattle.command_line.specs.Words.{has_help, is_help}
 
 -- none of no words does
 pub help_in_none : has_help [] ≡ false

@@ -1,7 +1,7 @@
 -- The operands among some words, word by word.
 
 use Rattle.std.proofs.Common.{◌≡◌, ℕ, Bool, true, false, List, [], ◌∷◌, ◌++◌, codes, bytes_eq, refl, ap, sym, ◌∙◌, append_assoc}
-use Rattle.commands.specs.CommandLine.{is_option, operands_from, takes_a_value}
+use Rattle.command_line.specs.Words.{is_option, operands_from, takes_a_value}
 
 -- no words have none
 pub operands_in_none : (is_value : Bool) → operands_from is_value [] ≡ []

@@ -14,12 +14,12 @@
 
 ghost use Rattle.std.specs.Prelude.{◌≡◌, false, true, map, option_map, ◌++◌, IfOk, OnOk};
 ghost use Rattle.std.specs.String.{string_bytes};
-ghost use Rattle.commands.specs.CommandLine.{arguments, asks_for_help, behind_program, first_word, ends_at_first_t, has_command, has_help, is_help, is_option, is_short_help, is_tolerance, joined_value, operands, takes_a_value, value_of};
+ghost use Rattle.command_line.specs.Words.{arguments, asks_for_help, behind_program, first_word, ends_at_first_t, has_command, has_help, is_help, is_option, is_short_help, is_tolerance, joined_value, operands, takes_a_value, value_of};
 
 use std::alloc::{AllocError, Global};
 
 /// Whether the command, which is the second word, is this one.
-pub(crate) fn has_command(words: &[String], name: &str) -> bool
+pub fn has_command(words: &[String], name: &str) -> bool
     ensures { result ≡ has_command name.now (map string_bytes words.now) }
 {
     match words {
@@ -29,7 +29,7 @@ pub(crate) fn has_command(words: &[String], name: &str) -> bool
 }
 
 /// The words that follow the command.
-pub(crate) fn arguments(words: &[String]) -> &[String]
+pub fn arguments(words: &[String]) -> &[String]
     ensures { map string_bytes result.now ≡ arguments (map string_bytes words.now) }
 {
     match words {
@@ -39,7 +39,7 @@ pub(crate) fn arguments(words: &[String]) -> &[String]
 }
 
 /// Whether a command line asks for help or for the version: by the command `help`, or by an option before the word `--`.
-pub(crate) fn asks_for_help(words: &[String]) -> bool
+pub fn asks_for_help(words: &[String]) -> bool
     ensures { result ≡ asks_for_help (map string_bytes words.now) }
 {
     has_command(words, "help") || has_help(behind_program(words))
@@ -93,7 +93,7 @@ fn is_short_help(word: &str) -> bool
 
 /// The value of an option among some words: the first that is given.
 #[tactic(auto, using(crate::proofs::ValueLemmas::value_steps))]
-pub(crate) fn value_of<'a>(words: &'a [String], option: &str) -> Option<&'a str>
+pub fn value_of<'a>(words: &'a [String], option: &str) -> Option<&'a str>
     ensures { option_map (λ value. value.now) result ≡ value_of option.now (map string_bytes words.now) }
 {
     let mut rest = words;
@@ -134,7 +134,7 @@ fn joined_value<'a>(word: &'a str, option: &str) -> Option<&'a str>
 
 /// The words that are neither options nor their values. Takes memory for a list of them.
 #[tactic(auto, using(crate::proofs::OperandLemmas::operand_steps))]
-pub(crate) fn operands<'a>(alloc: Global, words: &'a [String]) -> Result<Vec<&'a str>, AllocError>
+pub fn operands<'a>(alloc: Global, words: &'a [String]) -> Result<Vec<&'a str>, AllocError>
     ensures { IfOk result (λ found. map (λ word. word.now) found.items ≡ operands (map string_bytes words.now)) }
 {
     let mut operands = Vec::new(alloc);

@@ -2,14 +2,14 @@
 ghost use Rattle.std.specs.Prelude.{◌≡◌, map};
 ghost use Rattle.std.specs.List.{list_all};
 ghost use Rattle.std.specs.String.{string_bytes};
-ghost use Rattle.commands.specs.Command.{can_show, dialect_asked, dialect_named, format_asked, format_named, is_control, is_plain};
+ghost use Rattle.command_line.specs.Options.{can_show, dialect_asked, dialect_named, format_asked, format_named, is_control, is_plain};
 
 use crate::words::value_of;
-use pddl_reader::Dialect;
+use pddl_syntax::Dialect;
 use report_text::Format;
 
 /// The dialect that some words ask for: STRIPS, unless they name another. `None` if they name an unknown one.
-pub(crate) fn dialect_asked(words: &[String]) -> Option<Dialect>
+pub fn dialect_asked(words: &[String]) -> Option<Dialect>
     ensures { result ≡ dialect_asked (map string_bytes words.now) }
 {
     match value_of(words, "--dialect") {
@@ -34,7 +34,7 @@ fn dialect_named(name: &str) -> Option<Dialect>
 }
 
 /// The format that some words ask for: lines, unless they name another. `None` if they name an unknown one.
-pub(crate) fn format_asked(words: &[String]) -> Option<Format>
+pub fn format_asked(words: &[String]) -> Option<Format>
     ensures { result ≡ format_asked (map string_bytes words.now) }
 {
     match value_of(words, "--format") {
@@ -59,7 +59,7 @@ fn format_named(name: &str) -> Option<Format>
 }
 
 /// Whether a report in a format can show planners with these names.
-pub(crate) fn can_show(format: Format, names: &[&str]) -> bool
+pub fn can_show(format: Format, names: &[&str]) -> bool
     ensures { result ≡ can_show format (map (λ name. name.now) names.now) }
 {
     match format {
@@ -82,7 +82,7 @@ fn are_plain(names: &[&str]) -> bool
 }
 
 /// Whether a name has no control character.
-pub(crate) fn is_plain(name: &str) -> bool
+pub fn is_plain(name: &str) -> bool
     ensures { result ≡ is_plain name.now }
 {
     name.as_bytes().iter().all(|b| !is_control(*b))

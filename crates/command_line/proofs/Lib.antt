@@ -1,0 +1,4 @@
+pub mod HelpLemmas
+pub mod OperandLemmas
+pub mod PlainNames
+pub mod ValueLemmas
